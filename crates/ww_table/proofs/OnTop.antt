@@ -1,5 +1,5 @@
 -- The wait list, once a seat brought it on top of the slots that are out, or a node; and what came of a step then.
-use Rattle.std.proofs.Common.{◌≡◌, ◌+◌, ℕ, arith, List, [], ◌∷◌, ◌++◌, Option, Some, ◌⊎◌, inl, inr, ⊎_elim, refl, sym, ap, subst, ◌∙◌}
+use Rattle.std.proofs.Common.{◌≡◌, ◌≢◌, ◌+◌, ℕ, suc, true, false, arith, List, [], ◌∷◌, ◌++◌, Option, Some, ◌⊎◌, inl, inr, ⊎_elim, refl, sym, ap, subst, ◌∙◌}
 use Rattle.std.specs.Prelude.{IsSome, ◌↔◌}
 use Rattle.atomic_table.specs.declared.shared.Seat.{Seat}
 use Rattle.atomic_table.specs.Seated.{TableId}
@@ -8,6 +8,7 @@ use Rattle.ww_queue.specs.declared.entry.Entry.{Entry}
 use Rattle.ww_queue.specs.Queue.{Stands, left}
 use Rattle.ww_plain.specs.declared.node.Node.{Node}
 use Rattle.ww_word.specs.declared.wide.Owner.{Owner}
+use Rattle.ww_word.specs.AnySeats.{packed}
 use Rattle.ww_rule.specs.declared.cells.Cell.{Cell}
 use Rattle.ww_rule.specs.declared.cells.Cell.TheVariants.{Content, Line}
 use Rattle.ww_rule.specs.declared.cells.Sight.{Sight}
@@ -16,10 +17,11 @@ use Rattle.ww_rule.specs.Rule.{Sat}
 use Rattle.ww_rule.specs.Out.{slot_of, numbers_of, AreOthers}
 use Rattle.ww_rule.specs.Waiting.{StandsIfWaiting, HasListOnTop, IsOut, IsStillThere}
 use Rattle.ww_rule.proofs.InsideTurning.{on_top, slot_brought, still_out}
+use Rattle.ww_table.specs.declared.board.Board.{Board}
 use Rattle.ww_table.specs.declared.seat.Stepper.{Stepper}
-use Rattle.ww_table.specs.Seat.{IsSeated, view_of}
-use Rattle.ww_table.specs.Inside.{HasBroughtList, HasOnlyTried, IsOver}
-use Rattle.ww_table.proofs.Seated.{known, fixed, seated_paged, stepped}
+use Rattle.ww_table.specs.Seat.{IsSeated, IsSeatOf, view_of}
+use Rattle.ww_table.specs.Inside.{HasBroughtList, HasOnlyTried, HasTriedToGo, IsOver}
+use Rattle.ww_table.proofs.Seated.{IsTold, known, seated_paged, stepped}
 
 -- it stays there while nothing changes
 pub still_on_top : (m now m' : Sat) (n : ℕ) → HasListOnTop m n now → m' ≡ now → HasListOnTop m n m'
@@ -111,7 +113,7 @@ module _ {table : TableId} {m : Sat} {now : Stepper} {n : ℕ} (is : IsSeated ta
       (w : Sight → Sight) → token.table_id ≡ now.seat.table_id → token.me.0 ≡ w now.seat.me.0
       → token.me.1 ≡ (64 + n, Line m.0.part.core.list) ∷ under → StandsIfWaiting (view_of now)
       → known (w now.seat.me.0) ≡ known now.seat.me.0 → k ≡ 64 + n → page ≡ now.page
-      → HasLeftList token new.seat k now.who page new.page → fixed new ≡ fixed now
+      → HasLeftList token new.seat k now.who page new.page → new ≡ record now { seat = new.seat; order = new.order; page = new.page }
       → new.order.items ≡ numbers_of under ++ k ∷ []
       → IsSeated table new × (new.seat.me ≡ (w m.0, (64 + n, Line (left m.0.part.core.list m.0.part.core.who)) ∷ under))
   gone_over token {under} {k} {page} new w home view top stands knows at same g still order =
@@ -135,3 +137,30 @@ module _ {table : TableId} {m : Sat} {now : Stepper} {n : ℕ} (is : IsSeated ta
       (ap (λ (x : Sat). x.0) hit.0) (ap (λ (x : Sat). x.1) hit.0 ∙ ap (λ (x : Sat). x.1) t.now) hit.1 knows at same g refl
       (is.order ∙ ap (λ (x : Sat). numbers_of x.1) t.now ∙ ap (λ (i : ℕ). numbers_of t.others ++ i ∷ []) (sym at)) in
       (done.0, (t.others, t.apart, done.1))
+
+-- a try to leave the list: the word was another; or the one expected, and the seat is out of the list
+module _ {b : Board} {s now : Stepper} {n : ℕ} {o : Owner} (is : IsSeatOf b now) (t : HasListOnTop s.seat.me n now.seat.me)
+    (records : now.records ≡ s.records) where
+  pub in_vain : {w : Sight} (wins : ℕ → Owner → Sat → Sat → Type 0) (token : Seat Cell Sight) {found : ℕ} → token.table_id ≡ now.seat.table_id
+      → IsTold wins n o now.seat.me found token.me → found ≢ packed o → (view_of s).inside ≡ suc n
+      → HasTriedToGo b s n o w false (record now { seat = token })
+  in_vain wins token home told other inside = let tried = only_tried token is t home (told.1 other) in record {
+    seat = tried.0;
+    records = records;
+    sure = λ waits saw. absurd (other (told.2 (still_there t (record { inside = inside; alone = inl waits; seen = saw }))));
+    gone = λ no. absurd cc;
+    lost = λ _. tried.1;
+  }
+
+  pub went : (token out : Seat Cell Sight) {k : ℕ} {page has : Option (Unit {0})} (w : Sight → Sight) → token.table_id ≡ now.seat.table_id
+      → (token.me ≡ (w now.seat.me.0, now.seat.me.1)) × StandsIfWaiting (view_of now)
+      → known (w now.seat.me.0) ≡ known now.seat.me.0 → (w s.seat.me.0).part.core.list ≡ left (view_of s).list (view_of s).who
+      → k ≡ 64 + n → page ≡ now.page → HasLeftList token out k now.who page has
+      → HasTriedToGo b s n o (w s.seat.me.0) true (record now { seat = out; page = has })
+  went token out w home hit knows leaves at same g = let done = gone is t token out w home hit knows at same g in record {
+    seat = done.0;
+    records = records;
+    sure = λ _ _. refl;
+    gone = λ _. subst (λ (q : List Entry). IsOver s.seat.me n (w s.seat.me.0) q out.me) (sym leaves) done.1;
+    lost = λ no. absurd cc;
+  }

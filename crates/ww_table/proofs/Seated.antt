@@ -1,5 +1,5 @@
 -- What a seat is after a step that leaves the rest of it alone.
-use Rattle.std.proofs.Common.{◌≡◌, ◌≢◌, ℕ, ◌+◌, ◌<◌, ◌≤◌, ◌^◌, ◌==◌, Bool, true, false, List, Option, Some, refl, sym, ap, ◌∙◌, subst, inl, arith}
+use Rattle.std.proofs.Common.{◌≡◌, ◌≢◌, ℕ, ◌+◌, ◌<◌, ◌≤◌, ◌^◌, ◌==◌, Bool, List, Option, Some, refl, sym, ap, ◌∙◌, subst, inl, arith}
 use Rattle.std.specs.Prelude.{IsSome}
 use Rattle.std.specs.List.{AllByRecursion}
 use mathlib.Core.Logic.{dite}
@@ -23,9 +23,10 @@ use Rattle.ww_rule.specs.Waiting.{HasListOnTop, IsStillThere}
 use Rattle.ww_rule.specs.Steps.{taker}
 use Rattle.ww_table.specs.declared.seat.Stepper.{Stepper}
 use Rattle.ww_table.specs.declared.board.Board.{Board}
+use Rattle.ww_table.specs.Steps.{IsEither}
 use Rattle.ww_table.specs.Seat.{IsSeated, IsSeatOf, base_of, locks_of, size_of, step_of, view_of}
 
--- what most steps leave as it was: of what the seat knows, and of what it keeps beside that
+-- what most steps leave as it was of what the seat knows
 pub record Known : Type 0 where
   pub seated : Bool
   pub kind : Kind
@@ -48,79 +49,48 @@ known v = let c = v.part.core in record {
   idle = v.idle;
 }
 
-pub record Fixed : Type 0 where
-  pub kind : Kind
-  pub who : ℕ
-  pub room : ℕ
-  pub seats : ℕ
-  pub most : ℕ
-  pub sign : ℕ
-  pub stamp : ℕ
-  pub base : ℕ
-  pub step : ℕ
-  pub own : ℕ
-  pub records : List (ℕ × Record)
-
-abbrev pub fixed : Stepper → Fixed
-fixed s = record {
-  kind = s.kind;
-  who = s.who;
-  room = s.room;
-  seats = s.seats;
-  most = s.most;
-  sign = s.sign;
-  stamp = s.stamp;
-  base = s.base;
-  step = s.step;
-  own = s.own;
-  records = s.records.items;
-}
-
--- ... with the lock that it waits for, and the page for that
+-- ... with the lock that it waits for
 abbrev pub stays : Sight → Known × ℕ
 stays v = (known v, v.part.core.waits)
-
-abbrev pub whole : Stepper → Fixed × Option (Unit {0})
-whole s = (fixed s, s.page)
 
 -- the seat is as it was, but for its view, the slots that it has out, and its page
 pub seated_paged : {table : TableId} {s new : Stepper} (w : Sight) → IsSeated table s
     → new.seat.table_id ≡ s.seat.table_id → new.seat.me.0 ≡ w → known w ≡ known s.seat.me.0
-    → (w.part.core.waits ≡ 0 → IsSome new.page) → fixed new ≡ fixed s
+    → (w.part.core.waits ≡ 0 → IsSome new.page)
+    → new ≡ record s { seat = new.seat; order = new.order; page = new.page }
     → new.order.items ≡ numbers_of new.seat.me.1 → IsSeated table new
 seated_paged {table} w was home view knows paged same order = let now = ap known view ∙ knows in let back = sym same in record {
   home = home ∙ was.home;
   seated = ap (λ (k : Known). k.seated) now ∙ was.seated;
-  kind = ap (λ (f : Fixed). f.kind) same ∙ was.kind ∙ sym (ap (λ (k : Known). k.kind) now);
-  who = ap (λ (k : Known). k.who) now ∙ was.who ∙ ap (λ (f : Fixed). f.who) back;
-  few = subst (λ (f : Fixed). f.who < f.seats) back was.few;
-  room = ap (λ (k : Known). k.room) now ∙ was.room ∙ ap (λ (f : Fixed). f.room) back;
-  seats = ap (λ (k : Known). k.seats) now ∙ was.seats ∙ ap (λ (f : Fixed). f.seats) back;
-  size = subst (λ (f : Fixed). IsSize f.seats) back was.size;
-  most = subst (λ (f : Fixed). f.most ≡ most_for f.seats) back was.most;
-  sign = subst (λ (f : Fixed). f.sign ≡ sign_at f.room f.who) back was.sign;
-  sized = subst (λ (f : Fixed). IsSized f.room f.seats table) back was.sized;
-  stamp = ap (λ (k : Known). k.stamp) now ∙ was.stamp ∙ ap (λ (f : Fixed). f.stamp) back;
-  fits = subst (λ (f : Fixed). Fits f.who f.stamp) back was.fits;
-  base = subst (λ (f : Fixed). f.base ≡ base_of f.who) back was.base;
-  step = subst (λ (f : Fixed). f.step ≡ step_of f.who) back was.step;
-  own = subst (λ (f : Fixed). f.own ≡ packed (record { seat = Some f.who; stamp = f.stamp; flags = 0 })) back was.own;
+  kind = ap (λ (x : Stepper). x.kind) same ∙ was.kind ∙ sym (ap (λ (k : Known). k.kind) now);
+  who = ap (λ (k : Known). k.who) now ∙ was.who ∙ ap (λ (x : Stepper). x.who) back;
+  few = subst (λ (x : Stepper). x.who < x.seats) back was.few;
+  room = ap (λ (k : Known). k.room) now ∙ was.room ∙ ap (λ (x : Stepper). x.room) back;
+  seats = ap (λ (k : Known). k.seats) now ∙ was.seats ∙ ap (λ (x : Stepper). x.seats) back;
+  size = subst (λ (x : Stepper). IsSize x.seats) back was.size;
+  most = subst (λ (x : Stepper). x.most ≡ most_for x.seats) back was.most;
+  sign = subst (λ (x : Stepper). x.sign ≡ sign_at x.room x.who) back was.sign;
+  sized = subst (λ (x : Stepper). IsSized x.room x.seats table) back was.sized;
+  stamp = ap (λ (k : Known). k.stamp) now ∙ was.stamp ∙ ap (λ (x : Stepper). x.stamp) back;
+  fits = subst (λ (x : Stepper). Fits x.who x.stamp) back was.fits;
+  base = subst (λ (x : Stepper). x.base ≡ base_of x.who) back was.base;
+  step = subst (λ (x : Stepper). x.step ≡ step_of x.who) back was.step;
+  own = subst (λ (x : Stepper). x.own ≡ packed (record { seat = Some x.who; stamp = x.stamp; flags = 0 })) back was.own;
   order = order;
-  records = ap (λ (f : Fixed). f.records) same ∙ was.records ∙ sym (ap (λ (k : Known). k.own) now);
+  records = ap (λ (x : Stepper). x.records.items) same ∙ was.records ∙ sym (ap (λ (k : Known). k.own) now);
   alone = ap (λ (k : Known). k.idle) now ∙ was.alone;
-  places = subst (λ (f : Fixed). AllByRecursion (λ (p : ℕ × Record). p.0 < 2 ^ 44) f.records) back was.places;
+  places = subst (λ (x : Stepper). AllByRecursion (λ (p : ℕ × Record). p.0 < 2 ^ 44) x.records.items) back was.places;
   page = λ out. paged (ap (λ (v : Sight). v.part.core.waits) (sym view) ∙ out);
 }
 
 -- ... and its page
 pub seated_as : {table : TableId} {s new : Stepper} (w : Sight) → IsSeated table s
-    → new.seat.table_id ≡ s.seat.table_id → new.seat.me.0 ≡ w → stays w ≡ stays s.seat.me.0 → whole new ≡ whole s
-    → new.order.items ≡ numbers_of new.seat.me.1 → IsSeated table new
-seated_as w was home view knows same order =
+    → new.seat.table_id ≡ s.seat.table_id → new.seat.me.0 ≡ w → stays w ≡ stays s.seat.me.0
+    → new ≡ record s { seat = new.seat; order = new.order } → new.order.items ≡ numbers_of new.seat.me.1 → IsSeated table new
+seated_as {s = s} {new} w was home view knows same order = let page = ap (λ (x : Stepper). x.page) (sym same) in
     seated_paged w was home view (ap (λ (x : Known × ℕ). x.0) knows)
-    (λ out. subst IsSome (ap (λ (x : Fixed × Option (Unit {0})). x.1) (sym same))
-    (was.page (sym (ap (λ (x : Known × ℕ). x.1) knows) ∙ out)))
-    (ap (λ (x : Fixed × Option (Unit {0})). x.0) same) order
+    (λ out. subst IsSome page (was.page (sym (ap (λ (x : Known × ℕ). x.1) knows) ∙ out)))
+    (same ∙ ap (λ (p : Option (Unit {0})). let x : Stepper = record s { seat = new.seat; order = new.order; page = p } in x) page) order
 
 -- ... where just the same slots are out too
 pub stepped : {table : TableId} {s : Stepper} {token : Seat Cell Sight} (w : Sight) → IsSeated table s
@@ -130,17 +100,17 @@ stepped w was home now knows = seated_as w was home (ap (λ (m : Sat). m.0) now)
     (was.order ∙ ap (λ (m : Sat). numbers_of m.1) (sym now))
 
 -- a compare-exchange says by the number that it found what came of it
-pub either : {table : TableId} {s : Stepper} (token : Seat Cell Sight) (found old : ℕ) (hit miss : Sight) → IsSeated table s
+pub either : {b : Board} {s : Stepper} {token : Seat Cell Sight} {found old : ℕ} {w vain : Sight} → IsSeatOf b s
     → token.table_id ≡ s.seat.table_id
-    → (found ≡ old → token.me ≡ (hit, s.seat.me.1)) × (found ≢ old → token.me ≡ (miss, s.seat.me.1))
-    → (stays hit ≡ stays s.seat.me.0) × (stays miss ≡ stays s.seat.me.0)
-    → IsSeated table (record s { seat = token }) × ((found == old) ≡ true → token.me ≡ (hit, s.seat.me.1))
-    × ((found == old) ≡ false → token.me ≡ (miss, s.seat.me.1))
-either token found old hit miss was home told same = (
-  dite (ℕ_discrete found old) (λ is. stepped hit was home (told.0 is) same.0) (λ isnt. stepped miss was home (told.1 isnt) same.1),
-  λ won. told.0 (same_number found old won),
-  λ lost. told.1 (other_number found old lost),
-)
+    → (found ≡ old → token.me ≡ (w, s.seat.me.1)) × (found ≢ old → token.me ≡ (vain, s.seat.me.1))
+    → (stays w ≡ stays s.seat.me.0) × (stays vain ≡ stays s.seat.me.0)
+    → IsEither b s w vain (found == old) (record s { seat = token })
+either {found = found} {old} {w} {vain} was home told same = record {
+  seat = dite (ℕ_discrete found old) (λ is. stepped w was home (told.0 is) same.0) (λ isnt. stepped vain was home (told.1 isnt) same.1);
+  records = refl;
+  hit = λ won. told.0 (same_number found old won);
+  miss = λ lost. told.1 (other_number found old lost);
+}
 
 -- what a compare-exchange on the owner word of lock n, which expects owner o, makes of the seat
 abbrev pub IsTold : (ℕ → Owner → Sat → Sat → Type 0) → ℕ → Owner → Sat → ℕ → Sat → Type 0

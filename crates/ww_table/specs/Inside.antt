@@ -22,11 +22,10 @@ use Rattle.ww_rule.specs.declared.cells.Sight.{Sight}
 use Rattle.ww_rule.specs.Layout.{list_at}
 use Rattle.ww_rule.specs.Rule.{Sat}
 use Rattle.ww_rule.specs.Out.{AreOthers, numbers_of, slot_of}
-use Rattle.ww_rule.specs.Guards.{AreSeats, StandsAs, shutting_out, entering, exiting, looking, glancing}
+use Rattle.ww_rule.specs.Guards.{AreSeats, StandsAs, shutting_out, entering, exiting, looking}
 use Rattle.ww_rule.specs.Guards as guards
 use Rattle.ww_rule.specs.Steps.{knowing}
-use Rattle.ww_rule.specs.Waiting.{HasListOnTop, IsOut, joining, taking_inside, giving_inside, asking, dying}
-use Rattle.ww_rule.specs.Cancels.{stopping}
+use Rattle.ww_rule.specs.Waiting.{HasListOnTop, IsOut, joining, taking_inside, giving_inside, asking}
 use Rattle.ww_table.specs.declared.board.Board.{Board}
 use Rattle.ww_table.specs.declared.seat.Stepper.{Stepper}
 use Rattle.ww_table.specs.Seat.{IsSeated, IsSeatOf, locks_of, size_of, view_of}
@@ -74,19 +73,6 @@ pub record HasSeen (b : Board) (s : Stepper) (n : ℕ) (o : Owner) (s' : Stepper
   pub there : (u : ℕ) → o.seat ≡ Some u → u < (view_of s).seats
   pub own : owns (view_of s) n ≡ false → o.seat ≡ Some (view_of s).who → is_handed o ≡ true
   pub flags : (view_of s).list ≢ [] → o.flags ≢ 0
-
--- a spin read: no more than that it was made
-pub record HasGlanced (b : Board) (s s' : Stepper) : Type 0 where
-  pub seat : IsSeatOf b s'
-  pub records : s'.records ≡ s.records
-  pub glanced : s'.seat.me ≡ (glancing s.seat.me.0, s.seat.me.1)
-
--- ... of an owner word
-pub record HasGlancedAt (b : Board) (s : Stepper) (o : Owner) (s' : Stepper) : Type 0 where
-  pub seat : IsSeatOf b s'
-  pub records : s'.records ≡ s.records
-  pub glanced : s'.seat.me ≡ (glancing s.seat.me.0, s.seat.me.1)
-  pub valid : IsValid o
 
 -- ---- what the wait list tells
 
@@ -222,28 +208,11 @@ pub record MayTakeBareAt (b : Board) (n : ℕ) (o : Owner) (s : Stepper) : Type 
   pub valid : IsValid o
   pub list : HasListOut n s
 
-pub record HasTriedToTakeBareInside (b : Board) (s : Stepper) (n : ℕ) (o : Owner) (won : Bool) (s' : Stepper) : Type 0 where
-  pub seat : IsSeatOf b s'
-  pub records : s'.records ≡ s.records
-  pub sure : IsSure s o won
-  pub took : won ≡ true
-      → IsOver s.seat.me n (knowing s.seat.me.0 (made.taken (view_of s) n)) (made.taken (view_of s) n).list s'.seat.me
-  pub lost : won ≡ false → HasOnlyTried s.seat.me n s'.seat.me
-
 pub record MayDieAt (b : Board) (n : ℕ) (o : Owner) (s : Stepper) : Type 0 where
   pub lock : n < locks_of b
   pub may : (k : ℕ) × MayDie (view_of s) n o k
   pub valid : IsValid o
   pub list : HasListOut n s
-
--- it is out of the wait list, because of an older context
-pub record HasTriedToDie (b : Board) (s : Stepper) (n : ℕ) (o : Owner) (won : Bool) (s' : Stepper) : Type 0 where
-  pub seat : IsSeatOf b s'
-  pub records : s'.records ≡ s.records
-  pub older : (k : ℕ) → MayDie (view_of s) n o k → k < (view_of s).stamp
-  pub sure : IsSure s o won
-  pub died : won ≡ true → IsOver s.seat.me n (dying s.seat.me.0 o) (made.died (view_of s) o).list s'.seat.me
-  pub lost : won ≡ false → HasOnlyTried s.seat.me n s'.seat.me
 
 pub record MayLeaveAt (b : Board) (n : ℕ) (o : Owner) (s : Stepper) : Type 0 where
   pub lock : n < locks_of b
@@ -251,12 +220,12 @@ pub record MayLeaveAt (b : Board) (n : ℕ) (o : Owner) (s : Stepper) : Type 0 w
   pub valid : IsValid o
   pub list : HasListOut n s
 
--- It is out of the wait list, for the cancel that it has heeded. Its own standing there makes the word sure.
-pub record HasTriedToLeave (b : Board) (s : Stepper) (n : ℕ) (o : Owner) (won : Bool) (s' : Stepper) : Type 0 where
+-- it is out of the wait list by a step that makes w of what it knows
+pub record HasTriedToGo (b : Board) (s : Stepper) (n : ℕ) (o : Owner) (w : Sight) (won : Bool) (s' : Stepper) : Type 0 where
   pub seat : IsSeatOf b s'
   pub records : s'.records ≡ s.records
-  pub sure : (view_of s).seen ≡ Some o → won ≡ true
-  pub left : won ≡ true → IsOver s.seat.me n (stopping s.seat.me.0 o) (made.interrupted (view_of s) o).list s'.seat.me
+  pub sure : IsSure s o won
+  pub gone : won ≡ true → IsOver s.seat.me n w w.part.core.list s'.seat.me
   pub lost : won ≡ false → HasOnlyTried s.seat.me n s'.seat.me
 
 -- to release the lock, whose word the seat saw last

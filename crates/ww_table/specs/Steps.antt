@@ -13,16 +13,32 @@ use Rattle.ww_view.specs.Made.{fast_missed, has_read}
 use Rattle.ww_view.specs.Made as made
 use Rattle.ww_rule.specs.declared.cells.Cell.{Cell}
 use Rattle.ww_rule.specs.declared.cells.Cell.TheVariants.{Content}
+use Rattle.ww_rule.specs.declared.cells.Sight.{Sight}
 use Rattle.ww_rule.specs.Rule.{Sat}
 use Rattle.ww_rule.specs.Out.{AreOthers, slot_of}
 use Rattle.ww_rule.specs.Steps.{knowing, drawing, drawing_none, taking, giving, keeping, placing}
-use Rattle.ww_rule.specs.Signs.{condemning, noting, reading, finding_none, clearing}
-use Rattle.ww_rule.specs.Cancels.{cancelling, finding_pending, finding_uncancelled, heeding}
+use Rattle.ww_rule.specs.Signs.{reading, finding_none}
+use Rattle.ww_rule.specs.Cancels.{finding_uncancelled, heeding}
 use Rattle.ww_table.specs.declared.board.Board.{Board}
 use Rattle.ww_table.specs.declared.seat.Stepper.{Stepper}
 use Rattle.ww_table.specs.declared.seat.Taking.{Taking}
 use Rattle.ww_table.specs.declared.seat.Giving.{Giving}
 use Rattle.ww_table.specs.Seat.{HasTriedToGive, HasTriedToTake, IsSeatOf, locks_of, size_of, view_of}
+
+-- ---- a step that leaves the slots that are out
+
+-- it knows w then, and its records are the same
+pub record IsStep (b : Board) (s : Stepper) (w : Sight) (s' : Stepper) : Type 0 where
+  pub seat : IsSeatOf b s'
+  pub records : s'.records ≡ s.records
+  pub now : s'.seat.me ≡ (w, s.seat.me.1)
+
+-- ... or else it knows that it was in vain
+pub record IsEither (b : Board) (s : Stepper) (w vain : Sight) (won : Bool) (s' : Stepper) : Type 0 where
+  pub seat : IsSeatOf b s'
+  pub records : s'.records ≡ s.records
+  pub hit : won ≡ true → s'.seat.me ≡ (w, s.seat.me.1)
+  pub miss : won ≡ false → s'.seat.me ≡ (vain, s.seat.me.1)
 
 -- ---- contexts
 
@@ -103,26 +119,19 @@ pub record HasAskedWhoOwns (b : Board) (s : Stepper) (n : ℕ) (owner : Bool) (s
 
 -- ---- nodes that are out
 
--- the node of lock n is the slot taken last, and was x
-pub record HasNodeOnTop (b : Board) (s : Stepper) (n : ℕ) (x : Node) (s' : Stepper) : Type 0 where
-  pub seat : IsSeatOf b s'
-  pub records : s'.records ≡ s.records
-  pub read : (others : List (ℕ × Cell)) × AreOthers s.seat.me.1 n (Content x) others
-      × (s'.seat.me ≡ (s.seat.me.0, (n, Content x) ∷ others))
-
--- ... as it was before too
-pub record HasReadTop (b : Board) (s : Stepper) (n : ℕ) (x : Node) (s' : Stepper) : Type 0 where
-  pub seat : IsSeatOf b s'
-  pub records : s'.records ≡ s.records
-  pub read : (others : List (ℕ × Cell)) × (s.seat.me.1 ≡ (n, Content x) ∷ others)
-      × (s'.seat.me ≡ (s.seat.me.0, (n, Content x) ∷ others))
-
--- it was x, and is y now
+-- the node of lock n was x, and is y now, in the slot taken last
 pub record HasSwapped (b : Board) (s : Stepper) (n : ℕ) (y x : Node) (s' : Stepper) : Type 0 where
   pub seat : IsSeatOf b s'
   pub records : s'.records ≡ s.records
   pub swapped : (others : List (ℕ × Cell)) × AreOthers s.seat.me.1 n (Content x) others
       × (s'.seat.me ≡ (s.seat.me.0, (n, Content y) ∷ others))
+
+-- that was the slot taken last, and it is x still
+pub record HasReadTop (b : Board) (s : Stepper) (n : ℕ) (x : Node) (s' : Stepper) : Type 0 where
+  pub seat : IsSeatOf b s'
+  pub records : s'.records ≡ s.records
+  pub read : (others : List (ℕ × Cell)) × (s.seat.me.1 ≡ (n, Content x) ∷ others)
+      × (s'.seat.me ≡ (s.seat.me.0, (n, Content x) ∷ others))
 
 -- ---- commits
 
@@ -141,13 +150,6 @@ pub record IsPlaced (m : Sat) (done : Record) (place : ℕ) (m' : Sat) : Type 0 
 
 -- ---- signs and cancels
 
--- the victim has this sign; or it had one, which it keeps
-pub record HasSigned (b : Board) (s : Stepper) (victim : ℕ) (won : Bool) (s' : Stepper) : Type 0 where
-  pub seat : IsSeatOf b s'
-  pub records : s'.records ≡ s.records
-  pub condemned : won ≡ true → s'.seat.me ≡ (condemning s.seat.me.0 victim, s.seat.me.1)
-  pub noted : won ≡ false → s'.seat.me ≡ (noting s.seat.me.0 victim, s.seat.me.1)
-
 -- What the own sign says. Any but 0 stays; so does 0 while nobody may sign the seat.
 pub record HasReadSign (b : Board) (s : Stepper) (sign : ℕ) (s' : Stepper) : Type 0 where
   pub seat : IsSeatOf b s'
@@ -155,19 +157,6 @@ pub record HasReadSign (b : Board) (s : Stepper) (sign : ℕ) (s' : Stepper) : T
   pub signed : sign ≢ 0 → s'.seat.me ≡ (reading s.seat.me.0 sign, s.seat.me.1)
   pub quiet : sign ≡ 0 → IsQuiet (view_of s) → s'.seat.me ≡ (reading s.seat.me.0 0, s.seat.me.1)
   pub unsigned : sign ≡ 0 → ¬ IsQuiet (view_of s) → s'.seat.me ≡ (finding_none s.seat.me.0, s.seat.me.1)
-
--- the own sign is 0
-pub record HasCleared (b : Board) (s s' : Stepper) : Type 0 where
-  pub seat : IsSeatOf b s'
-  pub records : s'.records ≡ s.records
-  pub cleared : s'.seat.me ≡ (clearing s.seat.me.0, s.seat.me.1)
-
--- the cancel of the victim is set, by this seat; or it was pending, and stays as it is
-pub record HasSetCancel (b : Board) (s : Stepper) (victim : ℕ) (won : Bool) (s' : Stepper) : Type 0 where
-  pub seat : IsSeatOf b s'
-  pub records : s'.records ≡ s.records
-  pub set : won ≡ true → s'.seat.me ≡ (cancelling s.seat.me.0 victim, s.seat.me.1)
-  pub pending : won ≡ false → s'.seat.me ≡ (finding_pending s.seat.me.0, s.seat.me.1)
 
 -- The own cancel is 0. It was 0; or this mark of the seat that had set it, whose number is one less.
 pub record HasHeeded (b : Board) (s : Stepper) (mark : ℕ) (s' : Stepper) : Type 0 where

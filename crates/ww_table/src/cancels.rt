@@ -4,7 +4,8 @@ ghost use Rattle.std.specs.Prelude.{◌<◌};
 ghost use Rattle.ww_view.specs.View.{IsAway};
 ghost use Rattle.ww_view.specs.May.{MayHeed};
 ghost use Rattle.ww_table.specs.Seat.{IsSeatOf, view_of};
-ghost use Rattle.ww_table.specs.Steps.{HasHeeded, HasSetCancel};
+ghost use Rattle.ww_rule.specs.Cancels.{cancelling, finding_pending};
+ghost use Rattle.ww_table.specs.Steps.{IsEither, HasHeeded};
 
 use crate::board::Board;
 use crate::seat::Stepper;
@@ -17,7 +18,7 @@ impl Stepper {
     pub fn set_cancel(&mut self, board: &Board, victim: u16) -> bool
         requires at { IsSeatOf board.now self.old }
         requires may { (victim < (view_of self.old).seats) × IsAway (view_of self.old) }
-        ensures { HasSetCancel board.now self.old victim result self.new }
+        ensures { IsEither board.now self.old (cancelling self.old.seat.me.0 victim) (finding_pending self.old.seat.me.0) result self.new }
     {
         let own = u64::from(self.who) + 1;
         let shared = &board.table.shared;

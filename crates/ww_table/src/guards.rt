@@ -1,9 +1,12 @@
 //! The steps into a guard and out of it, and the reads of an owner word.
 
 ghost use Rattle.std.specs.Prelude.{◌≡◌, ◌<◌, ◌+◌};
+ghost use Rattle.ww_word.specs.AnySeats.{IsValid};
 ghost use Rattle.ww_view.specs.May.{MayGlance};
+ghost use Rattle.ww_rule.specs.Guards.{glancing};
 ghost use Rattle.ww_table.specs.Seat.{IsSeatOf, locks_of, view_of};
-ghost use Rattle.ww_table.specs.Inside.{MayBringList, MayEnterAt, MayExitAt, HasBroughtList, HasExited, HasGlanced, HasGlancedAt, HasSeen, HasTriedToEnter};
+ghost use Rattle.ww_table.specs.Steps.{IsStep};
+ghost use Rattle.ww_table.specs.Inside.{MayBringList, MayEnterAt, MayExitAt, HasBroughtList, HasExited, HasSeen, HasTriedToEnter};
 
 use crate::board::Board;
 use crate::seat::Stepper;
@@ -75,7 +78,8 @@ impl Stepper {
     pub fn glance(&mut self, board: &Board, lock: u32) -> Owner
         requires at { IsSeatOf board.now self.old }
         requires may { (lock < locks_of board.now) × MayGlance (view_of self.old) }
-        ensures { HasGlancedAt board.now self.old result self.new }
+        ensures glanced { IsStep board.now self.old (glancing self.old.seat.me.0) self.new }
+        ensures valid { IsValid result }
     {
         let shared = &board.table.shared;
         let word = shared.load::<Glance>(&mut self.seat, owner_word(board.locks, lock));
@@ -90,7 +94,7 @@ impl Stepper {
     pub fn begun(&mut self, board: &Board) -> u64
         requires at { IsSeatOf board.now self.old }
         requires may { MayGlance (view_of self.old) }
-        ensures { HasGlanced board.now self.old self.new }
+        ensures { IsStep board.now self.old (glancing self.old.seat.me.0) self.new }
     {
         board.table.shared.load::<Count>(&mut self.seat, STAMP)
     }

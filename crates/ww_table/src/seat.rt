@@ -10,7 +10,7 @@ ghost use Rattle.ww_rule.specs.declared.cells.Cell.TheVariants.{Content};
 ghost use Rattle.ww_rule.specs.Out.{slot_of, numbers_of};
 ghost use Rattle.ww_rule.specs.Steps.{MayDraw, MayEnd};
 ghost use Rattle.ww_table.specs.Seat.{IsSeatOf, base_of, step_of, giving_of, locks_of, taking_of, view_of};
-ghost use Rattle.ww_table.specs.Steps.{IsBareLock, MayGiveFree, MayTakeFree, HasAskedWhoOwns, HasDrawn, HasNodeOnTop, HasReadTop, HasSwapped, HasTriedToEnd, HasTriedToGiveBare, HasTriedToGiveFree, HasTriedToTakeBare, HasTriedToTakeFree};
+ghost use Rattle.ww_table.specs.Steps.{IsBareLock, MayGiveFree, MayTakeFree, HasAskedWhoOwns, HasDrawn, HasReadTop, HasSwapped, HasTriedToEnd, HasTriedToGiveBare, HasTriedToGiveFree, HasTriedToTakeBare, HasTriedToTakeFree};
 
 use crate::board::Board;
 use arrayvec::ArrayVec;
@@ -318,7 +318,7 @@ impl Stepper {
     pub fn node(&mut self, board: &Board, lock: u32) -> Node
         requires at { IsSeatOf board.now self.old }
         requires out { (x : Node) × (slot_of self.old.seat.me.1 lock ≡ Some (Content x)) }
-        ensures { HasNodeOnTop board.now self.old lock result self.new }
+        ensures { HasSwapped board.now self.old lock result result self.new }
     {
         bring(&mut self.seat, &mut self.order, lock);
         node_there(&mut self.seat, &board.table.shared, lock)

@@ -3,7 +3,8 @@
 ghost use Rattle.std.specs.Prelude.{◌<◌};
 ghost use Rattle.ww_view.specs.May.{MayClear, MaySign};
 ghost use Rattle.ww_table.specs.Seat.{IsSeatOf, view_of};
-ghost use Rattle.ww_table.specs.Steps.{HasCleared, HasReadSign, HasSigned};
+ghost use Rattle.ww_rule.specs.Signs.{clearing, condemning, noting};
+ghost use Rattle.ww_table.specs.Steps.{IsEither, IsStep, HasReadSign};
 
 use crate::board::Board;
 use crate::seat::Stepper;
@@ -16,7 +17,7 @@ impl Stepper {
     pub fn sign(&mut self, board: &Board, lock: u32, victim: u16, stamp: u64) -> bool
         requires at { IsSeatOf board.now self.old }
         requires may { (victim < (view_of self.old).seats) × MaySign (view_of self.old) lock victim stamp }
-        ensures { HasSigned board.now self.old victim result self.new }
+        ensures { IsEither board.now self.old (condemning self.old.seat.me.0 victim) (noting self.old.seat.me.0 victim) result self.new }
     {
         let shared = &board.table.shared;
         shared.compare_exchange::<Sign>(&mut self.seat, sign_word(self.room, victim), 0, stamp) == 0
@@ -36,7 +37,7 @@ impl Stepper {
     pub fn clear(&mut self, board: &Board)
         requires at { IsSeatOf board.now self.old }
         requires may { MayClear (view_of self.old) }
-        ensures { HasCleared board.now self.old self.new }
+        ensures { IsStep board.now self.old (clearing self.old.seat.me.0) self.new }
     {
         let shared = &board.table.shared;
         shared.store::<Clear>(&mut self.seat, self.sign, 0);

@@ -1,7 +1,13 @@
 //! The steps of a waiter, and of the owner that it waits for, inside the guard.
 
-ghost use Rattle.ww_table.specs.Seat.{IsSeatOf};
-ghost use Rattle.ww_table.specs.Inside.{MayAskAt, MayDieAt, MayGiveAt, MayGiveBareAt, MayJoinAt, MayLeaveAt, MayTakeAt, MayTakeBareAt, HasGivenBareInside, HasGivenInside, HasTriedToAsk, HasTriedToDie, HasTriedToJoin, HasTriedToLeave, HasTriedToTakeBareInside, HasTriedToTakeInside};
+ghost use Rattle.std.specs.Prelude.{ℕ, ◌≡◌, ◌<◌, true, Some};
+ghost use Rattle.ww_view.specs.May.{MayDie};
+ghost use Rattle.ww_view.specs.Made.{taken};
+ghost use Rattle.ww_rule.specs.Steps.{knowing};
+ghost use Rattle.ww_rule.specs.Waiting.{dying};
+ghost use Rattle.ww_rule.specs.Cancels.{stopping};
+ghost use Rattle.ww_table.specs.Seat.{IsSeatOf, view_of};
+ghost use Rattle.ww_table.specs.Inside.{MayAskAt, MayDieAt, MayGiveAt, MayGiveBareAt, MayJoinAt, MayLeaveAt, MayTakeAt, MayTakeBareAt, HasGivenBareInside, HasGivenInside, HasTriedToAsk, HasTriedToGo, HasTriedToJoin, HasTriedToTakeInside};
 
 use crate::board::Board;
 use crate::seat::Stepper;
@@ -91,7 +97,7 @@ impl Stepper {
     pub fn take_bare_inside(&mut self, board: &Board, lock: u32, seen: Owner) -> bool
         requires at { IsSeatOf board.now self.old }
         requires may { MayTakeBareAt board.now lock seen self.old }
-        ensures { HasTriedToTakeBareInside board.now self.old lock seen result self.new }
+        ensures { HasTriedToGo board.now self.old lock seen (knowing self.old.seat.me.0 (taken (view_of self.old) lock)) result self.new }
     {
         let owner = self.own_left(board, lock);
         let old = pack(seen);
@@ -134,7 +140,8 @@ impl Stepper {
     pub fn die(&mut self, board: &Board, lock: u32, seen: Owner) -> bool
         requires at { IsSeatOf board.now self.old }
         requires may { MayDieAt board.now lock seen self.old }
-        ensures { HasTriedToDie board.now self.old lock seen result self.new }
+        ensures gone { HasTriedToGo board.now self.old lock seen (dying self.old.seat.me.0 seen) result self.new }
+        ensures older { (k : ℕ) → MayDie (view_of self.old) lock seen k → k < (view_of self.old).stamp }
     {
         let rest = self.owner_left(board, lock, seen);
         let old = pack(seen);
@@ -160,7 +167,8 @@ impl Stepper {
     pub fn leave(&mut self, board: &Board, lock: u32, seen: Owner) -> bool
         requires at { IsSeatOf board.now self.old }
         requires may { MayLeaveAt board.now lock seen self.old }
-        ensures { HasTriedToLeave board.now self.old lock seen result self.new }
+        ensures gone { HasTriedToGo board.now self.old lock seen (stopping self.old.seat.me.0 seen) result self.new }
+        ensures sure { (view_of self.old).seen ≡ Some seen → result ≡ true }
     {
         let rest = self.owner_left(board, lock, seen);
         let old = pack(seen);

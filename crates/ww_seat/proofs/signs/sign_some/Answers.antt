@@ -31,14 +31,14 @@ loop-pair-preserved c = (
       c.loop-pair.seat.seat.me c.sign-is_condemned.new.self.seat.me c.sign-is_condemned.result c.loop-pair-test.true
       c.loop-pair.invariant.1
       (noted_is c.sign-is_condemned.result c.loop-pair.seat.seat.me c.sign-is_condemned.new.self.seat.me _
-      c.sign-is_condemned.ensures.condemned c.sign-is_condemned.ensures.noted),
+      c.sign-is_condemned.ensures.hit c.sign-is_condemned.ensures.miss),
   c.sign-is_condemned.ensures.records ∙ c.loop-pair.invariant.2,
   marked_noted c.loop-pair.seat.seat.me c.sign-is_condemned.new.self.seat.me c.args.wake.now
       c.loop-pair.wake c.mark.new.marks c.sign-is_condemned.result _ _
       (c.who-who.ensures ∙ sym c.requires.at.seat.who
       ∙ sym (ap (λ (z : Sight). z.part.core.who) c.loop-pair.invariant.1.view))
       (noted_is c.sign-is_condemned.result c.loop-pair.seat.seat.me c.sign-is_condemned.new.self.seat.me _
-      c.sign-is_condemned.ensures.condemned c.sign-is_condemned.ensures.noted) c.loop-pair.invariant.3
+      c.sign-is_condemned.ensures.hit c.sign-is_condemned.ensures.miss) c.loop-pair.invariant.3
       c.mark.ensures.marked,
   c.mark.ensures.long ∙ c.loop-pair.invariant.4,
 )

@@ -33,7 +33,7 @@ returns-else-lock-from-clause-tried c = let at = c.requires.at.2 in let m = c.ar
         _,
         is_taken_bare (size_of c.args.board.now) c.args.lock m m1 at.orderly
             (omega (arith, c.if-lock-from.false, c.from.ensures, c.size.ensures)) at.working.inside
-            (c.take_bare_inside.ensures.took t),
+            (c.take_bare_inside.ensures.gone t),
       );
       lost = λ f. touched_lost_on_top _ c.args.lock m m1 at.orderly at.working.inside (c.take_bare_inside.ensures.lost f);
     }

@@ -31,13 +31,15 @@ told c = c.compare_exchange-found.ensures.2 c.args.lock c.args.seen
     (c.owner_word.ensures ∙ by_view c.args.board.now _ c.requires.at c.args.lock _ refl, c.requires.may.valid, c.pack-old.ensures)
 
 pub returns-then-found-old : goal.returns-then-found-old
-returns-then-found-old c = let other : c.compare_exchange-found.result ≢ packed c.args.seen = λ z. c.if-found-old.true (z ∙ sym c.pack-old.ensures) in let miss = (told (goal.at.returns-then-found-old c).After-compare_exchange-found).1 other in record {
-  seat = stepped (lost c.args.self.now.seat.me.0) c.requires.at c.compare_exchange-found.ensures.0 miss refl;
-  records = refl;
-  sure = λ waits saw. absurd (other ((told (goal.at.returns-then-found-old c).After-compare_exchange-found).2 (record { inside = c.requires.may.may.inside; alone = inl waits; seen = saw })));
-  joined = λ no. absurd cc;
-  lost = λ _. miss;
-}
+returns-then-found-old c = let t = told (goal.at.returns-then-found-old c).After-compare_exchange-found in
+    let other : c.compare_exchange-found.result ≢ packed c.args.seen = λ z. c.if-found-old.true (z ∙ sym c.pack-old.ensures) in
+    let miss = t.1 other in record {
+      seat = stepped (lost c.args.self.now.seat.me.0) c.requires.at c.compare_exchange-found.ensures.0 miss refl;
+      records = refl;
+      sure = λ waits saw. absurd (other (t.2 (record { inside = c.requires.may.may.inside; alone = inl waits; seen = saw })));
+      joined = λ no. absurd cc;
+      lost = λ _. miss;
+    }
 
 pub pack-new-requires : goal.pack-new-requires
 pack-new-requires c = c.with_waiters.ensures.valid c.requires.may.valid

@@ -18,7 +18,7 @@ returns c = let v = c.args.self.now.seat.me.0 in let b = c.bring.ensures in let 
       seat = seated_as v c.requires.at (g.home.0 ∙ b.home.0) (ap (λ (m : Sat). m.0) g.same ∙ b.view) refl refl
           (b.order ∙ ap (λ (m : Sat). numbers_of m.1) (sym g.same));
       records = refl;
-      read = (
+      swapped = (
         up.0,
         subst (λ (y : Node). AreOthers c.args.self.now.seat.me.1 c.args.lock (Content y) up.0) is up.1,
         g.same ∙ (λ i. (b.view i, up.2 i)) ∙ (λ i. (v, (c.args.lock, Content (is i)) ∷ up.0)),

@@ -1,5 +1,4 @@
 use Rattle.std.proofs.Common.{ℕ, ◌+◌, arith, ap, refl, ◌∙◌}
-use Rattle.ww_rule.specs.Cancels.{cancelling, finding_pending}
 use Rattle.ww_rule.proofs.InsideSteps.{cancels}
 use Rattle.ww_table.proofs.Seated.{either, has_sign, sign_by_view}
 use Rattle.ww_table.proofs.seat.Stepper.set_cancel.Goals as goal
@@ -13,7 +12,5 @@ compare_exchange-requires c = let s = c.requires.at in let few = c.requires.may.
 )
 
 pub returns : goal.returns
-returns c = let s = c.requires.at in let e = c.compare_exchange.ensures in let v = c.args.self.now.seat.me.0 in
-    let came = either c.compare_exchange.new.seat c.compare_exchange.result 0 (cancelling v c.args.victim) (finding_pending v) s e.0
-    (e.2 c.args.victim (c.cancel_word.ensures ∙ ap (λ (i : ℕ). i + 1) (sign_by_view c.args.victim s))) (refl, refl) in
-    record { seat = came.0; records = refl; set = came.1; pending = came.2 }
+returns c = let s = c.requires.at in let e = c.compare_exchange.ensures in
+    either s e.0 (e.2 c.args.victim (c.cancel_word.ensures ∙ ap (λ (i : ℕ). i + 1) (sign_by_view c.args.victim s))) (refl, refl)

@@ -1,5 +1,4 @@
 use Rattle.std.proofs.Common.{arith, refl, ◌∙◌}
-use Rattle.ww_rule.specs.Signs.{condemning, noting}
 use Rattle.ww_rule.proofs.InsideSteps.{signs}
 use Rattle.ww_table.proofs.Seated.{either, has_sign, sign_by_view}
 use Rattle.ww_table.proofs.seat.Stepper.sign.Goals as goal
@@ -12,7 +11,5 @@ compare_exchange-requires c = let s = c.requires.at in let few = c.requires.may.
 )
 
 pub returns : goal.returns
-returns c = let s = c.requires.at in let e = c.compare_exchange.ensures in let v = c.args.self.now.seat.me.0 in
-    let came = either c.compare_exchange.new.seat c.compare_exchange.result 0 (condemning v c.args.victim) (noting v c.args.victim) s e.0
-    (e.2 c.args.victim (c.sign_word.ensures ∙ sign_by_view c.args.victim s)) (refl, refl) in
-    record { seat = came.0; records = refl; condemned = came.1; noted = came.2 }
+returns c = let s = c.requires.at in let e = c.compare_exchange.ensures in
+    either s e.0 (e.2 c.args.victim (c.sign_word.ensures ∙ sign_by_view c.args.victim s)) (refl, refl)

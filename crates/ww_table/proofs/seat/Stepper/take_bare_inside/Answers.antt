@@ -1,5 +1,4 @@
-use Rattle.std.proofs.Common.{◌≢◌, ap, sym, refl, ◌∙◌, inl}
-use Rattle.ww_word.specs.AnySeats.{packed}
+use Rattle.std.proofs.Common.{ap, sym, refl, ◌∙◌}
 use Rattle.ww_rule.specs.declared.cells.Sight.{Sight}
 use Rattle.ww_rule.specs.Rule.{Sat}
 use Rattle.ww_view.specs.Made.{taken}
@@ -7,7 +6,7 @@ use Rattle.ww_rule.specs.Steps.{knowing}
 use Rattle.ww_rule.specs.Waiting.{takes_bare_inside}
 use Rattle.ww_rule.proofs.InsideSteps.{takes_bare_brought}
 use Rattle.ww_table.specs.declared.seat.Stepper.{Stepper}
-use Rattle.ww_table.proofs.OnTop.{list_there, gone, only_tried, still_there}
+use Rattle.ww_table.proofs.OnTop.{list_there, in_vain, went}
 use Rattle.ww_table.proofs.Seated.{IsTold, has_lock, expected, by_rule}
 use Rattle.ww_table.proofs.seat.Stepper.take_bare_inside.Goals.{After-compare_exchange-found}
 use Rattle.ww_table.proofs.seat.Stepper.take_bare_inside.Goals as goal
@@ -27,14 +26,10 @@ told c = c.compare_exchange-found.ensures.2 c.args.lock c.args.seen
     (expected c.args.board.now c.requires.at c.own_left-owner.ensures.read c.owner_word.ensures c.requires.may.valid c.pack-old.ensures)
 
 pub returns-then-found-old : goal.returns-then-found-old
-returns-then-found-old c = let r = c.own_left-owner.ensures in let other : c.compare_exchange-found.result ≢ packed c.args.seen = λ z. c.if-found-old.true (z ∙ sym c.pack-old.ensures) in
-    let tried = only_tried c.compare_exchange-found.new.seat r.seat r.read c.compare_exchange-found.ensures.0 ((told (goal.at.returns-then-found-old c).After-compare_exchange-found).1 other) in record {
-      seat = tried.0;
-      records = ap (λ (s : Stepper). s.records) r.same;
-      sure = λ waits saw. absurd (other ((told (goal.at.returns-then-found-old c).After-compare_exchange-found).2 (still_there r.read (record { inside = c.requires.may.may.inside; alone = inl waits; seen = saw }))));
-      took = λ no. absurd cc;
-      lost = λ _. tried.1;
-    }
+returns-then-found-old c = let r = c.own_left-owner.ensures in
+    in_vain r.seat r.read (ap (λ (s : Stepper). s.records) r.same) takes_bare_inside c.compare_exchange-found.new.seat c.compare_exchange-found.ensures.0
+    (told (goal.at.returns-then-found-old c).After-compare_exchange-found) (λ z. c.if-found-old.true (z ∙ sym c.pack-old.ensures))
+    c.requires.may.may.inside
 
 pub leave_list-requires-clause-top : goal.leave_list-requires-clause-top
 leave_list-requires-clause-top c = let r = c.own_left-owner.ensures in let hit = (told (goal.at.leave_list-requires-clause-top c).After-compare_exchange-found).0 (c.if-found-old.false ∙ c.pack-old.ensures) in
@@ -42,12 +37,7 @@ leave_list-requires-clause-top c = let r = c.own_left-owner.ensures in let hit =
 
 pub returns : goal.returns
 returns c = let r = c.own_left-owner.ensures in let g = c.leave_list.ensures in
-    let done = gone r.seat r.read c.compare_exchange-found.new.seat c.leave_list.new.seat (λ (v : Sight). knowing v (taken v.part.core c.args.lock)) c.compare_exchange-found.ensures.0
-    ((told (goal.at.returns c).After-compare_exchange-found).0 (c.if-found-old.false ∙ c.pack-old.ensures)) refl c.list_slot.ensures c.take-page.ensures.value
-    (record { home = g.home.0; view = g.view; list = g.list; page = g.page }) in record {
-      seat = done.0;
-      records = ap (λ (s : Stepper). s.records) r.same;
-      sure = λ _ _. refl;
-      took = λ _. done.1;
-      lost = λ no. absurd cc;
-    }
+    went r.seat r.read (ap (λ (s : Stepper). s.records) r.same) c.compare_exchange-found.new.seat c.leave_list.new.seat
+    (λ (v : Sight). knowing v (taken v.part.core c.args.lock)) c.compare_exchange-found.ensures.0
+    ((told (goal.at.returns c).After-compare_exchange-found).0 (c.if-found-old.false ∙ c.pack-old.ensures)) refl refl
+    c.list_slot.ensures c.take-page.ensures.value (record { home = g.home.0; view = g.view; list = g.list; page = g.page })
