@@ -17,6 +17,7 @@ use Rattle.ww_rule.specs.Rule.{Sat}
 use Rattle.ww_rule.specs.Out.{slot_of, numbers_of, AreOthers}
 use Rattle.ww_rule.specs.Waiting.{StandsIfWaiting, HasListOnTop, IsOut, IsStillThere}
 use Rattle.ww_rule.proofs.InsideTurning.{on_top, slot_brought, still_out}
+use Rattle.ww_rule.proofs.Turning.{brought}
 use Rattle.ww_table.specs.declared.board.Board.{Board}
 use Rattle.ww_table.specs.declared.seat.Stepper.{Stepper}
 use Rattle.ww_table.specs.Seat.{IsSeated, IsSeatOf, view_of}
@@ -71,15 +72,16 @@ node_brought m now n x t new others y out is apart top =
 pub node_up : (slots now : List (ℕ × Cell)) (n : ℕ) (x : Node) → slot_of slots n ≡ Some (Content x)
     → ((y : Cell) × (others : List (ℕ × Cell)) × (slot_of slots n ≡ Some y) × AreOthers slots n y others × (now ≡ (n, y) ∷ others))
     → (others : List (ℕ × Cell)) × AreOthers slots n (Content x) others × (now ≡ (n, Content x) ∷ others) × (now ≡ (n, Content x) ∷ rest now)
-node_up slots now n x is found = let up = slot_brought slots slots now found.1 n n (Content x) found.0 refl refl is found.2 found.3 found.4 in
-    (found.1, up.0, up.1, on_top now found.1 n n (Content x) up.1 refl)
+node_up slots now n x is found = let same = brought slots n x found.0 found.2 is in
+    let up = found.4 ∙ ap (λ (y : Cell). (n, y) ∷ found.1) same in
+    (found.1, subst (λ (y : Cell). AreOthers slots n y found.1) same found.3, up, on_top now found.1 n n (Content x) up refl)
 
 -- a seat that brought the list there, and only read it
 pub still_read : {table : TableId} {s now : Stepper} {n k : ℕ} (token : Seat Cell Sight) → IsSeated table s → HasBroughtList s n k now
     → token.table_id ≡ now.seat.table_id → token.me ≡ now.seat.me
     → IsSeated table (record now { seat = token }) × HasListOnTop s.seat.me n token.me
-still_read {now = now} token was brought home same =
-    (stepped now.seat.me.0 (brought.seat _ was) home same refl, still_on_top _ _ _ _ brought.read same)
+still_read {now = now} token was up home same =
+    (stepped now.seat.me.0 (up.seat _ was) home same refl, still_on_top _ _ _ _ up.read same)
 
 -- ... its view still shows that nobody else writes the owner word
 pub still_there : {m now : Sat} {n : ℕ} {o : Owner} → HasListOnTop m n now → IsStillThere m.0.part.core n o → IsStillThere now.0.part.core n o

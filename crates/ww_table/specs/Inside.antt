@@ -32,6 +32,7 @@ use Rattle.ww_table.specs.Seat.{IsSeated, IsSeatOf, locks_of, size_of, view_of}
 
 -- ---- into a guard and out of it
 
+-- there is a lock n whose guard the view allows to enter, and one slot more may be out
 pub record MayEnterAt (b : Board) (n : ℕ) (s : Stepper) : Type 0 where
   pub lock : n < locks_of b
   pub may : MayEnter (view_of s) n
@@ -49,6 +50,7 @@ pub record HasTriedToEnter (b : Board) (s : Stepper) (n : ℕ) (won : Bool) (s' 
 abbrev pub HasListOut : ℕ → Stepper → Type 0
 HasListOut n s = slot_of s.seat.me.1 (list_at n) ≡ Some (Line (view_of s).list)
 
+-- there is a lock n whose guard the view allows to leave, and its wait list is out
 pub record MayExitAt (b : Board) (n : ℕ) (s : Stepper) : Type 0 where
   pub lock : n < locks_of b
   pub may : MayLeave (view_of s) n
@@ -156,6 +158,8 @@ IsOver m n w q m' = (others : List (ℕ × Cell)) × AreOthers m.1 (list_at n) (
 abbrev pub HasOnlyTried : Sat → ℕ → Sat → Type 0
 HasOnlyTried m n m' = IsOver m n (guards.lost m.0) m.0.part.core.list m'
 
+-- there is a lock n that the view allows to wait for, by the owner that was seen; its wait list is out; and some says whether
+-- the seat holds a lock
 pub record MayJoinAt (b : Board) (n : ℕ) (o : Owner) (some : Bool) (s : Stepper) : Type 0 where
   pub lock : n < locks_of b
   pub may : MayJoin (view_of s) n o
@@ -171,6 +175,7 @@ pub record HasTriedToJoin (b : Board) (s : Stepper) (n : ℕ) (o : Owner) (won :
   pub joined : won ≡ true → IsOver s.seat.me n (joining s.seat.me.0 n o) (made.queued (view_of s) n o).list s'.seat.me
   pub lost : won ≡ false → s'.seat.me ≡ (guards.lost s.seat.me.0, s.seat.me.1)
 
+-- there is a lock n that the view allows to ask for, by the owner that was seen
 pub record MayAskAt (b : Board) (n : ℕ) (o : Owner) (s : Stepper) : Type 0 where
   pub lock : n < locks_of b
   pub may : MayAsk (view_of s) n o
@@ -184,6 +189,8 @@ pub record HasTriedToAsk (b : Board) (s : Stepper) (o : Owner) (won : Bool) (s' 
   pub asked : won ≡ true → s'.seat.me ≡ (asking s.seat.me.0 o, s.seat.me.1)
   pub lost : won ≡ false → s'.seat.me ≡ (guards.lost s.seat.me.0, s.seat.me.1)
 
+-- lock n guards a node, and the view allows to take it, by the owner that was seen; its wait list is out, and one slot more may
+-- be out
 pub record MayTakeAt (b : Board) (n : ℕ) (o : Owner) (s : Stepper) : Type 0 where
   pub lock : n < size_of b
   pub may : MayTake (view_of s) n o
@@ -201,26 +208,28 @@ pub record HasTriedToTakeInside (b : Board) (s : Stepper) (n : ℕ) (o : Owner) 
       × (s'.seat.me ≡ (taking_inside s.seat.me.0 n x, (list_at n, Line (made.taken (view_of s) n).list) ∷ (n, Content x) ∷ others))
   pub lost : won ≡ false → HasOnlyTried s.seat.me n s'.seat.me
 
--- the same of a lock that guards no node
+-- lock n guards no node, and the view allows to take it, by the owner that was seen; its wait list is out
 pub record MayTakeBareAt (b : Board) (n : ℕ) (o : Owner) (s : Stepper) : Type 0 where
   pub lock : (size_of b ≤ n) × (n < locks_of b)
   pub may : MayTake (view_of s) n o
   pub valid : IsValid o
   pub list : HasListOut n s
 
+-- there is a lock n in whose wait list the seat has to die, by its view and the owner that was seen; the list is out
 pub record MayDieAt (b : Board) (n : ℕ) (o : Owner) (s : Stepper) : Type 0 where
   pub lock : n < locks_of b
   pub may : (k : ℕ) × MayDie (view_of s) n o k
   pub valid : IsValid o
   pub list : HasListOut n s
 
+-- there is a lock n whose wait list the view allows to leave for the cancel that was heeded; the list is out
 pub record MayLeaveAt (b : Board) (n : ℕ) (o : Owner) (s : Stepper) : Type 0 where
   pub lock : n < locks_of b
   pub may : MayStop (view_of s) n
   pub valid : IsValid o
   pub list : HasListOut n s
 
--- it is out of the wait list by a step that makes w of what it knows
+-- one try to leave the wait list of lock n by a step that makes w of what the seat knows
 pub record HasTriedToGo (b : Board) (s : Stepper) (n : ℕ) (o : Owner) (w : Sight) (won : Bool) (s' : Stepper) : Type 0 where
   pub seat : IsSeatOf b s'
   pub records : s'.records ≡ s.records
@@ -228,7 +237,7 @@ pub record HasTriedToGo (b : Board) (s : Stepper) (n : ℕ) (o : Owner) (w : Sig
   pub gone : won ≡ true → IsOver s.seat.me n w w.part.core.list s'.seat.me
   pub lost : won ≡ false → HasOnlyTried s.seat.me n s'.seat.me
 
--- to release the lock, whose word the seat saw last
+-- lock n guards a node, which is out, and is the seat's, which saw its word last; the wait list is out, and each waiter is a seat
 pub record MayGiveAt (b : Board) (n : ℕ) (o : Owner) (s : Stepper) : Type 0 where
   pub lock : n < size_of b
   pub may : MayGive (view_of s) n
@@ -246,7 +255,7 @@ pub record HasGivenInside (b : Board) (s : Stepper) (n : ℕ) (o : Owner) (s' : 
       × AreOthers s.seat.me.1 (list_at n) (Line (view_of s).list) others
       × AreOthers ((list_at n, Line (view_of s).list) ∷ others) n (Content x) s'.seat.me.1
 
--- the same of a lock that guards no node
+-- lock n guards no node, and is the seat's, which saw its word last; the wait list is out, and each waiter is a seat
 pub record MayGiveBareAt (b : Board) (n : ℕ) (o : Owner) (s : Stepper) : Type 0 where
   pub lock : (size_of b ≤ n) × (n < locks_of b)
   pub may : MayGive (view_of s) n

@@ -27,13 +27,13 @@ use Rattle.ww_table.specs.Seat.{HasTriedToGive, HasTriedToTake, IsSeatOf, locks_
 
 -- ---- a step that leaves the slots that are out
 
--- it knows w then, and its records are the same
+-- the step made w of what the seat knows; its records and the slots that are out are the same
 pub record IsStep (b : Board) (s : Stepper) (w : Sight) (s' : Stepper) : Type 0 where
   pub seat : IsSeatOf b s'
   pub records : s'.records ≡ s.records
   pub now : s'.seat.me ≡ (w, s.seat.me.1)
 
--- ... or else it knows that it was in vain
+-- the step made w of what the seat knows where it won, else vain; its records and the slots that are out are the same
 pub record IsEither (b : Board) (s : Stepper) (w vain : Sight) (won : Bool) (s' : Stepper) : Type 0 where
   pub seat : IsSeatOf b s'
   pub records : s'.records ≡ s.records
@@ -62,7 +62,7 @@ pub record HasTriedToEnd (b : Board) (s : Stepper) (done : Bool) (s' : Stepper) 
 
 -- ---- one try at a lock
 
--- to take a lock that guards a node
+-- lock n guards a node, the view allows to want it, and one slot more may be out
 pub record MayTakeFree (b : Board) (n : ℕ) (s : Stepper) : Type 0 where
   pub lock : n < size_of b
   pub may : MayFast (view_of s)
@@ -76,7 +76,7 @@ pub record HasTriedToTakeFree (b : Board) (s : Stepper) (n : ℕ) (won : Bool) (
       × (s'.seat.me ≡ (taking s.seat.me.0 n x, (n, Content x) ∷ s.seat.me.1))
   pub lost : won ≡ false → s'.seat.me ≡ (knowing s.seat.me.0 (fast_missed (view_of s)), s.seat.me.1)
 
--- to release one: it is the seat's, and its node is out as the view names it
+-- lock n guards a node, is the seat's, and its node is out as the view names it
 pub record MayGiveFree (b : Board) (n : ℕ) (s : Stepper) : Type 0 where
   pub lock : n < size_of b
   pub away : IsAway (view_of s)
@@ -126,7 +126,7 @@ pub record HasSwapped (b : Board) (s : Stepper) (n : ℕ) (y x : Node) (s' : Ste
   pub swapped : (others : List (ℕ × Cell)) × AreOthers s.seat.me.1 n (Content x) others
       × (s'.seat.me ≡ (s.seat.me.0, (n, Content y) ∷ others))
 
--- that was the slot taken last, and it is x still
+-- the node of lock n was the slot taken last, and is it still
 pub record HasReadTop (b : Board) (s : Stepper) (n : ℕ) (x : Node) (s' : Stepper) : Type 0 where
   pub seat : IsSeatOf b s'
   pub records : s'.records ≡ s.records

@@ -22,13 +22,7 @@ went : (c : After-enter) → IsOrderly (length c.self.inside.seat.seat.me.0.held
 went c = let q = c.self.inside.seat in
     let may = subst (MayRelease c.args.board.now c.args.lock) (sym c.self.view_is) c.requires.may in
     gone_in_to_give _ c.args.lock c.enter.result q c.enter.new.self c.args.board.now
-    (record {
-      seated = seated_at c.args.board.now q c.args.self.now c.self.view_is c.self.invariant c.requires.at;
-      seat = c.enter.ensures.seat;
-      records = c.enter.ensures.records;
-      entered = c.enter.ensures.entered;
-      lost = c.enter.ensures.lost;
-    }) c.self.invariant.orderly may.away may.owner
+    (seated_at c.args.board.now q c.args.self.now c.self.view_is c.self.invariant c.requires.at) c.enter.ensures c.self.invariant.orderly may.away may.owner
 
 pub invariant_of-self : goal.invariant_of-self
 invariant_of-self c = kept _ _ c.enter.new.self c.enter.ensures.seat (went c).0

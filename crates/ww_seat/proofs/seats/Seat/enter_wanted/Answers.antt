@@ -20,13 +20,7 @@ went : (c : After-enter) → IsOrderly (length c.self.inside.seat.seat.me.0.held
     × IsGoneIn (standing_of c.self.inside.seat) c.args.lock c.enter.result (standing_of c.enter.new.self)
 went c = let q = c.self.inside.seat in
     gone_in _ c.args.lock c.enter.result q c.enter.new.self c.args.board.now
-    (record {
-      seated = seated_at c.args.board.now q c.args.self.now c.self.view_is c.self.invariant c.requires.at;
-      seat = c.enter.ensures.seat;
-      records = c.enter.ensures.records;
-      entered = c.enter.ensures.entered;
-      lost = c.enter.ensures.lost;
-    })
+    (seated_at c.args.board.now q c.args.self.now c.self.view_is c.self.invariant c.requires.at) c.enter.ensures
     (outside_of c.args.board.now c.args.lock q c.args.self.now c.self.view_is c.self.invariant c.requires.may)
 
 pub invariant_of-self : goal.invariant_of-self
