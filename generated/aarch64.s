@@ -24162,7 +24162,7 @@ ww_run__workers__run_scripts____59e099481e3f78dd_:
 	mov	w2, #392
 	bl	memcpy
 	add	x0, sp, #1616
-	bl	ww_lock__ww_table__seat__Seat16_Destruct__drop
+	bl	ww_lock__ww_table__seat__Stepper_Destruct__drop
 	subs	x23, x23, #1
 	add	x19, x19, #392
 	b.ne	.LBB46_237
@@ -24510,7 +24510,7 @@ ww_run__workers__run_scripts____59e099481e3f78dd_:
 	mov	w2, #392
 	bl	memcpy
 	add	x0, sp, #1616
-	bl	ww_lock__ww_table__seat__Seat16_Destruct__drop
+	bl	ww_lock__ww_table__seat__Stepper_Destruct__drop
 	subs	x19, x19, #1
 	add	x20, x20, #392
 	b.ne	.LBB46_296
@@ -26542,7 +26542,7 @@ std_alloc__vec__opened__drop_run____5f92be1e663750e6_:
 	add	x0, sp, #80
 	stur	q0, [x29, #-32]
 	stur	x8, [x29, #-16]
-	bl	ww_lock__ww_table__seat__Seat16_Destruct__drop
+	bl	ww_lock__ww_table__seat__Stepper_Destruct__drop
 	cbz	x27, .LBB51_5
 	mov	x0, x24
 	bl	rattle_dealloc
@@ -26592,10 +26592,10 @@ std_alloc__vec__opened__drop_run____5f92be1e663750e6_:
 .Lfunc_end51:
 	.size	std_alloc__vec__opened__drop_run____5f92be1e663750e6_, .Lfunc_end51-std_alloc__vec__opened__drop_run____5f92be1e663750e6_
 
-	.section	.text.ww_lock__ww_table__seat__Seat16_Destruct__drop,"ax",@progbits
+	.section	.text.ww_lock__ww_table__seat__Stepper_Destruct__drop,"ax",@progbits
 	.p2align	2
-	.type	ww_lock__ww_table__seat__Seat16_Destruct__drop,@function
-ww_lock__ww_table__seat__Seat16_Destruct__drop:
+	.type	ww_lock__ww_table__seat__Stepper_Destruct__drop,@function
+ww_lock__ww_table__seat__Stepper_Destruct__drop:
 	stp	x29, x30, [sp, #-96]!
 	stp	x24, x23, [sp, #48]
 	ldr	x23, [x0, #352]
@@ -26659,7 +26659,7 @@ ww_lock__ww_table__seat__Seat16_Destruct__drop:
 	ldp	x29, x30, [sp], #96
 	ret
 .Lfunc_end52:
-	.size	ww_lock__ww_table__seat__Seat16_Destruct__drop, .Lfunc_end52-ww_lock__ww_table__seat__Seat16_Destruct__drop
+	.size	ww_lock__ww_table__seat__Stepper_Destruct__drop, .Lfunc_end52-ww_lock__ww_table__seat__Stepper_Destruct__drop
 
 	.section	.text.std_alloc__vec__Vec__drop____03f4bc90732ccbc3_,"ax",@progbits
 	.p2align	2
@@ -27792,7 +27792,7 @@ ww_seat__seats__Seat__visit____553c7e4ebf26217f_:
 	stp	xzr, xzr, [sp, #176]
 	stp	xzr, xzr, [sp, #160]
 	stp	xzr, xzr, [sp, #144]
-	bl	ww_table__seat__Seat16__look
+	bl	ww_table__seat__Stepper__look
 	ldrb	w19, [sp, #200]
 	ldrh	w21, [sp, #202]
 	cbz	w19, .LBB61_10
@@ -29319,10 +29319,10 @@ ww_seat__seats__Seat__spin_into_wanted____553c7e4ebf26217f_:
 .Lfunc_end62:
 	.size	ww_seat__seats__Seat__spin_into_wanted____553c7e4ebf26217f_, .Lfunc_end62-ww_seat__seats__Seat__spin_into_wanted____553c7e4ebf26217f_
 
-	.section	.text.ww_table__seat__Seat16__look,"ax",@progbits
+	.section	.text.ww_table__seat__Stepper__look,"ax",@progbits
 	.p2align	2
-	.type	ww_table__seat__Seat16__look,@function
-ww_table__seat__Seat16__look:
+	.type	ww_table__seat__Stepper__look,@function
+ww_table__seat__Stepper__look:
 	cmp	w2, #64
 	mov	w8, #3
 	mov	w9, w3
@@ -29420,7 +29420,7 @@ ww_table__seat__Seat16__look:
 .LBB63_16:
 	brk	#0x1
 .Lfunc_end63:
-	.size	ww_table__seat__Seat16__look, .Lfunc_end63-ww_table__seat__Seat16__look
+	.size	ww_table__seat__Stepper__look, .Lfunc_end63-ww_table__seat__Stepper__look
 
 	.section	.text.unlikely.ww_rule__slots_out__turn_to,"ax",@progbits
 	.p2align	2
@@ -31608,7 +31608,7 @@ ww_seat__seats__Seat__give_waited____553c7e4ebf26217f_:
 	mov	w3, w23
 	stp	xzr, xzr, [x29, #-24]
 	stur	xzr, [x29, #-8]
-	bl	ww_table__seat__Seat16__look
+	bl	ww_table__seat__Stepper__look
 	ldr	x8, [x21, #328]
 	add	x25, x21, #64
 	add	w15, w23, #64

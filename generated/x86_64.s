@@ -30700,7 +30700,7 @@ ww_run__workers__run_scripts____59e099481e3f78dd_:
 	movq	%r13, %rsi
 	callq	memcpy@PLT
 	movq	%r14, %rdi
-	callq	ww_lock__ww_table__seat__Seat16_Destruct__drop
+	callq	ww_lock__ww_table__seat__Stepper_Destruct__drop
 	incq	%r15
 	addq	$392, %r13
 	cmpq	%r15, %r12
@@ -31026,7 +31026,7 @@ ww_run__workers__run_scripts____59e099481e3f78dd_:
 	movq	%r15, %rsi
 	callq	memcpy@PLT
 	movq	%r14, %rdi
-	callq	ww_lock__ww_table__seat__Seat16_Destruct__drop
+	callq	ww_lock__ww_table__seat__Stepper_Destruct__drop
 	addq	$392, %r15
 	movq	%r15, 416(%rsp)
 	decq	232(%rsp)
@@ -33202,7 +33202,7 @@ std_alloc__vec__opened__drop_run____5f92be1e663750e6_:
 	movups	(%rcx), %xmm0
 	movaps	%xmm0, 16(%rsp)
 	leaq	136(%rsp), %rdi
-	callq	ww_lock__ww_table__seat__Seat16_Destruct__drop
+	callq	ww_lock__ww_table__seat__Stepper_Destruct__drop
 	testq	%r15, %r15
 	je	.LBB53_4
 	movq	%rbp, %rdi
@@ -33244,10 +33244,10 @@ std_alloc__vec__opened__drop_run____5f92be1e663750e6_:
 .Lfunc_end53:
 	.size	std_alloc__vec__opened__drop_run____5f92be1e663750e6_, .Lfunc_end53-std_alloc__vec__opened__drop_run____5f92be1e663750e6_
 
-	.section	.text.ww_lock__ww_table__seat__Seat16_Destruct__drop,"ax",@progbits
+	.section	.text.ww_lock__ww_table__seat__Stepper_Destruct__drop,"ax",@progbits
 	.p2align	4
-	.type	ww_lock__ww_table__seat__Seat16_Destruct__drop,@function
-ww_lock__ww_table__seat__Seat16_Destruct__drop:
+	.type	ww_lock__ww_table__seat__Stepper_Destruct__drop,@function
+ww_lock__ww_table__seat__Stepper_Destruct__drop:
 	pushq	%rbp
 	pushq	%r15
 	pushq	%r14
@@ -33327,7 +33327,7 @@ ww_lock__ww_table__seat__Seat16_Destruct__drop:
 	popq	%rbp
 	retq
 .Lfunc_end54:
-	.size	ww_lock__ww_table__seat__Seat16_Destruct__drop, .Lfunc_end54-ww_lock__ww_table__seat__Seat16_Destruct__drop
+	.size	ww_lock__ww_table__seat__Stepper_Destruct__drop, .Lfunc_end54-ww_lock__ww_table__seat__Stepper_Destruct__drop
 
 	.section	.text.std_alloc__vec__Vec__drop____03f4bc90732ccbc3_,"ax",@progbits
 	.p2align	4

@@ -324,7 +324,7 @@ ww_desk__station__Station__look:
 	stp	xzr, xzr, [x29, #-160]
 	str	x8, [sp, #32]
 	stur	xzr, [x29, #-144]
-	bl	ww_table__seat__Seat16__look
+	bl	ww_table__seat__Stepper__look
 	ldurb	w23, [x29, #-160]
 	ldurh	w28, [x29, #-158]
 	cbz	w23, .LBB3_2
@@ -1743,10 +1743,10 @@ ww_desk__station__Station__look:
 .Lfunc_end3:
 	.size	ww_desk__station__Station__look, .Lfunc_end3-ww_desk__station__Station__look
 
-	.section	.text.ww_table__seat__Seat16__look,"ax",@progbits
+	.section	.text.ww_table__seat__Stepper__look,"ax",@progbits
 	.p2align	2
-	.type	ww_table__seat__Seat16__look,@function
-ww_table__seat__Seat16__look:
+	.type	ww_table__seat__Stepper__look,@function
+ww_table__seat__Stepper__look:
 	cmp	w2, #64
 	mov	w8, #3
 	mov	w9, w3
@@ -1844,7 +1844,7 @@ ww_table__seat__Seat16__look:
 .LBB4_16:
 	brk	#0x1
 .Lfunc_end4:
-	.size	ww_table__seat__Seat16__look, .Lfunc_end4-ww_table__seat__Seat16__look
+	.size	ww_table__seat__Stepper__look, .Lfunc_end4-ww_table__seat__Stepper__look
 
 	.section	.text.unlikely.ww_rule__slots_out__turn_to,"ax",@progbits
 	.p2align	2
@@ -3329,10 +3329,10 @@ std_alloc__vec__Vec__drop____4211c993fab533df_:
 .Lfunc_end14:
 	.size	std_alloc__vec__Vec__drop____4211c993fab533df_, .Lfunc_end14-std_alloc__vec__Vec__drop____4211c993fab533df_
 
-	.section	.text.ww_desk__ww_table__seat__Seat16_Destruct__drop,"ax",@progbits
+	.section	.text.ww_desk__ww_table__seat__Stepper_Destruct__drop,"ax",@progbits
 	.p2align	2
-	.type	ww_desk__ww_table__seat__Seat16_Destruct__drop,@function
-ww_desk__ww_table__seat__Seat16_Destruct__drop:
+	.type	ww_desk__ww_table__seat__Stepper_Destruct__drop,@function
+ww_desk__ww_table__seat__Stepper_Destruct__drop:
 	stp	x29, x30, [sp, #-96]!
 	stp	x24, x23, [sp, #48]
 	ldr	x23, [x0, #352]
@@ -3396,7 +3396,7 @@ ww_desk__ww_table__seat__Seat16_Destruct__drop:
 	ldp	x29, x30, [sp], #96
 	ret
 .Lfunc_end15:
-	.size	ww_desk__ww_table__seat__Seat16_Destruct__drop, .Lfunc_end15-ww_desk__ww_table__seat__Seat16_Destruct__drop
+	.size	ww_desk__ww_table__seat__Stepper_Destruct__drop, .Lfunc_end15-ww_desk__ww_table__seat__Stepper_Destruct__drop
 
 	.section	.text.std_alloc__vec__Vec__drop____ec79df98e646035b_,"ax",@progbits
 	.p2align	2
@@ -3476,7 +3476,7 @@ std_alloc__vec__Vec__drop____ec79df98e646035b_:
 	ldp	x21, x19, [sp, #16]
 .LBB16_13:
 	add	x0, sp, #32
-	bl	ww_desk__ww_table__seat__Seat16_Destruct__drop
+	bl	ww_desk__ww_table__seat__Stepper_Destruct__drop
 	cbz	x27, .LBB16_2
 	mov	x0, x20
 	bl	rattle_dealloc
@@ -4334,7 +4334,7 @@ ww_go_on_:
 	stur	xzr, [x29, #-16]
 	ldr	x1, [x24, #8]
 	ldr	w2, [x24, #76]
-	bl	ww_table__seat__Seat16__look
+	bl	ww_table__seat__Stepper__look
 	ldr	x8, [x20, #336]
 	add	x14, x20, #72
 	add	x8, x14, x8, lsl #2
@@ -6111,7 +6111,7 @@ ww_open_:
 	mov	w2, #392
 	bl	memcpy
 	add	x0, sp, #1248
-	bl	ww_desk__ww_table__seat__Seat16_Destruct__drop
+	bl	ww_desk__ww_table__seat__Stepper_Destruct__drop
 	subs	x21, x21, #1
 	add	x19, x19, #392
 	b.ne	.LBB34_58
@@ -6217,7 +6217,7 @@ ww_open_:
 	mov	w2, #392
 	bl	memcpy
 	add	x0, sp, #1248
-	bl	ww_desk__ww_table__seat__Seat16_Destruct__drop
+	bl	ww_desk__ww_table__seat__Stepper_Destruct__drop
 	subs	x22, x22, #1
 	add	x19, x19, #392
 	b.ne	.LBB34_84
@@ -6299,7 +6299,7 @@ ww_open_:
 	mov	w2, #392
 	bl	memcpy
 	add	x0, sp, #1248
-	bl	ww_desk__ww_table__seat__Seat16_Destruct__drop
+	bl	ww_desk__ww_table__seat__Stepper_Destruct__drop
 	subs	x22, x22, #1
 	add	x19, x19, #392
 	b.ne	.LBB34_105

@@ -3493,10 +3493,10 @@ std_alloc__vec__Vec__drop____4211c993fab533df_:
 .Lfunc_end13:
 	.size	std_alloc__vec__Vec__drop____4211c993fab533df_, .Lfunc_end13-std_alloc__vec__Vec__drop____4211c993fab533df_
 
-	.section	.text.ww_desk__ww_table__seat__Seat16_Destruct__drop,"ax",@progbits
+	.section	.text.ww_desk__ww_table__seat__Stepper_Destruct__drop,"ax",@progbits
 	.p2align	4
-	.type	ww_desk__ww_table__seat__Seat16_Destruct__drop,@function
-ww_desk__ww_table__seat__Seat16_Destruct__drop:
+	.type	ww_desk__ww_table__seat__Stepper_Destruct__drop,@function
+ww_desk__ww_table__seat__Stepper_Destruct__drop:
 	pushq	%rbp
 	pushq	%r15
 	pushq	%r14
@@ -3576,7 +3576,7 @@ ww_desk__ww_table__seat__Seat16_Destruct__drop:
 	popq	%rbp
 	retq
 .Lfunc_end14:
-	.size	ww_desk__ww_table__seat__Seat16_Destruct__drop, .Lfunc_end14-ww_desk__ww_table__seat__Seat16_Destruct__drop
+	.size	ww_desk__ww_table__seat__Stepper_Destruct__drop, .Lfunc_end14-ww_desk__ww_table__seat__Stepper_Destruct__drop
 
 	.section	.text.std_alloc__vec__Vec__drop____ec79df98e646035b_,"ax",@progbits
 	.p2align	4
@@ -3668,7 +3668,7 @@ std_alloc__vec__Vec__drop____ec79df98e646035b_:
 	movq	48(%rsp), %r12
 .LBB15_11:
 	leaq	64(%rsp), %rdi
-	callq	ww_desk__ww_table__seat__Seat16_Destruct__drop
+	callq	ww_desk__ww_table__seat__Stepper_Destruct__drop
 	testq	%r12, %r12
 	je	.LBB15_13
 	movq	%r15, %rdi
@@ -6173,7 +6173,7 @@ ww_open_:
 	movq	%rbx, %rsi
 	callq	memcpy@PLT
 	movq	%r14, %rdi
-	callq	ww_desk__ww_table__seat__Seat16_Destruct__drop
+	callq	ww_desk__ww_table__seat__Stepper_Destruct__drop
 	addq	$392, %rbx
 	decq	%rbp
 	jne	.LBB33_138
@@ -6273,7 +6273,7 @@ ww_open_:
 	movq	%r15, %rsi
 	callq	memcpy@PLT
 	movq	%rbx, %rdi
-	callq	ww_desk__ww_table__seat__Seat16_Destruct__drop
+	callq	ww_desk__ww_table__seat__Stepper_Destruct__drop
 	incq	%r14
 	addq	$392, %r15
 	cmpq	%r14, %rbp
@@ -6926,7 +6926,7 @@ ww_open_:
 	movq	%r15, %rsi
 	callq	memcpy@PLT
 	movq	%rbx, %rdi
-	callq	ww_desk__ww_table__seat__Seat16_Destruct__drop
+	callq	ww_desk__ww_table__seat__Stepper_Destruct__drop
 	incq	%r14
 	addq	$392, %r15
 	cmpq	%r14, %rbp

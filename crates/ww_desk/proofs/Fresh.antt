@@ -14,7 +14,7 @@ use Rattle.ww_rule.specs.Rule.{Sat, first_graph, no_counts, places_for}
 use Rattle.ww_rule.proofs.Seats.{bare_first}
 use Rattle.ww_rule.proofs.Totals.{is_size, places_few}
 use Rattle.ww_table.specs.declared.board.Board.{Board}
-use Rattle.ww_table.specs.declared.seat.Seat16.{Seat16}
+use Rattle.ww_table.specs.declared.seat.Stepper.{Stepper}
 use Rattle.ww_table.specs.Seat.{IsNew}
 use Rattle.ww_view.specs.View.{IsAway}
 use Rattle.ww_seat.specs.Standings.{Standing, standing_of}
@@ -25,7 +25,7 @@ use Rattle.ww_desk.specs.Stations.{situation_of, Keeps}
 use Rattle.ww_desk.specs.Opened.{fresh, AreFresh, IsBareTable}
 
 -- the desk of a seat that was made just now
-pub record IsFirst (b : Board) (k : ℕ) (q : Seat16) (h : Station) : Type 0 where
+pub record IsFirst (b : Board) (k : ℕ) (q : Stepper) (h : Station) : Type 0 where
   pub board : arc_value h.board ≡ b
   pub new : IsNew b.table.shared.table_id b.table.shared.key k q
   pub seat : h.seat ≡ standing_of q
@@ -37,7 +37,7 @@ pub record IsFirst (b : Board) (k : ℕ) (q : Seat16) (h : Station) : Type 0 whe
   pub turn : h.turn ≡ Rests
   pub wakes : h.wake.items ≡ replicate ((places_for h.seats + 63) / 64) 0
 
-pub first_keeps : (b : Board) (k : ℕ) (q : Seat16) (h : Station) → IsFirst b k q h → Keeps h
+pub first_keeps : (b : Board) (k : ℕ) (q : Stepper) (h : Station) → IsFirst b k q h → Keeps h
 first_keeps b k q h f = let me = ap (λ (s : Standing). s.me) f.seat ∙ f.new.me in record {
   at = record {
     home = rw (f.board, f.seat) f.new.seated.home;
@@ -65,7 +65,7 @@ first_keeps b k q h f = let me = ap (λ (s : Standing). s.me) f.seat ∙ f.new.m
   draws = omega (arith, f.left, ap (λ (m : Sat). m.0.part.counts.draws) me);
 }
 
-pub first_seen : (b : Board) (k : ℕ) (q : Seat16) (h : Station) → IsFirst b k q h
+pub first_seen : (b : Board) (k : ℕ) (q : Stepper) (h : Station) → IsFirst b k q h
     → situation_of h ≡ fresh b.table.shared.table_id h.locks h.seats b.table.shared.key.kind h.left k
 first_seen b k q h f = let me = ap (λ (s : Standing). s.me) f.seat ∙ f.new.me in
     let home : h.seat.home ≡ b.table.shared.table_id = ap (λ (s : Standing). s.home) f.seat ∙ f.new.seated.home in
@@ -92,10 +92,10 @@ elem_mid [] ys y = refl
 elem_mid (x ∷ xs) ys y = elem_mid xs ys y
 
 -- the next of new seats has the number of those before it
-pub next_is : (t : TableId) (key : Start) (seats yielded rest more : List Seat16) (s : Seat16)
-    → ((k : ℕ) (x : Seat16) → get_elem? seats k ≡ some x → IsNew t key k x) → yielded ++ rest ≡ seats
+pub next_is : (t : TableId) (key : Start) (seats yielded rest more : List Stepper) (s : Stepper)
+    → ((k : ℕ) (x : Stepper) → get_elem? seats k ≡ some x → IsNew t key k x) → yielded ++ rest ≡ seats
     → rest ≡ s ∷ more
     → IsNew t key (length yielded) s × (yielded ++ s ∷ more ≡ seats)
 next_is t key seats yielded rest more s each whole step =
-    let here = ap (λ (l : List Seat16). yielded ++ l) (sym step) ∙ whole in
-    (each (length yielded) s (subst (λ (l : List Seat16). get_elem? l (length yielded) ≡ some s) here (elem_mid yielded more s)), here)
+    let here = ap (λ (l : List Stepper). yielded ++ l) (sym step) ∙ whole in
+    (each (length yielded) s (subst (λ (l : List Stepper). get_elem? l (length yielded) ≡ some s) here (elem_mid yielded more s)), here)

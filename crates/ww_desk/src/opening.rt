@@ -12,7 +12,7 @@ use std::alloc::{AllocError, Global};
 use std::sync::Arc;
 use ww_queue::Kind;
 use ww_seat::{Memory, Seat};
-use ww_table::{Board, Seat16};
+use ww_table::{Board, Stepper};
 use ww_word::wide::MANY_SEATS;
 
 /// How many locks a world has at most.
@@ -91,7 +91,7 @@ fn lay(
 /// The desks of new seats.
 fn fresh(
     board: &Arc<Board, Global>,
-    seats: Vec<Seat16>,
+    seats: Vec<Stepper>,
     locks: u32,
     count: u16,
     left: u64,

@@ -9,7 +9,7 @@ use Rattle.ww_plain.specs.History.{Recorded, history_of, part_of, IsLegal, last_
 use Rattle.ww_plain.proofs.Members.{eqb_same, true_or_false, same_from_eqb, or_cases}
 use Rattle.ww_view.specs.View.{IsAway, IsBare}
 use Rattle.ww_rule.specs.declared.cells.Start.{Start}
-use Rattle.ww_table.specs.declared.seat.Seat16.{Seat16}
+use Rattle.ww_table.specs.declared.seat.Stepper.{Stepper}
 use Rattle.ww_model.specs.State.{one_if}
 use Rattle.ww_rule.specs.Rule.{first_graph, own_of, times}
 use Rattle.ww_table.specs.Closed.{HasCome, HaveAllCome, HasPlaces}
@@ -27,7 +27,7 @@ use Rattle.ww_lock.specs.Hands.{carried_of, Carries}
 use Rattle.ww_lock.specs.Closed.{has_pass, missing_of, WasSeatOf, AreSeatsOf, AreAllBelow, AreParts, IsBalanced, AreBalanced, IsClosed}
 use Rattle.ww_lock.proofs.Carrying.{bare_of}
 
-pub seat_of_pass : (h : Inside) (q : Seat16) → Carries h → held_of (carried_of h) ≡ [] → standing_of q ≡ h.seat → IsKept q
+pub seat_of_pass : (h : Inside) (q : Stepper) → Carries h → held_of (carried_of h) ≡ [] → standing_of q ≡ h.seat → IsKept q
     → WasSeatOf (holding_of (carried_of h)) q
 seat_of_pass h q c none is k =
     let home = ap (λ (s : Standing). s.home) is in
@@ -52,7 +52,7 @@ pub own_below : (place : ℕ) (records : List (ℕ × Record)) → AreBelow plac
 own_below place [] all = tt
 own_below place (r ∷ rs) all = (all.0, own_below place rs all.1)
 
-pub fits : (place : ℕ) (passes : List Holding) (seats : List Seat16) → AreSeatsOf passes seats
+pub fits : (place : ℕ) (passes : List Holding) (seats : List Stepper) → AreSeatsOf passes seats
     → AreAllBelow place passes → AllByRecursion (HasPlaces place) seats
 fits place [] [] are all = tt
 fits place [] (q ∷ qs) are all = absurd are
@@ -60,7 +60,7 @@ fits place (s ∷ ss) [] are all = absurd are
 fits place (s ∷ ss) (q ∷ qs) are all =
     (own_below place q.records.items (subst (AreBelow place) (sym are.0.own) all.0), fits place ss qs are.1 all.1)
 
-come : (t : TableId) (w : Setting) (passes : List Holding) (seats : List Seat16) → w.home.table ≡ t
+come : (t : TableId) (w : Setting) (passes : List Holding) (seats : List Stepper) → w.home.table ≡ t
     → AreAtHome passes w → AreSeatsOf passes seats → AllByRecursion (HasCome t) seats
 come t w [] [] is home are = tt
 come t w [] (q ∷ qs) is home are = absurd are
@@ -71,8 +71,8 @@ come t w (s ∷ ss) (q ∷ qs) is home are = (
       is home.1 are.1,
 )
 
-found : (passes : List Holding) (seats : List Seat16) (k : ℕ) → AreSeatsOf passes seats → has_pass passes k ≡ true
-    → (q : Seat16) × Has seats q × (q.who ≡ k)
+found : (passes : List Holding) (seats : List Stepper) (k : ℕ) → AreSeatsOf passes seats → has_pass passes k ≡ true
+    → (q : Stepper) × Has seats q × (q.who ≡ k)
 found [] [] k are has = absurd (true≢false (sym has))
 found [] (q ∷ qs) k are has = absurd are
 found (s ∷ ss) [] k are has = absurd are
@@ -94,7 +94,7 @@ all_there (suc c) passes none k lt = elim (true_or_false (has_pass passes c)) [
     same_number : (c k : ℕ) → c ≤ k → k < suc c → c ≡ k
     same_number c k most lt = omega (arith, most, lt)
 
-pub all_come : (t : TableId) (key : Start) (w : Setting) (passes : List Holding) (seats : List Seat16)
+pub all_come : (t : TableId) (key : Start) (w : Setting) (passes : List Holding) (seats : List Stepper)
     → w.home.table ≡ t → key.seats ≡ w.passes → AreAtHome passes w → missing_of w.passes passes ≡ 0
     → AreSeatsOf passes seats → HaveAllCome t key seats
 all_come t key w passes seats is count home none are = record {
@@ -102,14 +102,14 @@ all_come t key w passes seats is count home none are = record {
   all = λ k lt. found passes seats k are (all_there w.passes passes none k (omega (arith, lt, count)));
 }
 
-as_many : (passes : List Holding) (seats : List Seat16) → AreSeatsOf passes seats → length passes ≡ length seats
+as_many : (passes : List Holding) (seats : List Stepper) → AreSeatsOf passes seats → length passes ≡ length seats
 as_many [] [] are = refl
 as_many [] (q ∷ qs) are = absurd are
 as_many (s ∷ ss) [] are = absurd are
 as_many (s ∷ ss) (q ∷ qs) are = ap suc (as_many ss qs are.1)
 
-parts : (history : List Recorded) (passes : List Holding) (seats : List Seat16) → AreSeatsOf passes seats
-    → ((q : Seat16) → Has seats q → part_of q.who history ≡ own_of q.records.items) → AreParts passes history
+parts : (history : List Recorded) (passes : List Holding) (seats : List Stepper) → AreSeatsOf passes seats
+    → ((q : Stepper) → Has seats q → part_of q.who history ≡ own_of q.records.items) → AreParts passes history
 parts history [] [] are each = tt
 parts history [] (q ∷ qs) are each = absurd are
 parts history (s ∷ ss) [] are each = absurd are
@@ -120,8 +120,8 @@ parts history (s ∷ ss) (q ∷ qs) are each = (
 )
 
 -- what holds of each seat, told of its pass
-of_each : (passes : List Holding) (seats : List Seat16) (P : Holding → Type 0) → AreSeatsOf passes seats
-    → ((s : Holding) (q : Seat16) → WasSeatOf s q → Has seats q → P s) → AllByRecursion P passes
+of_each : (passes : List Holding) (seats : List Stepper) (P : Holding → Type 0) → AreSeatsOf passes seats
+    → ((s : Holding) (q : Stepper) → WasSeatOf s q → Has seats q → P s) → AllByRecursion P passes
 of_each [] [] P are each = tt
 of_each [] (q ∷ qs) P are each = absurd are
 of_each (s ∷ ss) [] P are each = absurd are
@@ -135,7 +135,7 @@ all_less most (k ∷ ks) none = (
   all_less most ks (λ j le. let z = none j le in omega (arith, z)),
 )
 
-balances : (key : Start) (w : Setting) (passes : List Holding) (seats : List Seat16) (records : List Record)
+balances : (key : Start) (w : Setting) (passes : List Holding) (seats : List Stepper) (records : List Record)
     (nodes : List Node) → key.seats ≡ w.passes → AreSeatsOf passes seats → table.IsClosed key seats records nodes
     → AreBalanced w passes
 balances key w passes seats records nodes count are c = record {
@@ -148,7 +148,7 @@ balances key w passes seats records nodes count are c = record {
       all_less w.passes (by_of t.interrupted) (λ k big. ap (times k) (sym at.heeded) ∙ c.strangers k r (omega (arith, big, count)) there));
 }
 
-pub closed : (key : Start) (w : Setting) (passes : List Holding) (seats : List Seat16) (h : History)
+pub closed : (key : Start) (w : Setting) (passes : List Holding) (seats : List Stepper) (h : History)
     → first_graph key ≡ w.first → key.seats ≡ w.passes → missing_of w.passes passes ≡ 0 → AreSeatsOf passes seats
     → table.IsClosed key seats h.records.items h.graph → IsClosed w passes h
 closed key w passes seats h first count none are c = let history : List Recorded = history_of h.records.items in record {
@@ -161,7 +161,7 @@ closed key w passes seats h first count none are c = let history : List Recorded
   balanced = balances key w passes seats h.records.items h.graph count are c;
 }
 
-pub seats_push : (passes : List Holding) (seats : List Seat16) (s : Holding) (q : Seat16) → AreSeatsOf passes seats
+pub seats_push : (passes : List Holding) (seats : List Stepper) (s : Holding) (q : Stepper) → AreSeatsOf passes seats
     → WasSeatOf s q → AreSeatsOf (passes ++ s ∷ []) (seats ++ q ∷ [])
 seats_push [] [] s q are is = (is, tt)
 seats_push [] (r ∷ rs) s q are is = absurd are

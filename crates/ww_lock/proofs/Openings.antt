@@ -7,7 +7,7 @@ use Rattle.atomic_table.specs.Seated.{TableId}
 use Rattle.ww_plain.specs.declared.node.Node.{Node}
 use Rattle.ww_view.specs.View.{owns, IsAway}
 use Rattle.ww_rule.specs.declared.cells.Start.{Start}
-use Rattle.ww_table.specs.declared.seat.Seat16.{Seat16}
+use Rattle.ww_table.specs.declared.seat.Stepper.{Stepper}
 use Rattle.ww_rule.specs.Rule.{Sat, first_graph}
 use Rattle.ww_table.specs.Seat.{IsNew}
 use Rattle.ww_plain.specs.Numbers.{is_among}
@@ -33,7 +33,7 @@ silent_at (b ∷ bs) zero low all = ap Some all.0
 silent_at (b ∷ bs) (suc u) low all = silent_at bs u (omega (arith, low)) all.1
 
 -- what a pass carries whose seat was made just now, and that has seen the graph
-pub new_carries : (t : TableId) (key : Start) (k : ℕ) (q : Seat16) (h : Inside) → IsNew t key k q → h.seat ≡ standing_of q
+pub new_carries : (t : TableId) (key : Start) (k : ℕ) (q : Stepper) (h : Inside) → IsNew t key k q → h.seat ≡ standing_of q
     → h.marks ≡ replicate 64 false → h.seen ≡ first_graph key → length (first_graph key) ≤ 64 → key.locks ≡ 64 → key.places ≡ 16
     → h.left < 2 ^ 32 → slice_get (map rings_at h.bells.items) k ≡ Some (sleeps_at h.patience)
     → AllByRecursion (λ b. rung b ≡ 0) h.bells.items → heard h.patience ≡ 0 → Carries h
@@ -64,7 +64,7 @@ new_carries t key k q h new is marks seen few locks places left placed silent aw
       };
     }
 
-pub new_holding : (home : Home) (key : Start) (k : ℕ) (q : Seat16) (h : Inside) → IsNew home.table key k q → h.seat ≡ standing_of q
+pub new_holding : (home : Home) (key : Start) (k : ℕ) (q : Stepper) (h : Inside) → IsNew home.table key k q → h.seat ≡ standing_of q
     → h.seen ≡ first_graph key → map rings_at h.bells.items ≡ home.parkers
     → holding_of (carried_of h) ≡ fresh home (first_graph key) h.left k h.seat.room
 new_holding home key k q h new is seen bells =
@@ -74,7 +74,7 @@ new_holding home key k q h new is seen bells =
     (account_of (me i)) (me i).0.part.core.deaf
 
 -- it holds nothing, and has no context
-pub new_idle : (t : TableId) (key : Start) (k : ℕ) (q : Seat16) (s : Standing) → IsNew t key k q → s ≡ standing_of q
+pub new_idle : (t : TableId) (key : Start) (k : ℕ) (q : Stepper) (s : Standing) → IsNew t key k q → s ≡ standing_of q
     → ((view_in s).stamp ≡ 0) × ((view_in s).locks ≡ [])
 new_idle t key k q s new is = let me = ap (λ (x : Standing). x.me) is ∙ new.me in
     (ap (λ (m : Sat). m.0.part.core.stamp) me, ap (λ (m : Sat). m.0.part.core.locks) me)
@@ -145,8 +145,8 @@ front_read (q ∷ qs) rest zero p is = (ap Some (sym (ap (λ (l : List TableId).
 front_read (q ∷ qs) rest (suc k) p is = front_read qs rest k p is
 
 -- The next of new seats has the number of those before it, sees the first graph, and sleeps on the parker of this number.
-pub record IsNext (t : TableId) (key : Start) (parkers : List TableId) (seats yielded more : List Seat16)
-    (s : Seat16) (front : List Rest) (r : Rest) : Type 0 where
+pub record IsNext (t : TableId) (key : Start) (parkers : List TableId) (seats yielded more : List Stepper)
+    (s : Stepper) (front : List Rest) (r : Rest) : Type 0 where
   pub new : IsNew t key (length yielded) s
   pub whole : yielded ++ s ∷ more ≡ seats
   pub rests : AreRests (first_graph key) (drop (suc (length yielded)) parkers) front
@@ -154,18 +154,18 @@ pub record IsNext (t : TableId) (key : Start) (parkers : List TableId) (seats yi
   pub placed : slice_get parkers (length yielded) ≡ Some (sleeps_at r.patience)
   pub awake : heard r.patience ≡ 0
 
-pub next_is : (t : TableId) (key : Start) (parkers : List TableId) (seats yielded rest more : List Seat16)
-    (s : Seat16) (rests front : List Rest) (r : Rest)
-    → ((k : ℕ) (x : Seat16) → get_elem? seats k ≡ some x → IsNew t key k x) → yielded ++ rest ≡ seats
+pub next_is : (t : TableId) (key : Start) (parkers : List TableId) (seats yielded rest more : List Stepper)
+    (s : Stepper) (rests front : List Rest) (r : Rest)
+    → ((k : ℕ) (x : Stepper) → get_elem? seats k ≡ some x → IsNew t key k x) → yielded ++ rest ≡ seats
     → rest ≡ s ∷ more
     → AreRests (first_graph key) (drop (length yielded) parkers) rests → rests ≡ front ++ r ∷ []
     → IsNext t key parkers seats yielded more s front r
 next_is t key parkers seats yielded rest more s rests front r each whole step are popped =
-    let here = ap (λ (l : List Seat16). yielded ++ l) (sym step) ∙ whole in
+    let here = ap (λ (l : List Stepper). yielded ++ l) (sym step) ∙ whole in
     let less = rests_less (first_graph key) (drop (length yielded) parkers) rests front r are popped in
     let read = front_read parkers _ (length yielded) (sleeps_at r.patience) less.parkers_are in
     record {
-      new = each (length yielded) s (subst (λ (l : List Seat16). get_elem? l (length yielded) ≡ some s) here (elem_mid yielded more s));
+      new = each (length yielded) s (subst (λ (l : List Stepper). get_elem? l (length yielded) ≡ some s) here (elem_mid yielded more s));
       whole = here;
       rests = subst (λ (ps : List TableId). AreRests (first_graph key) ps front) (sym read.1) less.rests;
       seen = less.seen;

@@ -4,7 +4,7 @@ use Rattle.std.specs.List.{AllByRecursion, list_any}
 use Rattle.ww_plain.specs.History.{Recorded, history_of, part_of, IsLegal, last_graph}
 use Rattle.ww_model.specs.Interrupts.{one_of}
 use Rattle.ww_rule.specs.Rule.{own_of, times}
-use Rattle.ww_table.specs.declared.seat.Seat16.{Seat16}
+use Rattle.ww_table.specs.declared.seat.Stepper.{Stepper}
 use Rattle.ww_table.specs.Closed.{HasCome}
 use Rattle.ww_lock.specs.declared.close.History.{History}
 use Rattle.ww_lock.specs.declared.close.CloseFault.{CloseFault}
@@ -58,7 +58,7 @@ close_number (Missing k) = 5
 close_number NoMemory = 6
 
 -- the seat of a pass that holds nothing, with its number, its commits, and what is counted of its cancels
-pub record WasSeatOf (s : Holding) (q : Seat16) : Type 0 where
+pub record WasSeatOf (s : Holding) (q : Stepper) : Type 0 where
   pub come : HasCome s.home.table q
   pub number : q.who ≡ s.caller
   pub own : own_of q.records.items ≡ s.own
@@ -66,7 +66,7 @@ pub record WasSeatOf (s : Holding) (q : Seat16) : Type 0 where
   pub heeded : q.seat.me.0.part.counts.heeded ≡ by_of s.interrupted
 
 -- the seats of these passes, in the same order
-abbrev pub AreSeatsOf : List Holding → List Seat16 → Type 0
+abbrev pub AreSeatsOf : List Holding → List Stepper → Type 0
 AreSeatsOf [] [] = Unit {0}
 AreSeatsOf [] (q ∷ qs) = ⊥
 AreSeatsOf (s ∷ ss) [] = ⊥

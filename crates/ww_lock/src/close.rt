@@ -7,7 +7,7 @@ use crate::pass::Pass;
 use crate::world::World;
 use thiserror::Error;
 use ww_plain::{Graph, Record};
-use ww_table::Seat16;
+use ww_table::Stepper;
 
 /// Why a world was not closed. All is handed back then, and it can be tried again.
 #[derive(Clone, Copy, Debug, PartialEq, Eq, Drop, Error)]
@@ -105,7 +105,7 @@ fn reach(passes: &[Pass]) -> usize
 }
 
 /// The seats of passes, in a list that has room for them.
-fn seats_of(passes: Vec<Pass>, mut seats: Vec<Seat16>) -> Vec<Seat16>
+fn seats_of(passes: Vec<Pass>, mut seats: Vec<Stepper>) -> Vec<Stepper>
     requires empty { seats.items ≡ [] }
     requires room { (vec_len seats ≡ 0) × (length passes.items ≤ vec_capacity seats) }
     ensures { AreSeatsOf passes.items result.items }
@@ -130,7 +130,7 @@ impl Pass {
         self.hand.reach(least)
     }
 
-    fn into_seat(self) -> Seat16
+    fn into_seat(self) -> Stepper
         ensures { WasSeatOf self result }
     {
         let Pass { hand } = self;

@@ -6,7 +6,7 @@ ghost use Rattle.ww_plain.specs.Graph.{IsNodeOf};
 use std::marker::Model;
 use ww_plain::{Graph, MAX_NODES, Node, Txn, footprint};
 use ww_seat::{Bell, Patience, Seat, Waited};
-use ww_table::Seat16;
+use ww_table::Stepper;
 
 /// What a pass carries through all its states: its seat at the table, and what it keeps beside that. Contracts see it
 /// as what is carried.
@@ -112,7 +112,7 @@ impl Hand {
     }
 
     /// What it is at its table, where it holds nothing.
-    pub(crate) fn into_seat(self) -> Seat16
+    pub(crate) fn into_seat(self) -> Stepper
         requires { held_of self ≡ [] }
         ensures { WasSeatOf (holding_of self) result }
     {

@@ -15,7 +15,7 @@ use thiserror::Error;
 use ww_plain::{Graph, MAX_NODES};
 use ww_queue::Kind;
 use ww_seat::{Bell, Parker, Patience, Seat, Wire};
-use ww_table::{Board, Seat16};
+use ww_table::{Board, Stepper};
 use ww_word::MAX_SEATS;
 
 /// How many locks the table of a world has, whatever the size of its graph.
@@ -165,7 +165,7 @@ fn fresh(
     alloc: Global,
     board: &Board,
     wires: &[Wire],
-    seats: Vec<Seat16>,
+    seats: Vec<Stepper>,
     mut rests: Vec<Rest>,
     budget: u32,
     mut all: Vec<Pass>,

@@ -6,7 +6,7 @@ use Rattle.ww_view.specs.View.{IsAway, IsBare}
 use Rattle.std.proofs.lemmas.Bool.{cases_lt}
 use Rattle.ww_queue.specs.Queue.{Has}
 use Rattle.ww_table.specs.declared.board.Board.{Board}
-use Rattle.ww_table.specs.declared.seat.Seat16.{Seat16}
+use Rattle.ww_table.specs.declared.seat.Stepper.{Stepper}
 use Rattle.ww_table.specs.Seat.{IsSeated}
 use Rattle.ww_table.specs.Closed.{HasCome, HaveAllCome}
 use Rattle.ww_seat.specs.Standings.{Standing, standing_of, view_in, IsKept}
@@ -16,7 +16,7 @@ use Rattle.ww_low_tests.specs.Trying.{IsBetween}
 use Rattle.ww_low_tests.proofs.Holding.{bare_with}
 
 -- a seat between two contexts comes back with nothing
-pub rests_come : (board : Board) (s : Standing) (q : Seat16) → IsBetween board s → standing_of q ≡ s → IsKept q
+pub rests_come : (board : Board) (s : Standing) (q : Stepper) → IsBetween board s → standing_of q ≡ s → IsKept q
     → HasCome board.table.shared.table_id q
 rests_come board s q rests is kept =
     let home = ap (λ (t : Standing). t.home) is ∙ rests.at.home in
@@ -41,7 +41,7 @@ has_last [] x = inl refl
 has_last (z ∷ zs) x = inr (has_last zs x)
 
 -- one more, with the next number
-pub one_more : (board : Board) (seats : List Seat16) (s : Seat16) → HaveCome board seats
+pub one_more : (board : Board) (seats : List Stepper) (s : Stepper) → HaveCome board seats
     → HasCome board.table.shared.table_id s → s.who ≡ length seats → HaveCome board (seats ++ s ∷ [])
 one_more board seats s were come next = record {
   each = each_more (HasCome board.table.shared.table_id) seats s were.each come;
@@ -52,7 +52,7 @@ one_more board seats s were come next = record {
 }
 
 -- they are all
-pub all_come : (board : Board) (seats : List Seat16) → HaveCome board seats
+pub all_come : (board : Board) (seats : List Stepper) → HaveCome board seats
     → length seats ≡ board.table.shared.key.seats
     → HaveAllCome board.table.shared.table_id board.table.shared.key seats
 all_come board seats were count = record { each = were.each; all = λ k lt. were.all k (omega (arith, lt, count)) }

@@ -17,7 +17,7 @@ use Rattle.ww_plain.specs.Transaction.{Transaction, add, transaction_of}
 use Rattle.ww_plain.specs.Meaning.{done}
 use Rattle.ww_plain.specs.History.{Recorded, IsNext, recorded_of}
 use Rattle.ww_table.specs.declared.board.Board.{Board}
-use Rattle.ww_table.specs.declared.seat.Seat16.{Seat16}
+use Rattle.ww_table.specs.declared.seat.Stepper.{Stepper}
 use Rattle.ww_rule.proofs.Totals.{places_few}
 use Rattle.ww_table.specs.Seat.{size_of}
 use Rattle.ww_table.specs.Made.{IsMade}
@@ -146,12 +146,12 @@ may_begin board s rests fewer = record { away = rests.away; no_context = rests.c
 
 -- ---- seats of a table that was made just now
 
-pub made_unused : (kind : Kind) (graph : List Node) (locks count : ℕ) (board : Board) (seats : List Seat16)
-    → IsMade kind graph locks count board seats → AllByRecursion (λ (q : Seat16). (k : ℕ) × IsUnused board k q) seats
+pub made_unused : (kind : Kind) (graph : List Node) (locks count : ℕ) (board : Board) (seats : List Stepper)
+    → IsMade kind graph locks count board seats → AllByRecursion (λ (q : Stepper). (k : ℕ) × IsUnused board k q) seats
 made_unused kind graph locks count board seats made =
-    all_from (λ (q : Seat16). (k : ℕ) × IsUnused board k q) seats (λ k q e. (k, made.seats_are.new k q e))
+    all_from (λ (q : Stepper). (k : ℕ) × IsUnused board k q) seats (λ k q e. (k, made.seats_are.new k q e))
 
-pub made_small : (kind : Kind) (graph : List Node) (locks count : ℕ) (board : Board) (seats : List Seat16)
+pub made_small : (kind : Kind) (graph : List Node) (locks count : ℕ) (board : Board) (seats : List Stepper)
     → IsMade kind graph locks count board seats → size_of board ≡ 2 → locks ≡ 64 → count ≤ 16 → IsSmall board
 made_small kind graph locks count board seats made two room low =
     record { two = two; locks = made.locks_are ∙ room; few = made.places_are ∙ places_few count low }

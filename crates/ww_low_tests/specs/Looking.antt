@@ -2,7 +2,7 @@
 use Rattle.std.specs.Prelude.{ℕ, suc, ◌≡◌, ◌<◌, ◌⊎◌, Bool, List, false, replicate, slice_set, true}
 use Rattle.ww_view.specs.View.{IsAway}
 use Rattle.ww_table.specs.declared.board.Board.{Board}
-use Rattle.ww_table.specs.declared.seat.Seat16.{Seat16}
+use Rattle.ww_table.specs.declared.seat.Stepper.{Stepper}
 use Rattle.ww_table.specs.Seat.{IsNew, locks_of, size_of}
 use Rattle.ww_seat.specs.declared.look.Arrival.{Arrival}
 use Rattle.ww_seat.specs.Looks.{MayWant}
@@ -16,7 +16,7 @@ pub record IsSmall (board : Board) : Type 0 where
   pub few : board.table.shared.key.places ≡ 16
 
 -- seat k of this board, which did nothing yet
-abbrev pub IsUnused : Board → ℕ → Seat16 → Type 0
+abbrev pub IsUnused : Board → ℕ → Stepper → Type 0
 IsUnused board k s = IsNew board.table.shared.table_id board.table.shared.key k s
 
 -- which locks a seat owns: none, or just this one

@@ -15,7 +15,7 @@ use std::sync::Wait;
 use std::test::Fail;
 use ww_queue::Kind;
 use ww_seat::{Arrival, Bell, Look, Parker, Seat, Waits};
-use ww_table::{Board, Seat16};
+use ww_table::{Board, Stepper};
 
 /// The words that two locks and two seats use: owners, guards, signs, the stamp word and the front word.
 fn words(board: &mut Board) -> [u64; 8]
@@ -73,7 +73,7 @@ pub(crate) fn two_seats<R: Abort>(
     rt: &R,
     alloc: Global,
     kind: Kind,
-) -> Result<(Board, Seat16, Seat16), AllocError>
+) -> Result<(Board, Stepper, Stepper), AllocError>
     ensures small { IfOk result (λ r. IsSmall r.0) }
     ensures count { IfOk result (λ r. r.0.table.shared.key.seats ≡ 2) }
     ensures zero { IfOk result (λ r. IsUnused r.0 0 r.1) }
@@ -91,7 +91,7 @@ pub(crate) fn two_seats<R: Abort>(
 }
 
 /// Begins a context on a seat that did nothing yet.
-pub(crate) fn start<R: Abort>(rt: &R, board: &mut Board, seat: Seat16, before: [u64; 2]) -> Seat
+pub(crate) fn start<R: Abort>(rt: &R, board: &mut Board, seat: Stepper, before: [u64; 2]) -> Seat
     requires small { IsSmall board.old }
     requires unused { (k : ℕ) × IsUnused board.old k seat }
     ensures same { board.new ≡ board.old }
@@ -109,7 +109,7 @@ pub(crate) fn start<R: Abort>(rt: &R, board: &mut Board, seat: Seat16, before: [
 pub(crate) fn hold<R: Abort>(
     rt: &R,
     board: &mut Board,
-    seat: Seat16,
+    seat: Stepper,
     lock: u32,
     before: [u64; 2],
 ) -> Seat

@@ -19,7 +19,7 @@ use std::thread::Threads;
 use ww_plain::Graph;
 use ww_queue::Kind;
 use ww_seat::Seat;
-use ww_table::{Board, Seat16};
+use ww_table::{Board, Stepper};
 
 const TRIES: u32 = 1_000;
 
@@ -53,7 +53,7 @@ impl Made {
 /// What a thread returns.
 #[derive(Drop)]
 struct Work {
-    seat: Seat16,
+    seat: Stepper,
     made: Made,
 }
 
@@ -85,7 +85,7 @@ fn try_both(board: &Board, alloc: Global, seat: &mut Seat, _before: u32) -> Opti
 }
 
 /// All tries of a thread; nothing where one couldn't be ended.
-fn tries(board: &Board, alloc: Global, seat: Seat16) -> Option<Work>
+fn tries(board: &Board, alloc: Global, seat: Stepper) -> Option<Work>
     requires small { IsSmall board.now }
     requires unused { (k : ℕ) × IsUnused board.now k seat }
     ensures { IfSome result (λ w. HasCome board.now.table.shared.table_id w.seat) }
@@ -102,7 +102,7 @@ fn tries(board: &Board, alloc: Global, seat: Seat16) -> Option<Work>
 }
 
 /// The same, where each try has to be ended.
-fn all_tries<R: Abort>(rt: &R, board: &Board, alloc: Global, seat: Seat16) -> Work
+fn all_tries<R: Abort>(rt: &R, board: &Board, alloc: Global, seat: Stepper) -> Work
     requires small { IsSmall board.now }
     requires unused { (k : ℕ) × IsUnused board.now k seat }
     ensures { HasCome board.now.table.shared.table_id result.seat }
@@ -117,8 +117,8 @@ fn all_tries<R: Abort>(rt: &R, board: &Board, alloc: Global, seat: Seat16) -> Wo
 pub(crate) fn come<R: Abort>(
     rt: &R,
     _board: &Board,
-    seats: &mut Vec<Seat16>,
-    seat: Seat16,
+    seats: &mut Vec<Stepper>,
+    seat: Stepper,
 ) -> Result<(), AllocError>
     requires come { HaveCome _board.now seats.old.items }
     requires next { HasCome _board.now.table.shared.table_id seat }
@@ -137,7 +137,7 @@ fn apart<R: Abort>(
     board: &Board,
     alloc: Global,
     works: Vec<Work>,
-) -> Result<(Vec<Seat16>, Vec<Made>), AllocError>
+) -> Result<(Vec<Stepper>, Vec<Made>), AllocError>
     requires { AllByRecursion (λ w. HasCome board.now.table.shared.table_id w.seat) works.items }
     ensures { IfOk result (λ r. HaveCome board.now r.0.items) }
 {
@@ -199,7 +199,7 @@ fn crowd<R: Threads + Abort + Sync>(rt: &R, alloc: Global, threads: u8) -> Resul
     let works = thread::map_vec(
         rt,
         seats,
-        &|seat: Seat16| -> Work
+        &|seat: Stepper| -> Work
             requires { ((k : ℕ) × IsUnused shared.now k seat) × IsSmall shared.now }
             ensures { HasCome shared.entry.now.table.shared.table_id result.seat }
         { all_tries(rt, shared, alloc, seat) },

@@ -18,7 +18,7 @@ use std::test::Fail;
 use ww_plain::{By, Node, Record, Reply, Txn};
 use ww_queue::Kind;
 use ww_seat::{NodeChange, Seat};
-use ww_table::{Board, Seat16};
+use ww_table::{Board, Stepper};
 
 /// A seat has room for these in any case.
 const MOST_COMMITS: u64 = 1_000_000;
@@ -58,7 +58,7 @@ pub(crate) fn end(board: &Board, seat: &mut Seat)
 }
 
 /// Back to what the seat is at its table.
-pub(crate) fn come_back(_board: &Board, seat: Seat) -> Seat16
+pub(crate) fn come_back(_board: &Board, seat: Seat) -> Stepper
     requires { IsBetween _board.now seat }
     ensures { HasCome _board.now.table.shared.table_id result }
 {
@@ -138,7 +138,7 @@ pub(crate) fn commit(
 }
 
 /// Seat 1 begins a context, misses the first node, and takes the second, which it gives.
-fn take_second<R: Abort>(rt: &R, board: &mut Board, one: Seat16) -> (Seat, Node)
+fn take_second<R: Abort>(rt: &R, board: &mut Board, one: Stepper) -> (Seat, Node)
     requires small { IsSmall board.old }
     requires unused { IsUnused board.old 1 one }
     ensures same { board.new ≡ board.old }
@@ -158,7 +158,7 @@ fn take_second<R: Abort>(rt: &R, board: &mut Board, one: Seat16) -> (Seat, Node)
 }
 
 /// Seat 0 releases its node, and ends.
-fn give_first<R: Abort>(rt: &R, board: &mut Board, mut zero: Seat) -> Seat16
+fn give_first<R: Abort>(rt: &R, board: &mut Board, mut zero: Seat) -> Stepper
     requires { OwnsOnly board.old (just 0) zero }
     ensures same { board.new ≡ board.old }
     ensures come { HasCome board.new.table.shared.table_id result }
@@ -195,7 +195,7 @@ fn take_and_commit<R: Abort>(
 }
 
 /// ... releases both, and ends.
-fn give_both<R: Abort>(rt: &R, board: &mut Board, mut one: Seat) -> Seat16
+fn give_both<R: Abort>(rt: &R, board: &mut Board, mut one: Seat) -> Stepper
     requires { OwnsOnly board.old both_owned one }
     ensures same { board.new ≡ board.old }
     ensures come { HasCome board.new.table.shared.table_id result }
@@ -218,9 +218,9 @@ fn both_seats<R: Abort>(
     rt: &R,
     alloc: Global,
     board: &Board,
-    zero: Seat16,
-    one: Seat16,
-) -> Result<Vec<Seat16>, AllocError>
+    zero: Stepper,
+    one: Stepper,
+) -> Result<Vec<Stepper>, AllocError>
     requires zero { HasCome board.now.table.shared.table_id zero }
     requires one { HasCome board.now.table.shared.table_id one }
     ensures come { IfOk result (λ r. HaveCome board.now r.items) }

@@ -13,7 +13,7 @@ use std::process::Abort;
 use std::test::Fail;
 use ww_plain::{Graph, Record};
 use ww_queue::Kind;
-use ww_table::{Board, Seat16};
+use ww_table::{Board, Stepper};
 
 /// How many locks a table has, whatever the size of its graph.
 const LOCKS: u32 = 64;
@@ -25,7 +25,7 @@ pub(crate) fn made<R: Abort>(
     kind: Kind,
     graph: Graph,
     seats: u8,
-) -> Result<(Board, Vec<Seat16>), AllocError>
+) -> Result<(Board, Vec<Stepper>), AllocError>
     requires { (1 ≤ seats) × (seats ≤ 16) }
     ensures { IfOk result (λ r. IsMade kind graph 64 seats r.0 r.1.items) }
 {
@@ -43,7 +43,7 @@ pub(crate) fn made<R: Abort>(
 }
 
 /// How many nodes and seats there are, and how many commits the seats made.
-fn counts(board: &Board, seats: &[Seat16]) -> (u8, usize, u64) {
+fn counts(board: &Board, seats: &[Stepper]) -> (u8, usize, u64) {
     let mut commits = 0u64;
     for seat in seats {
         commits = commits.saturating_add(seat.commits());
@@ -55,7 +55,7 @@ fn counts(board: &Board, seats: &[Seat16]) -> (u8, usize, u64) {
 pub(crate) fn closed<R: Abort>(
     rt: &R,
     board: Board,
-    seats: Vec<Seat16>,
+    seats: Vec<Stepper>,
 ) -> Result<(Vec<Record>, Graph), AllocError>
     requires { HaveAllCome board.table.shared.table_id board.table.shared.key seats.items }
 {
@@ -91,7 +91,7 @@ fn makes_and_closes_at_once(rt: HostRuntime) -> Result<(), Fail> {
 }
 
 /// A context takes node 0 and releases it: the owner word in between, and whether both tries won.
-fn takes_once(board: &mut Board, seat: &mut Seat16) -> (u64, bool)
+fn takes_once(board: &mut Board, seat: &mut Stepper) -> (u64, bool)
     requires node { 0 < length (first_graph board.old.table.shared.key) }
     requires new { (k : ℕ) × IsNew board.old.table.shared.table_id board.old.table.shared.key k seat.old }
 {

@@ -16,14 +16,14 @@ use std::sync::Wait;
 use std::test::Fail;
 use ww_queue::Kind;
 use ww_seat::{Arrival, Bell, Look, Seat, Waits};
-use ww_table::{Board, Seat16};
+use ww_table::{Board, Stepper};
 
 /// A board of two nodes, with its three seats.
 fn three_seats<R: Abort>(
     rt: &R,
     alloc: Global,
     kind: Kind,
-) -> Result<(Board, Seat16, Seat16, Seat16), AllocError>
+) -> Result<(Board, Stepper, Stepper, Stepper), AllocError>
     ensures small { IfOk result (λ r. IsSmall r.0) }
     ensures count { IfOk result (λ r. r.0.table.shared.key.seats ≡ 3) }
     ensures zero { IfOk result (λ r. IsUnused r.0 0 r.1) }

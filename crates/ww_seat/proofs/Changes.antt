@@ -4,7 +4,7 @@ use Rattle.std.proofs.lemmas.List.{length-map, length-append}
 use Rattle.std.specs.Prelude.{vec_len, vec_capacity}
 use Rattle.atomic_table.specs.Seated.{TableId}
 use Rattle.ww_table.specs.declared.board.Board.{Board}
-use Rattle.ww_table.specs.declared.seat.Seat16.{Seat16}
+use Rattle.ww_table.specs.declared.seat.Stepper.{Stepper}
 use Rattle.ww_table.specs.Seat.{IsSeated}
 use Rattle.ww_seat.specs.Standings.{Standing, standing_of, MayCommit}
 use Rattle.std.specs.List.{AllByRecursion}
@@ -209,12 +209,12 @@ module _ (size : ℕ) (m : Sat) (r : Record) (before : List Node) (was : IsOrder
 -- ---- of a seat as its caller has it
 
 -- what the caller says, of the seat itself
-pub may_commit : (b : Board) (r : Record) (before : List Node) (changes : List NodeChange) (q : Seat16) (s : Standing)
+pub may_commit : (b : Board) (r : Record) (before : List Node) (changes : List NodeChange) (q : Stepper) (s : Standing)
     → standing_of q ≡ s → MayCommit b r before changes s → MayCommit b r before changes (standing_of q)
 may_commit b r before changes q s is may = subst (MayCommit b r before changes) (sym is) may
 
 -- there is room for one record fewer
-pub less_room : (t : TableId) (q q' : Seat16) (place : ℕ) (r : Record) → IsSeated t q → IsSeated t q'
+pub less_room : (t : TableId) (q q' : Stepper) (place : ℕ) (r : Record) → IsSeated t q → IsSeated t q'
     → q'.seat.me.0.part.own ≡ q.seat.me.0.part.own ++ (place, r) ∷ [] → vec_capacity q'.records ≡ vec_capacity q.records
     → standing_of q' ≡ record (standing_of q) { room = (standing_of q).room - 1; me = q'.seat.me }
 less_room t q q' place r seated seated' own capacity =

@@ -5,7 +5,7 @@ use Rattle.ww_rule.specs.declared.cells.Sight.{Sight}
 use Rattle.ww_rule.specs.Rule.{Sat}
 use Rattle.ww_rule.specs.Guards.{looking}
 use Rattle.ww_table.specs.declared.board.Board.{Board}
-use Rattle.ww_table.specs.declared.seat.Seat16.{Seat16}
+use Rattle.ww_table.specs.declared.seat.Stepper.{Stepper}
 use Rattle.ww_table.specs.Seat.{size_of, view_of}
 use Rattle.ww_seat.specs.declared.look.Arrival.{Arrival}
 use Rattle.ww_seat.specs.declared.look.Attempt.{Attempt}
@@ -58,7 +58,7 @@ come_same board n stands again waits m wake orderly working woken = record {
   marked = marks_idle m m wake refl woken;
 }
 
-pub come_here : {board : Board} {n : ℕ} {stands again : Bool} {s : Seat16} {wake : List ℕ} → IsAtWorkHere board n stands again s
+pub come_here : {board : Board} {n : ℕ} {stands again : Bool} {s : Stepper} {wake : List ℕ} → IsAtWorkHere board n stands again s
     → AreMarksOf (view_of s) wake → (waits : Waits)
     → HasCome board n stands again waits s.seat.me wake (view_of s).attempts Lost s.seat.me wake
 come_here {board} {n} {stands} {again} {s} {wake} at marks waits =
@@ -158,11 +158,11 @@ come_then {board} {n} {s1} {s2} {again} {waits} {m} {m1} {m2} {a = a} x y = reco
 -- ---- an attempt, as its caller sees it
 
 -- out is just what its view says
-pub orderly_at : (board : Board) (q : Seat16) → IsKept q → IsAt board (standing_of q) → IsOrderly (size_of board) q.seat.me
+pub orderly_at : (board : Board) (q : Stepper) → IsKept q → IsAt board (standing_of q) → IsOrderly (size_of board) q.seat.me
 orderly_at board q kept at = subst (λ (k : ℕ). IsOrderly k q.seat.me) at.size kept.orderly
 
 -- it looked at the owner word, and did nothing else yet
-pub come_looked : {board : Board} {n : ℕ} {arrival : Arrival} {holds : Bool} {wake : List ℕ} {q : Seat16} {m : Sat} {o : Owner}
+pub come_looked : {board : Board} {n : ℕ} {arrival : Arrival} {holds : Bool} {wake : List ℕ} {q : Stepper} {m : Sat} {o : Owner}
     → IsKept q → IsAt board (standing_of q) → IsAtWorkThere board n arrival holds wake (standing_of q) → (waits : Waits)
     → m ≡ (looking q.seat.me.0 o, q.seat.me.1)
     → HasCome board n (has_joined arrival) (looks_again arrival) waits q.seat.me wake (q.seat.me.0.part.core.attempts + 1) Lost m wake
@@ -184,14 +184,14 @@ came_orderly : (board : Board) (n : ℕ) (stands again : Bool) (waits : Waits) (
 came_orderly board n stands again waits m m' Lost x = x.0.orderly
 came_orderly board n stands again waits m m' (Ended l) x = x.0.0
 
-is_attempt : (board : Board) (n : ℕ) (arrival : Arrival) (waits : Waits) (q q' : Seat16) (a : Attempt)
+is_attempt : (board : Board) (n : ℕ) (arrival : Arrival) (waits : Waits) (q q' : Stepper) (a : Attempt)
     → CameInside board n (has_joined arrival) (looks_again arrival) waits q.seat.me a q'.seat.me
     → IsAttempt board.table.shared.key.places (standing_of q) n waits arrival a (standing_of q')
 is_attempt board n arrival waits q q' Lost x = (x.0.working, x.0.holds, x.1)
 is_attempt board n arrival waits q q' (Ended l) x = (x.0.1, x.1, x.2, x.3)
 
 -- the answer of an attempt
-pub attempted : {board : Board} {n : ℕ} {stands again : Bool} {waits : Waits} {wake wake' : List ℕ} {a : Attempt} (q q' : Seat16)
+pub attempted : {board : Board} {n : ℕ} {stands again : Bool} {waits : Waits} {wake wake' : List ℕ} {a : Attempt} (q q' : Stepper)
     (arrival arrival' : Arrival) → IsKept q → IsAt board (standing_of q) → IsSameSeat board q q' → has_joined arrival' ≡ stands
     → looks_again arrival ≡ again → looks_again arrival' ≡ again
     → HasCome board n stands again waits q.seat.me wake (q.seat.me.0.part.core.attempts + 1) a q'.seat.me wake'

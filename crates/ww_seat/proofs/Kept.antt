@@ -8,7 +8,7 @@ use Rattle.ww_view.specs.View.{owns, IsAway}
 use Rattle.ww_rule.specs.declared.cells.Cell.{Cell}
 use Rattle.ww_rule.specs.Rule.{Sat}
 use Rattle.ww_rule.specs.Out.{slot_of}
-use Rattle.ww_table.specs.declared.seat.Seat16.{Seat16}
+use Rattle.ww_table.specs.declared.seat.Stepper.{Stepper}
 use Rattle.ww_table.specs.declared.board.Board.{Board}
 use Rattle.ww_table.specs.Seat.{IsSeated, IsSeatOf, size_of, view_of}
 use Rattle.ww_seat.specs.Orderly.{IsOrderly}
@@ -18,22 +18,22 @@ use Rattle.ww_seat.proofs.Naps.{out_then}
 use Rattle.ww_seat.proofs.Slots.{slot_here, not_both}
 use Rattle.ww_seat.proofs.Outside.{owner_of_first, holds_outside, high_list}
 
-pub kept : (t : TableId) (size : ℕ) (s : Seat16) → IsSeated t s → IsOrderly size s.seat.me → IsKept s
+pub kept : (t : TableId) (size : ℕ) (s : Stepper) → IsSeated t s → IsOrderly size s.seat.me → IsKept s
 kept t size s seated orderly = record {
   seated = subst (λ (x : TableId). IsSeated x s) (sym seated.home) seated;
   orderly = subst (λ (k : ℕ). IsOrderly k s.seat.me) (sym orderly.held) orderly;
 }
 
 -- it is one of the board
-pub seated_at : (b : Board) (q : Seat16) (s : Standing) → standing_of q ≡ s → IsKept q → IsAt b s → IsSeatOf b q
+pub seated_at : (b : Board) (q : Stepper) (s : Standing) → standing_of q ≡ s → IsKept q → IsAt b s → IsSeatOf b q
 seated_at b q s is k at = subst (λ (t : TableId). IsSeated t q) (ap (λ (x : Standing). x.home) is ∙ at.home) k.seated
 
 -- ... with as many nodes as that has
-pub orderly_at : (b : Board) (q : Seat16) (s : Standing) → standing_of q ≡ s → IsKept q → IsAt b s → IsOrderly (size_of b) q.seat.me
+pub orderly_at : (b : Board) (q : Stepper) (s : Standing) → standing_of q ≡ s → IsKept q → IsAt b s → IsOrderly (size_of b) q.seat.me
 orderly_at b q s is k at = subst (λ (k : ℕ). IsOrderly k q.seat.me) (ap (λ (x : Standing). size_in x) is ∙ at.size) k.orderly
 
 -- a step of the seat leaves it the same seat
-pub same_seat : (t : TableId) (size : ℕ) (q q' : Seat16) → IsSeated t q → IsSeated t q' → q'.records ≡ q.records
+pub same_seat : (t : TableId) (size : ℕ) (q q' : Stepper) → IsSeated t q → IsSeated t q' → q'.records ≡ q.records
     → IsOrderly size q.seat.me → IsOrderly size q'.seat.me → IsSame (standing_of q) (standing_of q')
 same_seat t size q q' seated seated' records o o' = let home = seated'.home ∙ sym seated.home in record {
   now = λ i. record { home = home i; room = vec_capacity (records i) - vec_len (records i); me = q'.seat.me };
@@ -41,7 +41,7 @@ same_seat t size q q' seated seated' records o o' = let home = seated'.home ∙ 
 }
 
 -- ... between two calls, which went inside no guard
-pub back_at_once : (t : TableId) (size : ℕ) (q q' : Seat16) → IsSeated t q → IsSeated t q' → q'.records ≡ q.records
+pub back_at_once : (t : TableId) (size : ℕ) (q q' : Stepper) → IsSeated t q → IsSeated t q' → q'.records ≡ q.records
     → IsOrderly size q.seat.me → IsOrderly size q'.seat.me → IsAway (view_of q') → HasStayedOut (view_of q) (view_of q')
     → IsBackAtOnce (standing_of q) (standing_of q')
 back_at_once t size q q' seated seated' records o o' away out = record {
@@ -62,7 +62,7 @@ at_once_then s u s' a b = record {
 }
 
 -- whether it owns a lock its slots tell
-pub holds_kept : (q : Seat16) (s : Standing) → standing_of q ≡ s → IsKept q → (view_in s).inside ≡ 0
+pub holds_kept : (q : Stepper) (s : Standing) → standing_of q ≡ s → IsKept q → (view_in s).inside ≡ 0
     → OwnsNodes s → owns_any (view_in s) ≡ ltb 0 (length q.seat.me.1)
 holds_kept q s is k = subst
     (λ (x : Standing). (view_in x).inside ≡ 0 → OwnsNodes x → owns_any (view_in x) ≡ ltb 0 (length q.seat.me.1))
@@ -80,7 +80,7 @@ first_is_node size m n y others was outside out = let here : slot_of m.1 n ≡ S
     (λ low. omega arith)
 
 -- so it is the node of a lock that it owns
-pub top_kept : (q : Seat16) (s : Standing) (r : Option ℕ) → standing_of q ≡ s → IsKept q → IsAway (view_in s)
+pub top_kept : (q : Stepper) (s : Standing) (r : Option ℕ) → standing_of q ≡ s → IsKept q → IsAway (view_in s)
     → IfSome r (λ n. (y : Cell) × (others : List (ℕ × Cell)) × (q.seat.me.1 ≡ (n, y) ∷ others))
     → IfSome r (λ n. (n < size_in s) × (owns (view_in s) n ≡ true))
 top_kept q s None is k = λ away out. out

@@ -12,7 +12,7 @@ use Rattle.ww_plain.specs.Meaning.{graph_after}
 use Rattle.ww_view.specs.View.{owns}
 use Rattle.ww_rule.specs.Rule.{Sat}
 use Rattle.ww_table.specs.declared.board.Board.{Board}
-use Rattle.ww_table.specs.declared.seat.Seat16.{Seat16}
+use Rattle.ww_table.specs.declared.seat.Stepper.{Stepper}
 use Rattle.ww_table.specs.Seat.{size_of, view_of}
 use Rattle.ww_seat.specs.declared.committing.NodeChange.{NodeChange}
 use Rattle.ww_seat.specs.Orderly.{IsOrderly}
@@ -37,13 +37,13 @@ pub record IsChanged (size : ℕ) (held : List (Option Node)) (after : List Node
   pub others : (n : ℕ) → is_among n ns ≡ false → get_elem? now n ≡ get_elem? held n
 
 -- These nodes may be changed: each is one that the seat owns, and out are nodes as some view names them.
-pub record MayChange (board : Board) (changes : List NodeChange) (s : Seat16) : Type 0 where
+pub record MayChange (board : Board) (changes : List NodeChange) (s : Stepper) : Type 0 where
   pub changes_are : (before : List Node) × (after : List Node) × (ns : List ℕ) × (changes ≡ map (change_at before after) ns)
   pub out : (held : List (Option Node)) × IsOrderly (size_of board) (naming s.seat.me held)
   pub owned : AllByRecursion (λ c. (c.number < size_of board) × (owns (view_of s) c.number ≡ true)) changes
 
 -- its view is as it was, and out are the nodes as they are afterwards
-pub record HasChanged (board : Board) (changes : List NodeChange) (s s' : Seat16) : Type 0 where
+pub record HasChanged (board : Board) (changes : List NodeChange) (s s' : Stepper) : Type 0 where
   pub view : s'.seat.me.0 ≡ s.seat.me.0
   pub changed : (held : List (Option Node)) (before after : List Node) (ns : List ℕ)
       → changes ≡ map (change_at before after) ns → IsOrderly (size_of board) (naming s.seat.me held)

@@ -19,7 +19,7 @@ use Rattle.ww_rule.specs.Steps.{drawing_none}
 use Rattle.ww_rule.specs.Cancels.{cancelling, finding_pending}
 use Rattle.ww_rule.specs.Guards.{AreSeats, shutting_out}
 use Rattle.ww_table.specs.declared.board.Board.{Board}
-use Rattle.ww_table.specs.declared.seat.Seat16.{Seat16}
+use Rattle.ww_table.specs.declared.seat.Stepper.{Stepper}
 use Rattle.ww_table.specs.declared.seat.Taking.{Taking}
 use Rattle.ww_table.specs.declared.seat.Giving.{Giving}
 use Rattle.ww_table.specs.Seat.{IsSeated, locks_of, size_of}
@@ -48,11 +48,11 @@ pub record Standing : Type 0 where
   pub room : ℕ
   pub me : Sat
 
-abbrev pub standing_of : Seat16 → Standing
+abbrev pub standing_of : Stepper → Standing
 standing_of s = record { home = s.seat.table_id; room = vec_capacity s.records - vec_len s.records; me = s.seat.me }
 
 -- what is true of each seat before and after a call: it is seated at its table, and out is just what its view says
-pub record IsKept (s : Seat16) : Type 0 where
+pub record IsKept (s : Stepper) : Type 0 where
   pub seated : IsSeated s.seat.table_id s
   pub orderly : IsOrderly (length s.seat.me.0.held) s.seat.me
 

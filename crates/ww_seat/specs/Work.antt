@@ -20,7 +20,7 @@ use Rattle.ww_rule.specs.Steps.{knowing}
 use Rattle.ww_rule.specs.Guards.{AreSeats, exiting}
 use Rattle.ww_rule.specs.Waiting.{HasListOnTop, taking_inside}
 use Rattle.ww_table.specs.declared.board.Board.{Board}
-use Rattle.ww_table.specs.declared.seat.Seat16.{Seat16}
+use Rattle.ww_table.specs.declared.seat.Stepper.{Stepper}
 use Rattle.ww_table.specs.Seat.{IsSeatOf, locks_of, size_of, view_of}
 use Rattle.ww_seat.specs.Orderly.{IsOrderly}
 use Rattle.ww_seat.specs.Calls.{HoldsAsBefore}
@@ -160,31 +160,31 @@ pub record IsAtWork (size n : ℕ) (before : Sat) (stands again : Bool) (m : Sat
 -- ---- where its functions find it
 
 -- a seat of this board, of which just is out what its view says, and a lock of the board
-pub record IsHere (board : Board) (n : ℕ) (s : Seat16) : Type 0 where
+pub record IsHere (board : Board) (n : ℕ) (s : Stepper) : Type 0 where
   pub seat : IsSeatOf board s
   pub lock : n < locks_of board
   pub orderly : IsOrderly (size_of board) s.seat.me
 
 -- ... inside the guard of that lock
-pub record IsInsideHere (board : Board) (n : ℕ) (s : Seat16) : Type 0 where
+pub record IsInsideHere (board : Board) (n : ℕ) (s : Stepper) : Type 0 where
   pub seat : IsSeatOf board s
   pub lock : n < locks_of board
   pub orderly : IsOrderly (size_of board) s.seat.me
   pub inside : (view_of s).inside ≡ suc n
 
 -- ... at work there
-pub record IsAtWorkHere (board : Board) (n : ℕ) (stands again : Bool) (s : Seat16) : Type 0 where
+pub record IsAtWorkHere (board : Board) (n : ℕ) (stands again : Bool) (s : Stepper) : Type 0 where
   pub seat : IsSeatOf board s
   pub lock : n < locks_of board
   pub orderly : IsOrderly (size_of board) s.seat.me
   pub working : IsWorking n stands again (view_of s)
 
 -- ... and in the wait list, whether it looks again or not
-abbrev pub StandsHere : Board → ℕ → Seat16 → Type 0
+abbrev pub StandsHere : Board → ℕ → Stepper → Type 0
 StandsHere board n s = (again : Bool) × IsAtWorkHere board n true again s
 
 -- it is a seat of this board still, with the same records
-pub record IsSameSeat (board : Board) (s s' : Seat16) : Type 0 where
+pub record IsSameSeat (board : Board) (s s' : Stepper) : Type 0 where
   pub seat : IsSeatOf board s'
   pub records : s'.records ≡ s.records
 

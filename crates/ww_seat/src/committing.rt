@@ -7,7 +7,7 @@ ghost use Rattle.ww_seat.specs.Work.{IsSameSeat};
 use crate::seats::Seat;
 use std::snapshot::Snapshot;
 use ww_plain::{Graph, Node, Record};
-use ww_table::{Board, Seat16};
+use ww_table::{Board, Stepper};
 
 /// What becomes of one node of a transaction's footprint.
 #[derive(Clone, Copy)]
@@ -18,7 +18,7 @@ pub struct NodeChange {
 }
 
 /// Writes these nodes as they are afterwards, the last one first: it was taken last, so fewer slots are turned.
-fn change(seat: &mut Seat16, board: &Board, changes: &[NodeChange])
+fn change(seat: &mut Stepper, board: &Board, changes: &[NodeChange])
     requires at { IsSeatOf board.now seat.old }
     requires may { MayChange board.now changes.now seat.old }
     ensures same { IsSameSeat board.now seat.old seat.new }

@@ -8,7 +8,7 @@ use crate::leaving::leave;
 use crate::seats::Seat;
 use crate::waits::Waits;
 use crate::wake::wake_seat;
-use ww_table::{Board, Seat16};
+use ww_table::{Board, Stepper};
 use ww_word::wide::Owner;
 
 impl Seat {
@@ -35,7 +35,7 @@ impl Seat {
 /// was. While the seat stands in the list inside the guard nobody else writes the owner word, so it is still the one
 /// seen.
 pub(crate) fn stop_if_cancelled(
-    seat: &mut Seat16,
+    seat: &mut Stepper,
     board: &Board,
     lock: u32,
     seen: Owner,

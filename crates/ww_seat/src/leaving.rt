@@ -5,10 +5,10 @@ ghost use Rattle.ww_table.specs.Seat.{IsSeatOf, size_of, view_of};
 ghost use Rattle.ww_seat.specs.Work.{IsCleared, IsHere, IsOut, IsSameSeat, MayGo, MayTakeSignBack};
 
 use ww_queue::Kind;
-use ww_table::{Board, Seat16};
+use ww_table::{Board, Stepper};
 
 /// In Wait-Die a context takes its own sign back, where it has one. Inside a guard nobody can sign it again.
-fn take_sign_back(seat: &mut Seat16, board: &Board)
+fn take_sign_back(seat: &mut Stepper, board: &Board)
     requires seat { IsSeatOf board.now seat.old }
     requires may { MayTakeSignBack (view_of seat.old) }
     ensures same { IsSameSeat board.now seat.old seat.new }
@@ -21,7 +21,7 @@ fn take_sign_back(seat: &mut Seat16, board: &Board)
 }
 
 /// Takes the own sign back, where it isn't 0.
-fn clear_if_signed(seat: &mut Seat16, board: &Board)
+fn clear_if_signed(seat: &mut Stepper, board: &Board)
     requires seat { IsSeatOf board.now seat.old }
     requires kind { (view_of seat.old).kind ≡ WaitDie }
     requires may { MayTakeSignBack (view_of seat.old) }
@@ -38,7 +38,7 @@ fn clear_if_signed(seat: &mut Seat16, board: &Board)
 }
 
 /// Leaves the guard. In Wait-Die the seat takes back its own sign first: the seat that condemned it was met.
-pub(crate) fn leave(seat: &mut Seat16, board: &Board, lock: u32)
+pub(crate) fn leave(seat: &mut Stepper, board: &Board, lock: u32)
     requires at { IsHere board.now lock seat.old }
     requires may { MayGo lock (view_of seat.old) }
     ensures same { IsSameSeat board.now seat.old seat.new }

@@ -13,7 +13,7 @@ use crate::standing::{stand, stay_or_back_off};
 use crate::taking::take_inside;
 use crate::waits::Waits;
 use ww_plain::Node;
-use ww_table::{Board, Seat16};
+use ww_table::{Board, Stepper};
 use ww_word::wide::Owner;
 
 /// How a seat came to look at a lock.
@@ -84,7 +84,7 @@ pub enum Attempt {
 }
 
 /// Whether the lock is free, or handed to this seat, which doesn't own it.
-fn is_ours(seat: &Seat16, seen: Owner) -> bool
+fn is_ours(seat: &Stepper, seen: Owner) -> bool
     ensures free { result ≡ true → (seen.seat ≡ None) ⊎ (seen.seat ≡ Some seat.now.who) }
     ensures other { result ≡ false → (t : ℕ) × (seen.seat ≡ Some t) × (t ≢ seat.now.who) }
 {
@@ -97,7 +97,7 @@ fn is_ours(seat: &Seat16, seen: Owner) -> bool
 /// One attempt at a look. If the call heeds its cancel, that is checked as soon as the seat is in the wait list: so the
 /// seat asks for nothing and condemns nobody for a wait that ends immediately.
 pub fn look_once(
-    seat: &mut Seat16,
+    seat: &mut Stepper,
     board: &Board,
     lock: u32,
     arrival: &mut Arrival,

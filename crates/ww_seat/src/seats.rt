@@ -13,14 +13,14 @@ use std::snapshot::Snapshot;
 use std::sync::Wait;
 use ww_plain::{Graph, Node, Record};
 use ww_queue::wide::Entry;
-use ww_table::{Board, Seat16, Taking, Tried};
+use ww_table::{Board, Stepper, Taking, Tried};
 use ww_word::wide::Owner;
 
 /// A seat at its table, of which just that is out what its view says: the nodes of its locks, and the wait list of the lock
 /// inside whose guard it is. Contracts see it as a standing.
 #[derive(Drop)]
 pub struct Seat {
-    pub(crate) seat: Seat16,
+    pub(crate) seat: Stepper,
 }
 
 impl Model for Seat {
@@ -50,7 +50,7 @@ impl Seat {
 
     /// A seat that has done nothing yet.
     #[inline(always)]
-    pub fn new(seat: Seat16) -> Seat
+    pub fn new(seat: Stepper) -> Seat
         requires new { (table : TableId) × (key : Start) × (k : ℕ) × IsNew table key k seat × (length (first_graph key) ≤ 64) × (length (first_graph key) ≤ key.locks) }
         ensures { result ≡ standing_of seat }
     {
@@ -58,7 +58,7 @@ impl Seat {
     }
 
     /// Back to what it is at its table.
-    pub fn into_inner(self) -> Seat16
+    pub fn into_inner(self) -> Stepper
         ensures is { standing_of result ≡ self }
         ensures kept { IsKept result }
     {

@@ -4,11 +4,11 @@ ghost use Rattle.ww_seat.specs.Work.{AreMarksOf, AreOwed, HasLookedForDeath, Has
 
 use crate::wake::mark;
 use ww_queue::Kind;
-use ww_table::{Board, Seat16};
+use ww_table::{Board, Stepper};
 use ww_word::wide::Owner;
 
 /// Sets some of the signs that the seat owes by the word it saw.
-fn sign_some(seat: &mut Seat16, board: &Board, lock: u32, owed: &[(u16, u64)], wake: &mut [u64])
+fn sign_some(seat: &mut Stepper, board: &Board, lock: u32, owed: &[(u16, u64)], wake: &mut [u64])
     requires at { IsInsideHere board.now lock seat.old }
     requires owed { AreOwed (view_of seat.old) owed.now }
     requires marks { AreMarksOf (view_of seat.old) wake.old }
@@ -25,7 +25,7 @@ fn sign_some(seat: &mut Seat16, board: &Board, lock: u32, owed: &[(u16, u64)], w
 
 /// Sets all signs that the seat owes by the word it saw. The seats that this call condemned have to be woken by it; a
 /// seat that was signed before is woken by the one that signed it.
-pub(crate) fn sign_all(seat: &mut Seat16, board: &Board, lock: u32, seen: Owner, wake: &mut [u64])
+pub(crate) fn sign_all(seat: &mut Stepper, board: &Board, lock: u32, seen: Owner, wake: &mut [u64])
     requires at { IsInsideHere board.now lock seat.old }
     requires seen { SeesSeats seen (view_of seat.old) }
     requires marks { AreMarksOf (view_of seat.old) wake.old }
@@ -41,7 +41,7 @@ pub(crate) fn sign_all(seat: &mut Seat16, board: &Board, lock: u32, seen: Owner,
 }
 
 /// The stamp for which the seat has to die. In Wound-Wait it looks for its sign only where a sign would make it die.
-pub(crate) fn death(seat: &mut Seat16, board: &Board, lock: u32, seen: Owner) -> Option<u64>
+pub(crate) fn death(seat: &mut Stepper, board: &Board, lock: u32, seen: Owner) -> Option<u64>
     requires at { StandsHere board.now lock seat.old }
     requires seen { SeesOther seen (view_of seat.old) }
     ensures same { IsSameSeat board.now seat.old seat.new }

@@ -10,14 +10,14 @@ ghost use Rattle.ww_seat.specs.Work.{has_joined, looks_again, AreMarksOf, HasAsk
 use crate::leaving::leave;
 use crate::look::{Arrival, Attempt, Look};
 use crate::signs::{death, sign_all};
-use ww_table::{Board, Seat16};
+use ww_table::{Board, Stepper};
 use ww_word::wide::Owner;
 use ww_word::{HANDOFF, WAITERS};
 
 /// Joins the wait list unless the seat stands in it, and gives the owner word afterwards; `None` if the word has
 /// changed.
 pub(crate) fn stand(
-    seat: &mut Seat16,
+    seat: &mut Stepper,
     board: &Board,
     lock: u32,
     seen: Owner,
@@ -42,7 +42,7 @@ pub(crate) fn stand(
 /// Asks for the lock as the first waiter that looks again, if the owner word is still the one seen and nobody asked
 /// yet, and gives the word as it is then.
 fn ask_if_first(
-    seat: &mut Seat16,
+    seat: &mut Stepper,
     board: &Board,
     lock: u32,
     seen: Owner,
@@ -70,7 +70,7 @@ fn ask_if_first(
 }
 
 /// Leaves the wait list and the guard, as the context has to back off, if the owner word is still the one seen.
-fn back_off(seat: &mut Seat16, board: &Board, lock: u32, seen: Owner) -> bool
+fn back_off(seat: &mut Stepper, board: &Board, lock: u32, seen: Owner) -> bool
     requires at { StandsHere board.now lock seat.old }
     requires may { IsValid seen × ((k : ℕ) × MayDie (view_of seat.old) lock seen k) }
     ensures same { IsSameSeat board.now seat.old seat.new }
@@ -86,7 +86,7 @@ fn back_off(seat: &mut Seat16, board: &Board, lock: u32, seen: Owner) -> bool
 /// The rest of a look of a seat in the wait list: it asks for the lock if it looks again, signs the seats to which it
 /// owes signs, and then stays or backs off.
 pub(crate) fn stay_or_back_off(
-    seat: &mut Seat16,
+    seat: &mut Stepper,
     board: &Board,
     lock: u32,
     seen: Owner,

@@ -12,12 +12,12 @@ use crate::fast::blank;
 use crate::leaving::leave;
 use crate::signs::sign_all;
 use ww_plain::Node;
-use ww_table::{Board, Seat16};
+use ww_table::{Board, Stepper};
 use ww_word::WAITERS;
 use ww_word::wide::Owner;
 
 /// The owner word of a lock that this seat took, with the wait list as it is.
-fn own_word(seat: &mut Seat16, board: &Board, lock: u32) -> Owner
+fn own_word(seat: &mut Stepper, board: &Board, lock: u32) -> Owner
     requires at { IsSeatOf board.now seat.old × (lock < locks_of board.now) }
     requires list { slot_of seat.old.seat.me.1 (list_at lock) ≡ Some (Line (view_of seat.old).list) }
     ensures same { IsSameSeat board.now seat.old seat.new }
@@ -31,7 +31,7 @@ fn own_word(seat: &mut Seat16, board: &Board, lock: u32) -> Owner
 }
 
 /// Takes the lock, if its owner word is still the one seen. The seat is inside the guard still.
-fn take_seen(seat: &mut Seat16, board: &Board, lock: u32, seen: Owner) -> bool
+fn take_seen(seat: &mut Stepper, board: &Board, lock: u32, seen: Owner) -> bool
     requires at { (s l : Bool) × IsAtWorkHere board.now lock s l seat.old }
     requires seen { SeesFree seen (view_of seat.old) }
     ensures same { IsSameSeat board.now seat.old seat.new }
@@ -45,7 +45,7 @@ fn take_seen(seat: &mut Seat16, board: &Board, lock: u32, seen: Owner) -> bool
 }
 
 /// The node of a lock that the seat owns; a blank one where the lock guards none.
-fn node_or_blank(seat: &mut Seat16, board: &Board, lock: u32) -> Node
+fn node_or_blank(seat: &mut Stepper, board: &Board, lock: u32) -> Node
     requires at { IsSeatOf board.now seat.old × IsOrderly (size_of board.now) seat.old.seat.me }
     requires owner { lock < size_of board.now → owns (view_of seat.old) lock ≡ true }
     ensures same { IsSameSeat board.now seat.old seat.new }
@@ -60,7 +60,7 @@ fn node_or_blank(seat: &mut Seat16, board: &Board, lock: u32) -> Node
 
 /// Takes the lock, if its owner word is still the one seen, gives the signs that its owner owes, and leaves the guard.
 pub(crate) fn take_inside(
-    seat: &mut Seat16,
+    seat: &mut Stepper,
     board: &Board,
     lock: u32,
     seen: Owner,

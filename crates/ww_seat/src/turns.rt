@@ -7,7 +7,7 @@ ghost use Rattle.ww_seat.specs.Guards.{HasLet, IsGiving};
 
 use crate::seats::Seat;
 use ww_queue::wide::Entry;
-use ww_table::{Board, Seat16, Tried};
+use ww_table::{Board, Stepper, Tried};
 use ww_word::wide::Owner;
 
 impl Seat {
@@ -78,7 +78,7 @@ impl Seat {
 }
 
 /// Releases the lock, whose owner word the seat saw last. The seat is inside the guard still.
-fn give_seen(seat: &mut Seat16, board: &Board, lock: u32, seen: Owner)
+fn give_seen(seat: &mut Stepper, board: &Board, lock: u32, seen: Owner)
     requires at { IsSeatOf board.now seat.old × (lock < locks_of board.now) }
     requires giving { IsGiving (size_of board.now) lock seat.old.seat.me }
     requires seen { IsValid seen × ((view_of seat.old).seen ≡ Some seen) }

@@ -14,7 +14,7 @@ use Rattle.ww_view.specs.View.{IsBare}
 use Rattle.ww_rule.specs.declared.cells.Cell.{Cell}
 use Rattle.ww_rule.specs.declared.cells.Part.{Part}
 use Rattle.ww_rule.specs.declared.cells.Sight.{Sight}
-use Rattle.ww_table.specs.declared.seat.Seat16.{Seat16}
+use Rattle.ww_table.specs.declared.seat.Stepper.{Stepper}
 use Rattle.ww_rule.specs.Steps.{with_seat}
 use Rattle.ww_rule.specs.Rule.{own_of}
 use Rattle.ww_rule.proofs.Filling.{has_more, has_last, has_either}
@@ -140,7 +140,7 @@ pub all_more : {A : Type 0} (P Q : A → Type 0) → ((x : A) → P x → Q x) �
 all_more P Q more [] all = tt
 all_more P Q more (x ∷ xs) all = (more x all.0, all_more P Q more xs all.1)
 
-pub gathered_one : (table : TableId) (s : Seat16) (token : Seat Cell Sight) (old new : List (Option Record))
+pub gathered_one : (table : TableId) (s : Stepper) (token : Seat Cell Sight) (old new : List (Option Record))
     → HasCome table s → token ≡ s.seat → AreFree old → ArePut old s.records.items new
     → IsGathered table (s ∷ []) (length old) token new
 gathered_one table s token old new come is free put =
@@ -151,11 +151,11 @@ gathered_one table s token old new come is free put =
       size = put.size;
       laid = subst (λ l. AreLaid (s.seat.me.0.part ∷ l) new) (sym come.seated.alone)
           (laid_more [] s.seat.me.0.part old new s.records.items (laid_none old free) come.seated.records put);
-      all = λ t h. ⊎_elim (λ same. inl (ap (λ (x : Seat16). x.seat.me.0.part) same)) (λ none. absurd none) h;
+      all = λ t h. ⊎_elim (λ same. inl (ap (λ (x : Stepper). x.seat.me.0.part) same)) (λ none. absurd none) h;
       many = let l = ap (λ (ps : List Part). length ps) come.seated.alone in omega arith;
     })
 
-pub gathered_more : (table : TableId) (seats : List Seat16) (s : Seat16) (count : ℕ) (token next : Seat Cell Sight)
+pub gathered_more : (table : TableId) (seats : List Stepper) (s : Stepper) (count : ℕ) (token next : Seat Cell Sight)
     (old new : List (Option Record)) → IsGathered table seats count token old → HasCome table s
     → ArePut old s.records.items new
     → next.table_id ≡ token.table_id → next.me.0 ≡ with_seat token.me.0 s.seat.me.0 → IsGathered table (seats ++ s ∷ []) count next new
@@ -171,7 +171,7 @@ gathered_more table seats s count token next old new g come put home view =
       all = λ t h. subst (λ l. Has l t.seat.me.0.part) (sym parts) (⊎_elim
           (λ was. has_more (parts_of token.me.0) (s.seat.me.0.part ∷ []) t.seat.me.0.part (g.all t was))
           (λ same. subst (λ (p : Part). Has (parts_of token.me.0 ++ s.seat.me.0.part ∷ []) p)
-          (ap (λ (x : Seat16). x.seat.me.0.part) (sym same)) (has_last (parts_of token.me.0) s.seat.me.0.part))
+          (ap (λ (x : Stepper). x.seat.me.0.part) (sym same)) (has_last (parts_of token.me.0) s.seat.me.0.part))
           (has_either seats s t h));
       many = let l = ap (λ (ps : List Part). length ps) parts in
           let a = length-append (parts_of token.me.0) (s.seat.me.0.part ∷ []) in
@@ -179,7 +179,7 @@ gathered_more table seats s count token next old new g come put home view =
     }
 
 -- the seats in the order in which they came
-pub gathered_all : (table : TableId) (seats later : List Seat16) (last : Seat16) (count : ℕ)
+pub gathered_all : (table : TableId) (seats later : List Stepper) (last : Stepper) (count : ℕ)
     (token : Seat Cell Sight) (places : List (Option Record)) → IsGathered table (last ∷ later) count token places
     → seats ≡ later ++ last ∷ [] → IsGathered table seats count token places
 gathered_all table seats later last count token places g is = record {
@@ -189,7 +189,7 @@ gathered_all table seats later last count token places g is = record {
   size = g.size;
   laid = g.laid;
   all = λ s h. g.all s (⊎_elim (λ was. inr was) (λ same. inl same) (has_either later last s (subst (λ l. Has l s) is h)));
-  many = let l = ap (λ (ss : List Seat16). length ss) is in let a = length-append later (last ∷ []) in let m = g.many in omega arith;
+  many = let l = ap (λ (ss : List Stepper). length ss) is in let a = length-append later (last ∷ []) in let m = g.many in omega arith;
 }
 
 pub none_left : {A : Type 0} (xs : List A) → length xs ≡ 0 → xs ≡ []

@@ -18,7 +18,7 @@ use Rattle.ww_rule.specs.declared.cells.Cell.TheVariants.{Content}
 use Rattle.ww_rule.specs.declared.cells.Part.{Part}
 use Rattle.ww_rule.specs.declared.cells.Sight.{Sight}
 use Rattle.ww_rule.specs.declared.cells.Start.{Start}
-use Rattle.ww_table.specs.declared.seat.Seat16.{Seat16}
+use Rattle.ww_table.specs.declared.seat.Stepper.{Stepper}
 use Rattle.ww_rule.specs.declared.cells.Counts.{Counts}
 use Rattle.ww_rule.specs.Rule.{St, first_graph, own_of, times, PartFits, Ruled}
 use Rattle.ww_rule.specs.Records.{somes}
@@ -42,7 +42,7 @@ list_same (x ∷ xs) (y ∷ ys) long same =
     (λ n low. same (suc n) (omega arith)) i
 
 module _ (key : Start) (s : St) (r : Ruled key s) (table : TableId) (id : ℕ) (token : Seat Cell Sight)
-    (seats : List Seat16) (count : ℕ) (places : List (Option Record))
+    (seats : List Stepper) (count : ℕ) (places : List (Option Record))
     (here : get_elem? s.views id ≡ some token.me.0)
     (come : HaveAllCome table key seats) (g : IsGathered table seats count token places) where
   fits : (p : Part) → Has (parts_of token.me.0) p → PartFits key r.core r.log r.at r.counts id p
@@ -50,7 +50,7 @@ module _ (key : Start) (s : St) (r : Ruled key s) (table : TableId) (id : ℕ) (
       ⊎_elim (λ is. subst (PartFits key r.core r.log r.at r.counts id) (sym is) sits.part)
       (λ more. let t = has_at token.me.0.idle p more in (sits.idle t.0 p t.1).0) h
 
-  came : (t : Seat16) → Has seats t → HasCome table t
+  came : (t : Stepper) → Has seats t → HasCome table t
   came t h = has_all (HasCome table) seats t come.each h
 
   -- nobody owns a lock
@@ -93,17 +93,17 @@ module _ (key : Start) (s : St) (r : Ruled key s) (table : TableId) (id : ℕ) (
       let x = node_at (last_graph (first_graph key) r.log) n in
       (x, final n (Content x) (r.homes.nodes n (omega arith) (nobody_owns n)))
 
-  counts_are : (s : Seat16) → Has seats s → s.seat.me.0.part.counts ≡ r.counts s.who
+  counts_are : (s : Stepper) → Has seats s → s.seat.me.0.part.counts ≡ r.counts s.who
   counts_are s has = (fits s.seat.me.0.part (g.all s has)).counted ∙ ap r.counts (came s has).seated.who
 
-  balanced : (s t : Seat16) → Has seats s → Has seats t
+  balanced : (s t : Stepper) → Has seats s → Has seats t
       → times t.who s.seat.me.0.part.counts.cancelled ≡ times s.who t.seat.me.0.part.counts.heeded
       + one_of s.who t.who (r.core.cancel t.who)
   balanced s t hs ht = ap (λ (k : Counts). times t.who k.cancelled) (counts_are s hs) ∙ r.counted.balanced s.who t.who
       ∙ ap (λ (k : Counts). times s.who k.heeded + one_of s.who t.who (r.core.cancel t.who)) (sym (counts_are t ht))
 
   -- a number that no seat has set no cancel, so none of its was heeded
-  strangers : (k : ℕ) (t : Seat16) → key.seats ≤ k → Has seats t → times k t.seat.me.0.part.counts.heeded ≡ 0
+  strangers : (k : ℕ) (t : Stepper) → key.seats ≤ k → Has seats t → times k t.seat.me.0.part.counts.heeded ≡ 0
   strangers k t big has = let b = r.counted.balanced k t.who in
       let none = ap (λ (c : Counts). times t.who c.cancelled) (r.counted.strangers k big) in
       let same = ap (λ (c : Counts). times k c.heeded) (counts_are t has) in omega arith

@@ -1,9 +1,9 @@
 -- Making a table: its slots, and its seats one after another.
-use Rattle.std.proofs.Common.{refl, ◌≡◌, ℕ, suc, ◌+◌, ◌-◌, ◌*◌, ◌<◌, ◌≤◌, ◌^◌, List, [], ◌∷◌, ◌++◌, length, sym, ap, ◌∙◌, subst, ⊎_elim, arith, Some, None, replicate, length-append, zero, inl, inr}
-use Rattle.std.specs.Prelude.{IsSome}
+use Rattle.std.proofs.Common.{refl, ◌≡◌, ℕ, suc, ◌+◌, ◌-◌, ◌*◌, ◌<◌, ◌≤◌, ◌^◌, List, [], ◌∷◌, ◌++◌, length, sym, ap, ◌∙◌, subst, ⊎_elim, arith, None, replicate, length-append, zero, inl, inr}
 use mathlib.Core.Option.{some}
 use mathlib.Core.Option as maybe
 use lib.ListN.{get_elem?, length-replicate}
+use Rattle.atomic_table.specs.declared.shared.Seat.{Seat}
 use Rattle.atomic_table.specs.Seated.{TableId}
 use Rattle.atomic_table.specs.Table.{Splits, opening}
 use Rattle.std.specs.List.{AllByRecursion}
@@ -15,60 +15,58 @@ use Rattle.ww_rule.specs.declared.cells.Cell.TheVariants.{Content}
 use Rattle.ww_rule.specs.declared.cells.Part.{Part}
 use Rattle.ww_rule.specs.declared.cells.Sight.{Sight}
 use Rattle.ww_rule.specs.declared.cells.Start.{Start}
-use Rattle.ww_word.specs.AnySeats.{packed, most_for}
-use Rattle.ww_rule.specs.Layout.{IsSized, lock_at, sign_at}
-use Rattle.ww_table.specs.declared.seat.Seat16.{Seat16}
+use Rattle.ww_queue.specs.declared.kind.Kind.{Kind}
+use Rattle.ww_rule.specs.Layout.{IsSized, lock_at}
+use Rattle.ww_table.specs.declared.seat.Stepper.{Stepper}
 use Rattle.ww_rule.specs.Rule.{Sat, first_graph, first_part, first_parts, first_sight, Ruled, IsSize, AreNodes}
 use Rattle.ww_rule.specs.Steps.{seat_of, first_seat, rest_of, without_first}
-use Rattle.ww_table.specs.Seat.{IsNew, base_of, step_of}
+use Rattle.ww_table.specs.Seat.{IsNew}
 use Rattle.ww_rule.specs.Out.{numbers_of}
 use Rattle.ww_rule.specs.Homes.{AreSlots}
-use Rattle.ww_table.specs.Made.{AreNew, less}
+use Rattle.ww_table.specs.Made.{AreNew, IsFresh, MayCut, less}
 use Rattle.ww_table.specs.Closed.{HasCome, HaveAllCome}
 use Rattle.ww_queue.specs.Queue.{Has}
 use Rattle.ww_model.specs.State.{start}
 use Rattle.ww_view.specs.View.{IsBare}
 use Rattle.ww_rule.proofs.Seats.{opens, opens_start, splits, at_end, bare_first}
 
-pub new_seat : (table : TableId) (key : Start) (k : ℕ) (s : Seat16) → s.seat.table_id ≡ table
-    → s.seat.me ≡ (seat_of (length (first_graph key)) (first_part key.kind key.locks key.places k), []) → s.kind ≡ key.kind
-    → s.who ≡ k → s.room ≡ key.locks → s.seats ≡ key.places → k < key.places → IsSize key.places
-    → s.most ≡ most_for s.seats → s.sign ≡ sign_at s.room s.who → IsSized key.locks key.places table → s.stamp ≡ 0 → s.base ≡ base_of s.who → s.step ≡ step_of s.who → s.own ≡ packed (record { seat = Some s.who; stamp = s.stamp; flags = 0 })
-    → s.order.items ≡ [] → s.records.items ≡ [] → IsSome s.page → IsNew table key k s
-new_seat table key k s home me kind who room seats few size most sign sized stamp base step own order records page = record {
+pub new_seat : {table : TableId} {key : Start} {kind : Kind} {locks places seats : ℕ} {first token : Seat Cell Sight} (k : ℕ) (s : Stepper)
+    → MayCut table key kind locks places seats first → IsFresh token kind k locks places s → token.table_id ≡ table
+    → token.me ≡ (seat_of (length (first_graph key)) (first_part key.kind key.locks key.places k), []) → k < places → IsNew table key k s
+new_seat {table} k s cut is home here few = let me = ap (λ (t : Seat Cell Sight). t.me) is.seat_is ∙ here in record {
   seated = record {
-    home = home;
+    home = ap (λ (t : Seat Cell Sight). t.table_id) is.seat_is ∙ home;
     seated = ap (λ (m : Sat). m.0.seated) me;
-    kind = kind ∙ sym (ap (λ (m : Sat). m.0.part.core.kind) me);
-    who = ap (λ (m : Sat). m.0.part.core.who) me ∙ sym who;
-    few = subst (λ (x : ℕ × ℕ). x.0 < x.1) (λ i. (sym who i, sym seats i)) few;
-    room = ap (λ (m : Sat). m.0.part.core.room) me ∙ sym room;
-    seats = ap (λ (m : Sat). m.0.part.core.seats) me ∙ sym seats;
-    size = subst IsSize (sym seats) size;
-    most = most;
-    sign = sign;
-    sized = subst (λ (x : ℕ × ℕ). IsSized x.0 x.1 table) (λ i. (sym room i, sym seats i)) sized;
-    stamp = ap (λ (m : Sat). m.0.part.core.stamp) me ∙ sym stamp;
-    fits = inr (⊎_elim (λ is. omega arith) (λ is. let z = is.1 in omega arith) size, omega arith);
-    base = base;
-    step = step;
-    own = own;
-    order = order ∙ sym (ap (λ (m : Sat). numbers_of m.1) me);
-    records = records ∙ sym (ap (λ (m : Sat). m.0.part.own) me);
+    kind = is.kind_is ∙ cut.kind_is ∙ sym (ap (λ (m : Sat). m.0.part.core.kind) me);
+    who = ap (λ (m : Sat). m.0.part.core.who) me ∙ sym is.who_is;
+    few = subst (λ (x : ℕ × ℕ). x.0 < x.1) (λ i. (sym is.who_is i, sym is.seats i)) few;
+    room = ap (λ (m : Sat). m.0.part.core.room) me ∙ sym (is.room ∙ cut.sizes.0);
+    seats = ap (λ (m : Sat). m.0.part.core.seats) me ∙ sym (is.seats ∙ cut.sizes.1);
+    size = subst IsSize (sym is.seats) cut.sizes.2;
+    most = is.most;
+    sign = is.sign;
+    sized = subst (λ (x : ℕ × ℕ). IsSized x.0 x.1 table) (λ i. (sym (is.room ∙ cut.sizes.0) i, sym (is.seats ∙ cut.sizes.1) i)) cut.sized;
+    stamp = ap (λ (m : Sat). m.0.part.core.stamp) me ∙ sym is.stamp;
+    fits = inr (⊎_elim (λ size. omega (arith, is.who_is, few, size)) (λ size. omega (arith, is.who_is, few, size.1)) cut.sizes.2, omega (arith, is.stamp));
+    base = is.base;
+    step = is.step;
+    own = is.own;
+    order = is.order ∙ sym (ap (λ (m : Sat). numbers_of m.1) me);
+    records = is.records ∙ sym (ap (λ (m : Sat). m.0.part.own) me);
     alone = ap (λ (m : Sat). m.0.idle) me;
-    places = subst (AllByRecursion (λ (p : ℕ × Record). p.0 < 2 ^ 44)) (sym records) tt;
-    page = λ _. page;
+    places = subst (AllByRecursion (λ (p : ℕ × Record). p.0 < 2 ^ 44)) (sym is.records) tt;
+    page = λ _. is.page;
   };
-  number = who;
+  number = is.who_is;
   me = me;
 }
 
-pub news_more : (table : TableId) (key : Start) (n : ℕ) (seats : List Seat16) (s : Seat16)
+pub news_more : (table : TableId) (key : Start) (n : ℕ) (seats : List Stepper) (s : Stepper)
     → AreNew table key n seats → IsNew table key n s → AreNew table key (n + 1) (seats ++ s ∷ [])
 news_more table key n seats s are new = record {
   many = let l = length-append seats (s ∷ []) in let m = are.many in omega arith;
   new = λ k t there. ⊎_elim (λ was. are.new k t was)
-      (λ now. subst (λ (x : ℕ × Seat16). IsNew table key x.0 x.1) (λ i. (sym (now.0 ∙ are.many) i, now.1 i)) new)
+      (λ now. subst (λ (x : ℕ × Stepper). IsNew table key x.0 x.1) (λ i. (sym (now.0 ∙ are.many) i, now.1 i)) new)
       (at_end seats s t k there);
 }
 
@@ -130,7 +128,7 @@ there (x ∷ xs) zero low = (x, inl refl, refl)
 there (x ∷ xs) (suc k) low = let t = there xs k (omega arith) in (t.0, inr t.1, t.2)
 
 -- seats that did nothing yet hold nothing
-pub new_come : (table : TableId) (key : Start) (seats : List Seat16) → AreNew table key key.seats seats → HaveAllCome table key seats
+pub new_come : (table : TableId) (key : Start) (seats : List Stepper) → AreNew table key key.seats seats → HaveAllCome table key seats
 new_come table key seats are = record {
   each = all_from (HasCome table) seats (λ k s e. let n = are.new k s e in record {
     seated = n.seated;

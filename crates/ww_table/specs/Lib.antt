@@ -1,3 +1,5 @@
 pub mod Seat
+pub mod Steps
+pub mod Inside
 pub mod Made
 pub mod Closed

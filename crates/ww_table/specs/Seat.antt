@@ -12,7 +12,7 @@ use Rattle.ww_rule.specs.Rule.{first_graph, first_part, IsSize, Sat}
 use Rattle.ww_rule.specs.Steps.{seat_of, knowing, keeping}
 use Rattle.ww_rule.specs.Out.{numbers_of}
 use Rattle.ww_table.specs.declared.board.Board.{Board}
-use Rattle.ww_table.specs.declared.seat.Seat16.{Seat16}
+use Rattle.ww_table.specs.declared.seat.Stepper.{Stepper}
 use Rattle.ww_table.specs.declared.seat.Taking.{Taking}
 use Rattle.ww_table.specs.declared.seat.Taking.TheVariants.{Took, Had, Missed}
 use Rattle.ww_table.specs.declared.seat.Giving.{Giving}
@@ -22,7 +22,7 @@ use Rattle.ww_table.specs.declared.seat.Tried.{Tried}
 use Rattle.ww_table.specs.declared.seat.Tried.TheVariants.{Did, InVain}
 
 -- what it knows of the table and of itself
-abbrev pub view_of : Seat16 → View
+abbrev pub view_of : Stepper → View
 view_of s = s.seat.me.0.part.core
 
 -- the word of a lock that a seat has taken, without its stamp; and how much it grows with that
@@ -33,7 +33,7 @@ abbrev pub step_of : ℕ → ℕ
 step_of who = if nat_lt who 16 then 256 else 32768
 
 -- the seat is one of this table, and what it keeps beside its view is what the view says
-pub record IsSeated (table : TableId) (s : Seat16) : Type 0 where
+pub record IsSeated (table : TableId) (s : Stepper) : Type 0 where
   pub home : s.seat.table_id ≡ table
   pub seated : s.seat.me.0.seated ≡ true
   pub kind : s.kind ≡ (view_of s).kind
@@ -66,11 +66,11 @@ abbrev pub locks_of : Board → ℕ
 locks_of board = board.table.shared.key.locks
 
 -- the seat is one of this board
-abbrev pub IsSeatOf : Board → Seat16 → Type 0
+abbrev pub IsSeatOf : Board → Stepper → Type 0
 IsSeatOf board s = IsSeated board.table.shared.table_id s
 
 -- the seat k of a table that was made just now
-pub record IsNew (table : TableId) (key : Start) (k : ℕ) (s : Seat16) : Type 0 where
+pub record IsNew (table : TableId) (key : Start) (k : ℕ) (s : Stepper) : Type 0 where
   pub seated : IsSeated table s
   pub number : s.who ≡ k
   pub me : s.seat.me ≡ (seat_of (length (first_graph key)) (first_part key.kind key.locks key.places k), [])

@@ -1,15 +1,13 @@
 //! A table is made, and cut into its seats.
 
-ghost use Rattle.std.specs.Prelude.{◌≡◌, ◌<◌, ◌≤◌, [], Some, length, IfOk, IfErr, IsSome, vec_len, vec_capacity};
-ghost use Rattle.ww_word.specs.AnySeats.{packed, most_for};
+ghost use Rattle.std.specs.Prelude.{◌≡◌, ◌<◌, ◌≤◌, [], length, IfOk, IfErr, vec_len, vec_capacity};
 ghost use Rattle.ww_plain.specs.Graph.{IsGraph};
-ghost use Rattle.ww_rule.specs.Layout.{IsSized, sign_at};
-ghost use Rattle.ww_rule.specs.Rule.{first_sight, nodes_of, IsSize, places_for};
-ghost use Rattle.ww_table.specs.Made.{AreNew, IsMade};
-ghost use Rattle.ww_table.specs.Seat.{base_of, step_of};
+ghost use Rattle.ww_rule.specs.Rule.{nodes_of, IsSize, places_for};
+ghost use Rattle.ww_table.specs.Made.{AreNew, IsFresh, IsMade, MayCut};
+ghost use Rattle.ww_table.specs.Seat.{step_of};
 
 use crate::board::Board;
-use crate::seat::{Seat16, own_word};
+use crate::seat::{Stepper, own_word};
 use arrayvec::ArrayVec;
 use atomic_table::Table;
 use std::alloc::{AllocError, Global};
@@ -31,7 +29,7 @@ impl Board {
         graph: Graph,
         locks: u32,
         seats: u16,
-    ) -> Result<(Board, Vec<Seat16>), (Graph, AllocError)>
+    ) -> Result<(Board, Vec<Stepper>), (Graph, AllocError)>
         requires locks { (length graph ≤ locks) × (locks ≤ 64) }
         requires seats { (1 ≤ seats) × (seats < 4096) }
         ensures ok { IfOk result (λ r. IsMade kind graph locks seats r.0 r.1.items) }
@@ -49,7 +47,7 @@ impl Board {
         kind: Kind,
         locks: u32,
         seats: u16,
-    ) -> Result<(Board, Vec<Seat16>), AllocError>
+    ) -> Result<(Board, Vec<Stepper>), AllocError>
         requires locks { locks ≤ 16777216 }
         requires seats { (1 ≤ seats) × (seats < 4096) }
         ensures { IfOk result (λ r. IsMade kind [] locks seats r.0 r.1.items) }
@@ -80,7 +78,7 @@ fn lay(
     bare: bool,
     locks: u32,
     seats: u16,
-) -> Result<(Board, Vec<Seat16>), AllocError>
+) -> Result<(Board, Vec<Stepper>), AllocError>
     requires locks { (length (nodes_of bare graph.now) ≤ locks) × (locks ≤ 16777216) }
     requires spread { 0 < length (nodes_of bare graph.now) → locks ≤ 64 }
     requires seats { (1 ≤ seats) × (seats < 4096) }
@@ -142,14 +140,9 @@ fn cut(
     mut first: TableSeat,
     sizes: (u32, u16),
     seats: u16,
-    mut made: Vec<Seat16>,
-) -> Result<Vec<Seat16>, AllocError>
-    requires sized { IsSized shared.now.key.locks shared.now.key.places shared.now.table_id }
-    requires sizes { (sizes.0 ≡ shared.now.key.locks) × (sizes.1 ≡ shared.now.key.places) × IsSize sizes.1 × (seats ≤ sizes.1) }
-    requires home { first.table_id ≡ shared.now.table_id }
-    requires view { first.me ≡ (first_sight shared.now.key, []) }
-    requires kind { kind ≡ shared.now.key.kind }
-    requires seats { (seats ≡ shared.now.key.seats) × (1 ≤ seats) }
+    mut made: Vec<Stepper>,
+) -> Result<Vec<Stepper>, AllocError>
+    requires may { MayCut shared.now.table_id shared.now.key kind sizes.0 sizes.1 seats first }
     requires room { (made.items ≡ []) × (vec_len made ≡ 0) × (seats ≤ vec_capacity made) }
     ensures { IfOk result (λ made. AreNew shared.now.table_id shared.now.key seats made.items) }
 {
@@ -176,19 +169,11 @@ fn seated(
     who: u16,
     sizes: (u32, u16),
     page: Page,
-) -> Seat16
+) -> Stepper
     requires { (who < sizes.1) × IsSize sizes.1 }
-    ensures same { result ≡ record { seat = seat; kind = kind; who = who; room = sizes.0; seats = sizes.1; most = result.most; sign = result.sign; stamp = 0; base = result.base; step = result.step; own = result.own; order = result.order; records = result.records; page = result.page } }
-    ensures most { result.most ≡ most_for sizes.1 }
-    ensures sign { result.sign ≡ sign_at sizes.0 who }
-    ensures base { result.base ≡ base_of result.who }
-    ensures step { result.step ≡ step_of result.who }
-    ensures own { result.own ≡ packed (record { seat = Some result.who; stamp = result.stamp; flags = 0 }) }
-    ensures order { result.order.items ≡ [] }
-    ensures records { result.records.items ≡ [] }
-    ensures page { IsSome result.page }
+    ensures { IsFresh seat kind who sizes.0 sizes.1 result }
 {
-    Seat16 {
+    Stepper {
         seat,
         kind,
         who,

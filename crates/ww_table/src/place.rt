@@ -1,13 +1,13 @@
 //! The step by which a commit takes its place.
 
-ghost use Rattle.std.specs.Prelude.{◌≡◌, ◌<◌, ◌^◌, ◌↔◌, true, length, Some, IfOk, IsTrue, OnErr, vec_len, vec_capacity};
-ghost use Rattle.std.specs.List.{AllByRecursion};
+ghost use Rattle.std.specs.Prelude.{◌≡◌, ◌<◌, ◌↔◌, true, length, Some, IfOk, IsTrue, OnErr, vec_len, vec_capacity};
 ghost use Rattle.ww_plain.specs.History.{recorded_of};
 ghost use Rattle.ww_table.specs.Seat.{IsSeatOf};
-ghost use Rattle.ww_rule.specs.Steps.{MayPlace, placing};
+ghost use Rattle.ww_rule.specs.Steps.{MayPlace};
+ghost use Rattle.ww_table.specs.Steps.{HasPlaced, IsPlaced};
 
 use crate::board::Board;
-use crate::seat::Seat16;
+use crate::seat::Stepper;
 use std::alloc::AllocError;
 use std::marker::Brand;
 use ww_plain::Record;
@@ -15,7 +15,7 @@ use ww_rule::TableSeat;
 use ww_rule::layout::FRONT;
 use ww_rule::plays::{Commit, Said};
 
-impl Seat16 {
+impl Stepper {
     /// How many commits it made.
     pub fn commits(&self) -> u64
         ensures { result ≡ length self.now.records.items }
@@ -43,13 +43,9 @@ impl Seat16 {
     /// Commits: the record takes the next place of the one history, which this gives, and the view names the nodes held
     /// as the transaction leaves them. The slots are changed by `swap_node`.
     pub fn place(&mut self, board: &Board, done: Record) -> u64
-        requires seat { IsSeatOf board.now self.old }
-        requires may { MayPlace self.old.seat.me.0 (recorded_of done) }
-        requires reserved { vec_len self.old.records < vec_capacity self.old.records }
-        ensures seat { IsSeatOf board.now self.new }
-        ensures placed { self.new.seat.me ≡ (placing self.old.seat.me.0 result done, self.old.seat.me.1) }
-        ensures above { AllByRecursion (λ p. p.0 < result) self.old.seat.me.0.part.own }
-        ensures capacity { vec_capacity self.new.records ≡ vec_capacity self.old.records }
+        requires at { IsSeatOf board.now self.old }
+        requires may { MayPlace self.old.seat.me.0 (recorded_of done) × (vec_len self.old.records < vec_capacity self.old.records) }
+        ensures { HasPlaced board.now self.old done result self.new }
     {
         let place = place_said::<Brand>(&mut self.seat, board, &done);
         self.records.push_reserved((place, done));
@@ -60,13 +56,10 @@ impl Seat16 {
 /// The type parameter W names the record, since a step is given only numbers.
 fn place_said<W: Said>(seat: &mut TableSeat, board: &Board, done: &Record) -> u64
     requires said { W.about ≡ Some done.now }
-    requires home { seat.old.table_id ≡ board.now.table.shared.table_id }
-    requires seated { seat.old.me.0.seated ≡ true }
+    requires at { (seat.old.table_id ≡ board.now.table.shared.table_id) × (seat.old.me.0.seated ≡ true) }
     requires may { MayPlace seat.old.me.0 (recorded_of done.now) }
     ensures home { (seat.new.table_id ≡ seat.old.table_id) × (seat.new.id ≡ seat.old.id) }
-    ensures placed { seat.new.me ≡ (placing seat.old.me.0 result done.now, seat.old.me.1) }
-    ensures above { AllByRecursion (λ p. p.0 < result) seat.old.me.0.part.own }
-    ensures few { result < 2 ^ 44 }
+    ensures placed { IsPlaced seat.old.me done.now result seat.new.me }
 {
     board.table.shared.fetch_add::<Commit<W>>(seat, FRONT, 1)
 }

@@ -1,20 +1,16 @@
 //! A seat of the table, its contexts, and its steps outside all guards.
 
-ghost use Rattle.std.specs.Prelude.{◌≡◌, ◌<◌, ◌≤◌, [], ◌∷◌, length, true, false, Some, IfSome, IfNone, IsSome};
-ghost use lib.ListN.{get_elem?};
-ghost use mathlib.Core.Option.{some};
+ghost use Rattle.std.specs.Prelude.{ℕ, ◌≡◌, ◌<◌, [], ◌∷◌, List, length, nat_lt, Some, IfSome, IfNone};
+ghost use Rattle.ww_word.specs.AnySeats.{Fits, packed};
 ghost use Rattle.ww_plain.specs.declared.node.Node.{Node};
-ghost use Rattle.ww_plain.specs.Graph.{IsNodeOf};
-ghost use Rattle.ww_view.specs.View.{owns, IsAway};
+ghost use Rattle.ww_view.specs.View.{IsAway};
 ghost use Rattle.ww_view.specs.May.{MayFast};
-ghost use Rattle.ww_view.specs.Made.{ended, fast_missed, has_read};
 ghost use Rattle.ww_rule.specs.declared.cells.Cell.{Cell};
 ghost use Rattle.ww_rule.specs.declared.cells.Cell.TheVariants.{Content};
-ghost use Rattle.ww_table.specs.Seat.{HasTriedToGive, HasTriedToTake, IsSeatOf, base_of, step_of, giving_of, locks_of, size_of, taking_of, view_of};
-ghost use Rattle.ww_rule.specs.Out.{AreOthers, slot_of, numbers_of};
-ghost use Rattle.std.specs.Prelude.{ℕ, ◌^◌, List, nat_lt};
-ghost use Rattle.ww_word.specs.AnySeats.{Fits, packed};
-ghost use Rattle.ww_rule.specs.Steps.{knowing, drawing, drawing_none, taking, giving, keeping, MayDraw, MayEnd};
+ghost use Rattle.ww_rule.specs.Out.{slot_of, numbers_of};
+ghost use Rattle.ww_rule.specs.Steps.{MayDraw, MayEnd};
+ghost use Rattle.ww_table.specs.Seat.{IsSeatOf, base_of, step_of, giving_of, locks_of, taking_of, view_of};
+ghost use Rattle.ww_table.specs.Steps.{IsBareLock, MayGiveFree, MayTakeFree, HasAskedWhoOwns, HasDrawn, HasReadTop, HasSwapped, HasTriedToEnd, HasTriedToGiveBare, HasTriedToGiveFree, HasTriedToTakeBare, HasTriedToTakeFree};
 
 use crate::board::Board;
 use arrayvec::ArrayVec;
@@ -29,7 +25,7 @@ use ww_word::wide::{pack_seat, without_flags};
 /// A seat of a board. It may start one context after another. Each of its steps is one atomic operation on one word;
 /// its other calls look at what it has out.
 #[derive(Drop)]
-pub struct Seat16 {
+pub struct Stepper {
     pub(crate) seat: TableSeat,
     pub(crate) kind: Kind,
     pub(crate) who: u16,
@@ -147,7 +143,7 @@ pub(crate) fn own_word(who: u16, stamp: u64) -> u64
     pack_seat(0, who, stamp)
 }
 
-impl Seat16 {
+impl Stepper {
     /// The kind of the board's locks.
     pub fn kind(&self) -> Kind
         ensures { result ≡ self.now.kind }
@@ -209,14 +205,9 @@ impl Seat16 {
     /// can't be with 16 seats.
     #[inline(always)]
     pub fn draw(&mut self, board: &Board) -> Option<u64>
-        requires seat { IsSeatOf board.now self.old }
+        requires at { IsSeatOf board.now self.old }
         requires may { MayDraw self.old.seat.me.0.part }
-        ensures seat { IsSeatOf board.now self.new }
-        ensures records { self.new.records ≡ self.old.records }
-        ensures drew { IfSome result (λ stamp. self.new.seat.me ≡ (drawing self.old.seat.me.0 stamp, self.old.seat.me.1)) }
-        ensures spent { IfNone result (self.new.seat.me ≡ (drawing_none self.old.seat.me.0, self.old.seat.me.1)) }
-        ensures context { IfSome result (λ stamp. 0 < stamp) }
-        ensures few { self.old.seats ≡ 16 → IsSome result }
+        ensures { HasDrawn board.now self.old result self.new }
     {
         let stamp = board
             .table
@@ -233,14 +224,9 @@ impl Seat16 {
 
     /// One try to take a lock by one step, which only a free one with an empty wait list allows.
     pub fn take_free(&mut self, board: &Board, lock: u32) -> bool
-        requires seat { IsSeatOf board.now self.old }
-        requires lock { lock < size_of board.now }
-        requires may { MayFast (view_of self.old) }
-        requires room { length self.old.seat.me.1 < 65 }
-        ensures seat { IsSeatOf board.now self.new }
-        ensures records { self.new.records ≡ self.old.records }
-        ensures took { result ≡ true → (x : Node) × IsNodeOf (length self.old.seat.me.0.held) x × (self.new.seat.me ≡ (taking self.old.seat.me.0 lock x, (lock, Content x) ∷ self.old.seat.me.1)) }
-        ensures lost { result ≡ false → self.new.seat.me ≡ (knowing self.old.seat.me.0 (fast_missed (view_of self.old)), self.old.seat.me.1) }
+        requires at { IsSeatOf board.now self.old }
+        requires may { MayTakeFree board.now lock self.old }
+        ensures { HasTriedToTakeFree board.now self.old lock result self.new }
     {
         let own = self.own;
         let shared = &board.table.shared;
@@ -254,15 +240,9 @@ impl Seat16 {
 
     /// One try to release a lock by one step, which only an empty wait list allows.
     pub fn give_free(&mut self, board: &Board, lock: u32) -> bool
-        requires seat { IsSeatOf board.now self.old }
-        requires lock { lock < size_of board.now }
-        requires away { IsAway (view_of self.old) }
-        requires owner { owns (view_of self.old) lock ≡ true }
-        requires out { (x : Node) × (slot_of self.old.seat.me.1 lock ≡ Some (Content x)) × (get_elem? self.old.seat.me.0.held lock ≡ some (Some x)) }
-        ensures seat { IsSeatOf board.now self.new }
-        ensures records { self.new.records ≡ self.old.records }
-        ensures gave { result ≡ true → (x : Node) × (self.new.seat.me.0 ≡ giving self.old.seat.me.0 lock) × AreOthers self.old.seat.me.1 lock (Content x) self.new.seat.me.1 }
-        ensures kept { result ≡ false → (x : Node) × (others : List (ℕ × Cell)) × AreOthers self.old.seat.me.1 lock (Content x) others × (self.new.seat.me ≡ (keeping self.old.seat.me.0, (lock, Content x) ∷ others)) }
+        requires at { IsSeatOf board.now self.old }
+        requires may { MayGiveFree board.now lock self.old }
+        ensures { HasTriedToGiveFree board.now self.old lock result self.new }
     {
         bring(&mut self.seat, &mut self.order, lock);
         let own = self.own;
@@ -278,13 +258,9 @@ impl Seat16 {
     /// One try to take, by one step, a lock that guards no node. The word says whether the seat had it before.
     #[inline(always)]
     pub fn take_bare(&mut self, board: &Board, lock: u32) -> Tried
-        requires seat { IsSeatOf board.now self.old }
-        requires lock { (size_of board.now ≤ lock) × (lock < locks_of board.now) }
-        requires packed { 64 < locks_of board.now }
-        requires may { MayFast (view_of self.old) }
-        ensures seat { IsSeatOf board.now self.new }
-        ensures records { self.new.records ≡ self.old.records }
-        ensures tried { HasTriedToTake self.old.seat.me lock (taking_of result) self.new.seat.me }
+        requires at { IsSeatOf board.now self.old }
+        requires may { IsBareLock board.now lock × MayFast (view_of self.old) }
+        ensures { HasTriedToTakeBare board.now self.old lock (taking_of result) self.new }
     {
         let own = self.own;
         let shared = &board.table.shared;
@@ -298,13 +274,9 @@ impl Seat16 {
     /// One try to release, by one step, a lock that guards no node. The word says whether the seat has it.
     #[inline(always)]
     pub fn give_bare(&mut self, board: &Board, lock: u32) -> Tried
-        requires seat { IsSeatOf board.now self.old }
-        requires lock { (size_of board.now ≤ lock) × (lock < locks_of board.now) }
-        requires packed { 64 < locks_of board.now }
-        requires away { IsAway (view_of self.old) }
-        ensures seat { IsSeatOf board.now self.new }
-        ensures records { self.new.records ≡ self.old.records }
-        ensures tried { HasTriedToGive self.old.seat.me lock (giving_of result) self.new.seat.me }
+        requires at { IsSeatOf board.now self.old }
+        requires may { IsBareLock board.now lock × IsAway (view_of self.old) }
+        ensures { HasTriedToGiveBare board.now self.old lock (giving_of result) self.new }
     {
         let own = self.own;
         let shared = &board.table.shared;
@@ -317,13 +289,9 @@ impl Seat16 {
 
     /// Whether it owns a lock, by a look at the lock's word from outside its guard.
     pub fn has(&mut self, board: &Board, lock: u32) -> bool
-        requires seat { IsSeatOf board.now self.old }
-        requires lock { lock < locks_of board.now }
-        requires away { IsAway (view_of self.old) }
-        ensures seat { IsSeatOf board.now self.new }
-        ensures same { self.new ≡ record self.old { seat = self.new.seat } }
-        ensures me { self.new.seat.me ≡ self.old.seat.me }
-        ensures owns { result ≡ owns (view_of self.old) lock }
+        requires at { IsSeatOf board.now self.old }
+        requires may { (lock < locks_of board.now) × IsAway (view_of self.old) }
+        ensures { HasAskedWhoOwns board.now self.old lock result self.new }
     {
         let own = self.own;
         let shared = &board.table.shared;
@@ -333,14 +301,9 @@ impl Seat16 {
 
     /// Ends the context, if its own sign word is 0.
     pub fn end(&mut self, board: &Board) -> bool
-        requires seat { IsSeatOf board.now self.old }
+        requires at { IsSeatOf board.now self.old }
         requires may { MayEnd (view_of self.old) }
-        ensures seat { IsSeatOf board.now self.new }
-        ensures records { self.new.records ≡ self.old.records }
-        ensures ended { result ≡ true → self.new.seat.me ≡ (knowing self.old.seat.me.0 (ended (view_of self.old)), self.old.seat.me.1) }
-        ensures signed { result ≡ false → (k : ℕ) × (0 < k) × (self.new.seat.me ≡ (knowing self.old.seat.me.0 (has_read (view_of self.old) k), self.old.seat.me.1)) }
-        ensures known { (k : ℕ) → (view_of self.old).sign ≡ Some k → 0 < k → result ≡ false }
-        ensures unsigned { (view_of self.old).sign ≡ Some 0 → result ≡ true }
+        ensures { HasTriedToEnd board.now self.old result self.new }
     {
         let sign = board.table.shared.load::<End>(&mut self.seat, self.sign);
         if sign != 0 {
@@ -353,11 +316,9 @@ impl Seat16 {
 
     /// A node that the seat has out. It is no step.
     pub fn node(&mut self, board: &Board, lock: u32) -> Node
-        requires seat { IsSeatOf board.now self.old }
+        requires at { IsSeatOf board.now self.old }
         requires out { (x : Node) × (slot_of self.old.seat.me.1 lock ≡ Some (Content x)) }
-        ensures seat { IsSeatOf board.now self.new }
-        ensures records { self.new.records ≡ self.old.records }
-        ensures read { (others : List (ℕ × Cell)) × AreOthers self.old.seat.me.1 lock (Content result) others × (self.new.seat.me ≡ (self.old.seat.me.0, (lock, Content result) ∷ others)) }
+        ensures { HasSwapped board.now self.old lock result result self.new }
     {
         bring(&mut self.seat, &mut self.order, lock);
         node_there(&mut self.seat, &board.table.shared, lock)
@@ -365,22 +326,18 @@ impl Seat16 {
 
     /// The node of the slot that the seat took last. It is no step.
     pub fn top_node(&mut self, board: &Board, lock: u32) -> Node
-        requires seat { IsSeatOf board.now self.old }
+        requires at { IsSeatOf board.now self.old }
         requires top { (x : Node) × (others : List (ℕ × Cell)) × (self.old.seat.me.1 ≡ (lock, Content x) ∷ others) }
-        ensures seat { IsSeatOf board.now self.new }
-        ensures records { self.new.records ≡ self.old.records }
-        ensures read { (others : List (ℕ × Cell)) × (self.old.seat.me.1 ≡ (lock, Content result) ∷ others) × (self.new.seat.me ≡ (self.old.seat.me.0, (lock, Content result) ∷ others)) }
+        ensures { HasReadTop board.now self.old lock result self.new }
     {
         node_there(&mut self.seat, &board.table.shared, lock)
     }
 
     /// Writes a node that the seat has out, and gives what was there. It is no step: nobody else sees it.
     pub fn swap_node(&mut self, board: &Board, lock: u32, new: Node) -> Node
-        requires seat { IsSeatOf board.now self.old }
+        requires at { IsSeatOf board.now self.old }
         requires out { (x : Node) × (slot_of self.old.seat.me.1 lock ≡ Some (Content x)) }
-        ensures seat { IsSeatOf board.now self.new }
-        ensures records { self.new.records ≡ self.old.records }
-        ensures swapped { (others : List (ℕ × Cell)) × AreOthers self.old.seat.me.1 lock (Content result) others × (self.new.seat.me ≡ (self.old.seat.me.0, (lock, Content new) ∷ others)) }
+        ensures { HasSwapped board.now self.old lock new result self.new }
     {
         bring(&mut self.seat, &mut self.order, lock);
         swap_there(&mut self.seat, &board.table.shared, lock, new)

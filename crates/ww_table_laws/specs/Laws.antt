@@ -22,7 +22,7 @@ use Rattle.ww_rule.specs.declared.cells.Cell.{Cell}
 use Rattle.ww_rule.specs.declared.cells.Cell.TheVariants.{Content}
 use Rattle.ww_rule.specs.declared.cells.Start.{Start}
 use Rattle.atomic_table.specs.Seated.{TableId}
-use Rattle.ww_table.specs.declared.seat.Seat16.{Seat16}
+use Rattle.ww_table.specs.declared.seat.Stepper.{Stepper}
 use Rattle.ww_table.specs.Made.{AreNew}
 use Rattle.ww_table.specs.Closed.{HaveAllCome}
 use Rattle.ww_rule.specs.Layout.{owner_at, sign_at, stamp_at, front_at, words_for, slots_for}
@@ -144,4 +144,4 @@ NewTableShowsStart = (key : Start) (slots : List Cell) → 1 ≤ key.seats → k
 
 -- seats that did nothing yet can be handed in to close the table
 abbrev pub NewSeatsCanClose : Type 0
-NewSeatsCanClose = (table : TableId) (key : Start) (seats : List Seat16) → AreNew table key key.seats seats → HaveAllCome table key seats
+NewSeatsCanClose = (table : TableId) (key : Start) (seats : List Stepper) → AreNew table key key.seats seats → HaveAllCome table key seats

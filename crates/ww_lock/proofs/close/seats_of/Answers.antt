@@ -1,5 +1,5 @@
 use Rattle.std.proofs.Common.{◌≡◌, ◌+◌, [], ◌∷◌, ◌++◌, List, length, length-append, append_assoc, sym, ap, subst, ◌∙◌, rules, arith}
-use Rattle.ww_table.specs.declared.seat.Seat16.{Seat16}
+use Rattle.ww_table.specs.declared.seat.Stepper.{Stepper}
 use Rattle.ww_lock.specs.Holding.{Holding}
 use Rattle.ww_lock.specs.Closed.{AreSeatsOf}
 use Rattle.ww_lock.proofs.Closings.{seats_push}
@@ -15,7 +15,7 @@ loop-pass-preserved c =
       tt,
       tt,
       append_assoc c.loop-pass.yielded (c.in-Some.pass ∷ []) c.next.new.self.rest.items ∙ whole,
-      subst (λ (qs : List Seat16). AreSeatsOf (c.loop-pass.yielded ++ c.in-Some.pass ∷ []) qs)
+      subst (λ (qs : List Stepper). AreSeatsOf (c.loop-pass.yielded ++ c.in-Some.pass ∷ []) qs)
           (sym c.push_reserved.ensures.items)
           (seats_push c.loop-pass.yielded c.loop-pass.seats.items c.in-Some.pass c.into_seat.result i.3
           c.into_seat.ensures),

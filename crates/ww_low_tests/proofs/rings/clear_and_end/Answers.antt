@@ -12,5 +12,5 @@ clear-requires-clause-may g c = let m = subst (λ (s : Standing). MayEnd (view_i
 pub end-requires-clause-may : goal.end-requires-clause-may
 end-requires-clause-may g c = let m = subst (λ (s : Standing). MayEnd (view_in s)) (sym c.into_inner-seat.ensures.is)
     (may_end c.args.board.now c.args.seat c.requires.holds) in
-    subst (λ (m : Sat). MayEnd m.0.part.core) (sym c.clear.ensures.cleared)
+    subst (λ (m : Sat). MayEnd m.0.part.core) (sym c.clear.ensures.now)
     (record { away = m.away; context = m.context; bare = m.bare })

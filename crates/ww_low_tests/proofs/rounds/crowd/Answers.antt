@@ -2,7 +2,7 @@ use Rattle.std.proofs.Common.{rules, ◌≡◌, ◌<◌, ℕ, length, sym, subst
 use Rattle.std.proofs.lemmas.List.Elements.{recursion_from_All}
 use Rattle.ww_plain.proofs.GraphFacts.{all_item}
 use Rattle.ww_table.specs.declared.board.Board.{Board}
-use Rattle.ww_table.specs.declared.seat.Seat16.{Seat16}
+use Rattle.ww_table.specs.declared.seat.Stepper.{Stepper}
 use Rattle.ww_table.specs.Closed.{HaveAllCome}
 use Rattle.ww_low_tests.specs.Looking.{IsUnused}
 use Rattle.ww_low_tests.proofs.Gathered.{all_come}
@@ -11,8 +11,8 @@ use Rattle.ww_low_tests.proofs.rounds.crowd.Goals as goal
 
 pub map_vec-requires-after_bounds : goal.map_vec-requires-after_bounds
 map_vec-requires-after_bounds g c = λ κs live i x lt is. let board = c.in_ok-board.board in (
-  subst (λ (q : Seat16). (k : ℕ) × IsUnused board k q) (sym is)
-      (all_item (λ (q : Seat16). (k : ℕ) × IsUnused board k q) c.in_ok-board.seats.items i x lt
+  subst (λ (q : Stepper). (k : ℕ) × IsUnused board k q) (sym is)
+      (all_item (λ (q : Stepper). (k : ℕ) × IsUnused board k q) c.in_ok-board.seats.items i x lt
       (made_unused _ _ _ _ board c.in_ok-board.seats.items c.in_ok-board.ensures)),
   made_small _ _ _ _ board c.in_ok-board.seats.items c.in_ok-board.ensures (search rules) (search rules) c.requires.1,
 )

@@ -1,9 +1,13 @@
+use Rattle.std.proofs.Common.{rules}
 use Rattle.ww_seat.proofs.Working.{may_leave, left_view, left_orderly}
 use Rattle.ww_seat.proofs.leaving.leave.Goals as goal
 
 pub exit-requires-clause-may : goal.exit-requires-clause-may
-exit-requires-clause-may c = may_leave c.args.lock c.args.seat.now.seat.me _ c.take_sign_back.ensures.cleared
-    c.requires.may c.requires.at.orderly.unheeded
+exit-requires-clause-may c = record {
+  lock = c.requires.at.lock;
+  may = may_leave c.args.lock c.args.seat.now.seat.me _ c.take_sign_back.ensures.cleared c.requires.may c.requires.at.orderly.unheeded;
+  list = search rules;
+}
 
 pub returns-clause-out : goal.returns-clause-out
 returns-clause-out c = let m = c.args.seat.now.seat.me in let cleared = c.take_sign_back.ensures.cleared in record {

@@ -13,15 +13,12 @@ loop-pair-init c = (
   refl,
 )
 
-pub sign-is_condemned-requires-clause-victim : goal.sign-is_condemned-requires-clause-victim
-sign-is_condemned-requires-clause-victim c =
-    victim_low _ _ c.args.owed.now c.args.seat.now.seat.me c.loop-pair.seat.seat.me _ _ c.loop-pair.invariant.1
-    c.requires.owed (owed_at c.args.owed.now c.loop-pair.pair-index c.loop-pair-test.true)
-
 pub sign-is_condemned-requires-clause-may : goal.sign-is_condemned-requires-clause-may
-sign-is_condemned-requires-clause-may c =
-    may_sign _ c.args.lock _ c.args.owed.now c.args.seat.now.seat.me c.loop-pair.seat.seat.me _ _ c.requires.at.inside
-    c.loop-pair.invariant.1 c.requires.owed (owed_at c.args.owed.now c.loop-pair.pair-index c.loop-pair-test.true)
+sign-is_condemned-requires-clause-may c = let owed = owed_at c.args.owed.now c.loop-pair.pair-index c.loop-pair-test.true in (
+  victim_low _ _ c.args.owed.now c.args.seat.now.seat.me c.loop-pair.seat.seat.me _ _ c.loop-pair.invariant.1 c.requires.owed owed,
+  may_sign _ c.args.lock _ c.args.owed.now c.args.seat.now.seat.me c.loop-pair.seat.seat.me _ _ c.requires.at.inside
+      c.loop-pair.invariant.1 c.requires.owed owed,
+)
 
 pub mark-requires : goal.mark-requires
 mark-requires c = let low = (c.requires.owed _ _ (owed_at c.args.owed.now c.loop-pair.pair-index c.loop-pair-test.true)).0 in
@@ -34,14 +31,14 @@ loop-pair-preserved c = (
       c.loop-pair.seat.seat.me c.sign-is_condemned.new.self.seat.me c.sign-is_condemned.result c.loop-pair-test.true
       c.loop-pair.invariant.1
       (noted_is c.sign-is_condemned.result c.loop-pair.seat.seat.me c.sign-is_condemned.new.self.seat.me _
-      c.sign-is_condemned.ensures.condemned c.sign-is_condemned.ensures.noted),
+      c.sign-is_condemned.ensures.hit c.sign-is_condemned.ensures.miss),
   c.sign-is_condemned.ensures.records ∙ c.loop-pair.invariant.2,
   marked_noted c.loop-pair.seat.seat.me c.sign-is_condemned.new.self.seat.me c.args.wake.now
       c.loop-pair.wake c.mark.new.marks c.sign-is_condemned.result _ _
       (c.who-who.ensures ∙ sym c.requires.at.seat.who
       ∙ sym (ap (λ (z : Sight). z.part.core.who) c.loop-pair.invariant.1.view))
       (noted_is c.sign-is_condemned.result c.loop-pair.seat.seat.me c.sign-is_condemned.new.self.seat.me _
-      c.sign-is_condemned.ensures.condemned c.sign-is_condemned.ensures.noted) c.loop-pair.invariant.3
+      c.sign-is_condemned.ensures.hit c.sign-is_condemned.ensures.miss) c.loop-pair.invariant.3
       c.mark.ensures.marked,
   c.mark.ensures.long ∙ c.loop-pair.invariant.4,
 )

@@ -39,12 +39,16 @@ returns-then-seat-who-clause-asked c = let m = c.args.seat.now.seat.me in let m1
 
 pub ask-requires-clause-may : goal.ask-requires-clause-may
 ask-requires-clause-may c = let m = c.args.seat.now.seat.me in
-    may_ask c.args.lock m c.first.new.self.seat.me c.args.seen c.in_ok-first.first _
-    (later_work c.args.lock (looks_again c.args.arrival) m.0.part.core
-    (sym c.looks_again.ensures ∙ c.if-not-looks_again.false) c.requires.at.working) c.requires.seen.sees
-    c.first.ensures.read (sym c.first.ensures.first ∙ c.in_ok-first.was)
-    (sym (read_who c.args.lock m c.first.new.self.seat.me _ c.first.ensures.read c.first.ensures.seat.who))
-    (sym c.seat.ensures ∙ c.if-seat-who.false ∙ c.who.ensures) (sym c.flags.ensures ∙ c.if-flags-ne-WAITERS.false)
+    record {
+      lock = c.requires.at.lock;
+      may = may_ask c.args.lock m c.first.new.self.seat.me c.args.seen c.in_ok-first.first _
+          (later_work c.args.lock (looks_again c.args.arrival) m.0.part.core
+          (sym c.looks_again.ensures ∙ c.if-not-looks_again.false) c.requires.at.working) c.requires.seen.sees
+          c.first.ensures.read (sym c.first.ensures.first ∙ c.in_ok-first.was)
+          (sym (read_who c.args.lock m c.first.new.self.seat.me _ c.first.ensures.read c.first.ensures.seat.who))
+          (sym c.seat.ensures ∙ c.if-seat-who.false ∙ c.who.ensures) (sym c.flags.ensures ∙ c.if-flags-ne-WAITERS.false);
+      valid = search rules;
+    }
 
 pub returns-then-not-ask-clause-asked : goal.returns-then-not-ask-clause-asked
 returns-then-not-ask-clause-asked c = let m = c.args.seat.now.seat.me in let m1 = c.first.new.self.seat.me in

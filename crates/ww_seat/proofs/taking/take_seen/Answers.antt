@@ -1,14 +1,19 @@
-use Rattle.std.proofs.Common.{arith}
+use Rattle.std.proofs.Common.{rules, ◌<◌, arith}
 use Rattle.ww_table.specs.Seat.{size_of}
 use Rattle.ww_seat.proofs.Outside.{room_inside}
 use Rattle.ww_seat.proofs.Working.{touched_lost_on_top}
 use Rattle.ww_seat.proofs.Took.{is_taken, is_taken_bare}
 use Rattle.ww_seat.proofs.taking.take_seen.Goals as goal
 
-pub take-requires-clause-room : goal.take-requires-clause-room
-take-requires-clause-room c = let at = c.requires.at.2 in
-    room_inside (size_of c.args.board.now) c.args.seat.now.seat.me c.args.lock at.orderly
-    (omega (arith, c.if-lock-from.true, c.from.ensures, c.size.ensures)) at.working.inside at.working.want.lacks
+pub take-requires-clause-may : goal.take-requires-clause-may
+take-requires-clause-may c = let at = c.requires.at.2 in
+    let low : c.args.lock < size_of c.args.board.now = omega (arith, c.if-lock-from.true, c.from.ensures, c.size.ensures) in record {
+      lock = low;
+      may = search rules;
+      valid = search rules;
+      list = at.orderly.list c.args.lock at.working.inside;
+      room = room_inside (size_of c.args.board.now) c.args.seat.now.seat.me c.args.lock at.orderly low at.working.inside at.working.want.lacks;
+    }
 
 pub returns-then-lock-from-clause-tried : goal.returns-then-lock-from-clause-tried
 returns-then-lock-from-clause-tried c = let at = c.requires.at.2 in let m = c.args.seat.now.seat.me in
@@ -28,7 +33,7 @@ returns-else-lock-from-clause-tried c = let at = c.requires.at.2 in let m = c.ar
         _,
         is_taken_bare (size_of c.args.board.now) c.args.lock m m1 at.orderly
             (omega (arith, c.if-lock-from.false, c.from.ensures, c.size.ensures)) at.working.inside
-            (c.take_bare_inside.ensures.took t),
+            (c.take_bare_inside.ensures.gone t),
       );
       lost = λ f. touched_lost_on_top _ c.args.lock m m1 at.orderly at.working.inside (c.take_bare_inside.ensures.lost f);
     }

@@ -8,9 +8,9 @@ use Rattle.ww_table.proofs.close.gather.Goals as goal
 pub returns : goal.returns
 returns c = let whole : c.args.seats.items ≡ c.pop.new.self.items ++ c.in-Some.last ∷ [] = search rules in
     let came = all_at (HasCome c.args.shared.now.table_id) c.pop.new.self.items [] c.in-Some.last
-    (subst (AllByRecursion (HasCome c.args.shared.now.table_id)) whole c.requires.come) in
+    (subst (AllByRecursion (HasCome c.args.shared.now.table_id)) whole c.requires.come.1) in
     let one = gathered_one _ c.in-Some.last c.come-token.result c.args.places.now c.come-token.new.places came
-    c.come-token.ensures.seat c.requires.free c.come-token.ensures.put in let put = c.come-token.ensures.put in
+    c.come-token.ensures.seat c.requires.room.1 c.come-token.ensures.put in let put = c.come-token.ensures.put in
     gathered_all _ c.args.seats.items c.pop.new.self.items c.in-Some.last _ _ _
     (subst (λ k. IsGathered c.args.shared.now.table_id (c.in-Some.last ∷ c.pop.new.self.items) k
     c.join_all.new.token c.join_all.new.places) put.size

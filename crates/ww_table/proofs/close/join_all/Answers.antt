@@ -3,7 +3,7 @@ use Rattle.std.specs.List.{AllByRecursion}
 use Rattle.ww_view.specs.View.{IsBare}
 use Rattle.ww_rule.specs.Steps.{with_seat}
 use Rattle.ww_rule.specs.declared.cells.Sight.{Sight}
-use Rattle.ww_table.specs.declared.seat.Seat16.{Seat16}
+use Rattle.ww_table.specs.declared.seat.Stepper.{Stepper}
 use Rattle.ww_rule.specs.Rule.{Sat}
 use Rattle.ww_table.specs.Closed.{HasCome, IsGathered}
 use Rattle.ww_rule.proofs.Seats.{joins}
@@ -14,7 +14,7 @@ use Rattle.ww_table.proofs.close.join_all.Goals as goal
 pub join_seat-requires : goal.join_seat-requires
 join_seat-requires c = let i = c.loop-seat.invariant in
     let step : c.loop-seat.seat-iterator.rest.items ≡ c.in-Some.seat ∷ c.next.new.self.rest.items = search rules in
-    let whole = ap (λ (l : List Seat16). c.loop-seat.yielded ++ l) (sym step) ∙ i.5 in
+    let whole = ap (λ (l : List Stepper). c.loop-seat.yielded ++ l) (sym step) ∙ i.5 in
     let came = all_at (HasCome c.args.shared.now.table_id) c.loop-seat.yielded c.next.new.self.rest.items
     c.in-Some.seat (subst (AllByRecursion (HasCome c.args.shared.now.table_id)) (sym whole) c.requires.come) in
     let is = c.come-other.ensures.seat in (
@@ -28,7 +28,7 @@ join_seat-requires c = let i = c.loop-seat.invariant in
 pub loop-seat-preserved : goal.loop-seat-preserved
 loop-seat-preserved c = let i = c.loop-seat.invariant in
     let step : c.loop-seat.seat-iterator.rest.items ≡ c.in-Some.seat ∷ c.next.new.self.rest.items = search rules in
-    let whole = ap (λ (l : List Seat16). c.loop-seat.yielded ++ l) (sym step) ∙ i.5 in
+    let whole = ap (λ (l : List Stepper). c.loop-seat.yielded ++ l) (sym step) ∙ i.5 in
     let came = all_at (HasCome c.args.shared.now.table_id) c.loop-seat.yielded c.next.new.self.rest.items
     c.in-Some.seat (subst (AllByRecursion (HasCome c.args.shared.now.table_id)) (sym whole) c.requires.come) in
     let is = c.come-other.ensures.seat in let put = c.come-other.ensures.put in let e = c.join_seat.ensures in

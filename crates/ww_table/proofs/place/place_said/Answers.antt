@@ -4,17 +4,12 @@ use Rattle.ww_table.proofs.place.place_said.Goals as goal
 
 pub fetch_add-requires : goal.fetch_add-requires
 fetch_add-requires g c = let r = c.requires in (
-  r.home,
+  r.at.0,
   (let z = c.args.board.now.sized.0 in let fits = c.args.board.now.fits in omega arith),
   places _ _ _ _ _
-      c.args.done.now r.seated r.said r.may,
+      c.args.done.now r.at.1 r.said r.may,
 )
 
 pub returns-clause-placed : goal.returns-clause-placed
-returns-clause-placed g c = (c.fetch_add.ensures.2 c.args.done.now c.requires.said).0
-
-pub returns-clause-above : goal.returns-clause-above
-returns-clause-above g c = (c.fetch_add.ensures.2 c.args.done.now c.requires.said).1
-
-pub returns-clause-few : goal.returns-clause-few
-returns-clause-few g c = (c.fetch_add.ensures.2 c.args.done.now c.requires.said).2
+returns-clause-placed g c = let told = c.fetch_add.ensures.2 c.args.done.now c.requires.said in
+    record { placed = told.0; above = told.1; few = told.2 }

@@ -1,4 +1,4 @@
-use Rattle.std.proofs.Common.{◌≡◌, ℕ, ◌<◌, true, List, length, ap, sym, subst, ◌∙◌, refl}
+use Rattle.std.proofs.Common.{rules, ◌≡◌, ℕ, ◌<◌, true, List, length, ap, sym, subst, ◌∙◌, refl}
 use Rattle.std.specs.Prelude.{vec_capacity}
 use Rattle.std.specs.Global.{Vec}
 use Rattle.ww_plain.specs.declared.history.Record.{Record}
@@ -23,9 +23,11 @@ use Rattle.ww_seat.proofs.seats.Seat.commit.Goals as goal
 
 pub place-place-requires-clause-may : goal.place-place-requires-clause-may
 place-place-requires-clause-may c = let b = c.args.board.now in let q = c.self.inside.seat in let graph = c.args.before.now.value in
-    let may = may_commit b c.args.done graph c.args.changes.now q c.args.self.now c.self.view_is c.requires.may in
-    may_place (size_of b) q.seat.me c.args.done graph (orderly_at b q c.args.self.now c.self.view_is c.self.invariant c.requires.at)
-    may.next may.size may.held may.away may.owner may.caller may.seq may.fewer
+    let may = may_commit b c.args.done graph c.args.changes.now q c.args.self.now c.self.view_is c.requires.may in (
+      may_place (size_of b) q.seat.me c.args.done graph (orderly_at b q c.args.self.now c.self.view_is c.self.invariant c.requires.at)
+          may.next may.size may.held may.away may.owner may.caller may.seq may.fewer,
+      search rules,
+    )
 
 pub change-requires-clause-may : goal.change-requires-clause-may
 change-requires-clause-may c = let b = c.args.board.now in let q = c.self.inside.seat in let graph : List Node = c.args.before.now.value in

@@ -1,6 +1,6 @@
-use Rattle.std.proofs.Common.{refl, ap, sym, subst, length, ◌∙◌}
+use Rattle.std.proofs.Common.{refl, sym, subst, length}
 use Rattle.ww_seat.specs.Orderly.{IsOrderly}
-use Rattle.ww_seat.specs.Standings.{Standing, standing_of, view_in, IsGoneInToGive, MayRelease}
+use Rattle.ww_seat.specs.Standings.{Standing, standing_of, IsGoneInToGive, MayRelease}
 use Rattle.ww_seat.proofs.Gives.{owner_enters}
 use Rattle.ww_seat.proofs.Kept.{kept, seated_at}
 use Rattle.ww_seat.proofs.Outside.{room_outside}
@@ -11,24 +11,18 @@ use Rattle.ww_seat.proofs.seats.Seat.enter_owned.Goals as goal
 pub enter-requires-clause-may : goal.enter-requires-clause-may
 enter-requires-clause-may c = let q = c.self.inside.seat in
     let may = subst (MayRelease c.args.board.now c.args.lock) (sym c.self.view_is) c.requires.may in
-    owner_enters q.seat.me q.seat.me c.args.lock refl may.away may.owner
-
-pub enter-requires-clause-room : goal.enter-requires-clause-room
-enter-requires-clause-room c = room_outside _ c.self.inside.seat.seat.me c.self.invariant.orderly
-    (ap (λ (s : Standing). (view_in s).inside) c.self.view_is ∙ c.requires.may.away.0)
+    record {
+      lock = may.there;
+      may = owner_enters q.seat.me q.seat.me c.args.lock refl may.away may.owner;
+      room = room_outside _ q.seat.me c.self.invariant.orderly may.away.0;
+    }
 
 went : (c : After-enter) → IsOrderly (length c.self.inside.seat.seat.me.0.held) c.enter.new.self.seat.me
     × IsGoneInToGive (standing_of c.self.inside.seat) c.args.lock c.enter.result (standing_of c.enter.new.self)
 went c = let q = c.self.inside.seat in
     let may = subst (MayRelease c.args.board.now c.args.lock) (sym c.self.view_is) c.requires.may in
     gone_in_to_give _ c.args.lock c.enter.result q c.enter.new.self c.args.board.now
-    (record {
-      seated = seated_at c.args.board.now q c.args.self.now c.self.view_is c.self.invariant c.requires.at;
-      seat = c.enter.ensures.seat;
-      records = c.enter.ensures.records;
-      entered = c.enter.ensures.entered;
-      lost = c.enter.ensures.lost;
-    }) c.self.invariant.orderly may.away may.owner
+    (seated_at c.args.board.now q c.args.self.now c.self.view_is c.self.invariant c.requires.at) c.enter.ensures c.self.invariant.orderly may.away may.owner
 
 pub invariant_of-self : goal.invariant_of-self
 invariant_of-self c = kept _ _ c.enter.new.self c.enter.ensures.seat (went c).0

@@ -10,24 +10,17 @@ use Rattle.ww_seat.proofs.seats.Seat.enter_wanted.Goals as goal
 
 pub enter-requires-clause-may : goal.enter-requires-clause-may
 enter-requires-clause-may c = let q = c.self.inside.seat in
-    wanter_enters _ c.args.lock q.seat.me (outside_of c.args.board.now c.args.lock q c.args.self.now c.self.view_is c.self.invariant c.requires.may)
-
-pub enter-requires-clause-room : goal.enter-requires-clause-room
-enter-requires-clause-room c = let q = c.self.inside.seat in
-    room_outside _ q.seat.me c.self.invariant.orderly
-    (outside_of c.args.board.now c.args.lock q c.args.self.now c.self.view_is c.self.invariant c.requires.may).outside
+    let out = outside_of c.args.board.now c.args.lock q c.args.self.now c.self.view_is c.self.invariant c.requires.may in record {
+      lock = c.requires.may.there;
+      may = wanter_enters _ c.args.lock q.seat.me out;
+      room = room_outside _ q.seat.me c.self.invariant.orderly out.outside;
+    }
 
 went : (c : After-enter) → IsOrderly (length c.self.inside.seat.seat.me.0.held) c.enter.new.self.seat.me
     × IsGoneIn (standing_of c.self.inside.seat) c.args.lock c.enter.result (standing_of c.enter.new.self)
 went c = let q = c.self.inside.seat in
     gone_in _ c.args.lock c.enter.result q c.enter.new.self c.args.board.now
-    (record {
-      seated = seated_at c.args.board.now q c.args.self.now c.self.view_is c.self.invariant c.requires.at;
-      seat = c.enter.ensures.seat;
-      records = c.enter.ensures.records;
-      entered = c.enter.ensures.entered;
-      lost = c.enter.ensures.lost;
-    })
+    (seated_at c.args.board.now q c.args.self.now c.self.view_is c.self.invariant c.requires.at) c.enter.ensures
     (outside_of c.args.board.now c.args.lock q c.args.self.now c.self.view_is c.self.invariant c.requires.may)
 
 pub invariant_of-self : goal.invariant_of-self

@@ -1,18 +1,23 @@
 use Rattle.std.proofs.Common.{ℕ, ◌<◌, ap, sym, subst, length, ◌∙◌}
-use Rattle.ww_view.specs.View.{owns, IsAway}
+use Rattle.ww_view.specs.View.{IsAway}
 use Rattle.ww_seat.specs.Calls.{HasStayedOut}
 use Rattle.ww_seat.specs.Orderly.{IsOrderly}
-use Rattle.ww_seat.specs.Standings.{Standing, standing_of, view_in, size_in, HasLetNode, IsGive}
+use Rattle.ww_seat.specs.Standings.{Standing, standing_of, view_in, size_in, HasLetNode, IsGive, MayReleaseNode}
 use Rattle.ww_seat.proofs.Gives.{node_out, gave_or_kept}
 use Rattle.ww_seat.proofs.Kept.{kept, seated_at, back_at_once}
 use Rattle.ww_seat.proofs.seats.Seat.give.Goals.{After-give_free}
 use Rattle.ww_seat.proofs.seats.Seat.give.Goals as goal
 
-pub give_free-requires-clause-out : goal.give_free-requires-clause-out
-give_free-requires-clause-out c = let m = c.self.inside.seat.seat.me in
-    node_out (length m.0.held) m c.args.lock c.self.invariant.orderly
-    (subst (λ (k : ℕ). c.args.lock < k) (sym (ap (λ (s : Standing). size_in s) c.self.view_is ∙ c.requires.at.size)) c.requires.may.there)
-    (ap (λ (s : Standing). owns (view_in s) c.args.lock) c.self.view_is ∙ c.requires.may.owner)
+pub give_free-requires-clause-may : goal.give_free-requires-clause-may
+give_free-requires-clause-may c = let m = c.self.inside.seat.seat.me in
+    let may = subst (MayReleaseNode c.args.board.now c.args.lock) (sym c.self.view_is) c.requires.may in record {
+      lock = may.there;
+      away = may.away;
+      owner = may.owner;
+      out = node_out (length m.0.held) m c.args.lock c.self.invariant.orderly
+          (subst (λ (k : ℕ). c.args.lock < k) (sym (ap (λ (s : Standing). size_in s) c.self.view_is ∙ c.requires.at.size)) may.there)
+          may.owner;
+    }
 
 after : (c : After-give_free) → let m = c.self.inside.seat.seat.me in let m' = c.give_free.new.self.seat.me in
     IsOrderly (length m.0.held) m' × IsAway m'.0.part.core × HasStayedOut m.0.part.core m'.0.part.core

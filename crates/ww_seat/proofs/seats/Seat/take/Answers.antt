@@ -1,15 +1,18 @@
 use Rattle.std.proofs.Common.{ℕ, ◌<◌, ap, sym, subst, length, ◌∙◌, append-nil, []}
 use Rattle.ww_view.specs.View.{owns}
-use Rattle.ww_seat.specs.Standings.{Standing, view_in, size_in}
+use Rattle.ww_seat.specs.Standings.{Standing, view_in, size_in, MayTake}
 use Rattle.ww_seat.proofs.AtOnce.{IsTaken, taken_at_once}
 use Rattle.ww_seat.proofs.Kept.{kept}
 use Rattle.ww_seat.proofs.Outside.{room_outside}
 use Rattle.ww_seat.proofs.seats.Seat.take.Goals.{After-top_node}
 use Rattle.ww_seat.proofs.seats.Seat.take.Goals as goal
 
-pub take_free-requires-clause-room : goal.take_free-requires-clause-room
-take_free-requires-clause-room c = room_outside _ c.self.inside.seat.seat.me c.self.invariant.orderly
-    (ap (λ (s : Standing). (view_in s).inside) c.self.view_is ∙ c.requires.may.may.away.0)
+pub take_free-requires-clause-may : goal.take_free-requires-clause-may
+take_free-requires-clause-may c = let may = subst (MayTake c.args.board.now c.args.lock) (sym c.self.view_is) c.requires.may in record {
+  lock = may.there;
+  may = may.may;
+  room = room_outside _ c.self.inside.seat.seat.me c.self.invariant.orderly may.may.away.0;
+}
 
 taken : (c : After-top_node) → IsTaken (length c.self.inside.seat.seat.me.0.held) c.args.lock c.top_node.result
     c.self.inside.seat.seat.me c.top_node.new.self.seat.me

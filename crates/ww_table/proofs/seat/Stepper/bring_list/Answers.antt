@@ -1,0 +1,23 @@
+use Rattle.std.proofs.Common.{ap, refl, ◌∙◌}
+use Rattle.ww_rule.specs.declared.cells.Cell.TheVariants.{Line}
+use Rattle.ww_rule.specs.Out.{slot_of}
+use Rattle.ww_rule.proofs.InsideTurning.{list_brought}
+use Rattle.ww_table.proofs.Seated.{seated_as}
+use Rattle.ww_table.proofs.seat.Stepper.bring_list.Goals as goal
+
+pub bring-requires-clause-out : goal.bring-requires-clause-out
+bring-requires-clause-out c = (
+  Line c.args.self.now.seat.me.0.part.core.list,
+  ap (slot_of c.args.self.now.seat.me.1) c.list_slot-slot.ensures ∙ c.requires.may.list,
+)
+
+pub returns : goal.returns
+returns c = let b = c.bring.ensures in let was = c.args.self.now.seat.me.1 in
+    let l = list_brought was was c.bring.new.seat.me.1 b.slots.1 c.args.lock c.list_slot-slot.result
+    c.args.self.now.seat.me.0.part.core.list b.slots.0 refl c.list_slot-slot.ensures c.requires.may.list b.slots.2
+    b.slots.3 b.slots.4 in record {
+      slot = c.list_slot-slot.ensures;
+      same = refl;
+      seat = λ t was. seated_as c.args.self.now.seat.me.0 was b.home.0 b.view refl refl b.order;
+      read = record { others = b.slots.1; apart = l.0; now = λ i. (b.view i, l.1 i) };
+    }

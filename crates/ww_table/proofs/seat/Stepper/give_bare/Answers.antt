@@ -1,0 +1,38 @@
+use Rattle.std.proofs.Common.{refl, ◌∙◌, inl, inr, rules}
+use Rattle.ww_plain.proofs.Members.{true_or_false}
+use Rattle.ww_view.specs.View.{owns}
+use Rattle.ww_view.specs.Made.{fast_given}
+use Rattle.ww_rule.specs.Steps.{knowing, keeping}
+use Rattle.ww_rule.proofs.Moves.{gives_bare}
+use Rattle.ww_table.proofs.Seated.{has_lock, stepped, own_taker, taker_valid, by_rule, by_view, many_locks}
+use Rattle.ww_table.proofs.seat.Stepper.give_bare.Goals as goal
+
+pub compare_exchange-found-requires : goal.compare_exchange-found-requires
+compare_exchange-found-requires c = let s = c.requires.at in let lock = c.requires.may.0 in let b = c.args.board.now in
+    let word = c.packed_word.ensures b.locks (many_locks b lock.packed) in (
+      s.home,
+      has_lock b c.args.lock _ lock.lock word,
+      gives_bare _ _ _ _ c.args.lock _ _ (word ∙ by_rule b c.args.lock) lock.bare lock.lock s.seated c.requires.may.1
+          (taker_valid _ c.args.self.now s) (own_taker _ c.args.self.now s),
+    )
+
+pub returns-then-found-own : goal.returns-then-found-own
+returns-then-found-own c = let e = c.compare_exchange-found.ensures in let b = c.args.board.now in
+    let told = e.2 c.args.lock (c.packed_word.ensures b.locks (many_locks b c.requires.may.0.packed) ∙ by_view b _ c.requires.at c.args.lock _ refl) in
+    let s = c.requires.at in let v = c.args.self.now.seat.me.0 in record {
+      seat = elim (true_or_false (owns v.part.core c.args.lock)) [
+        | inl own ↦ stepped (keeping v) s e.0 (told.2 c.if-found-own.true own) refl
+        | inr lacks ↦ stepped v s e.0 (told.3 c.if-found-own.true lacks) refl
+      ];
+      records = refl;
+      tried = search rules;
+    }
+
+pub returns : goal.returns
+returns c = let e = c.compare_exchange-found.ensures in let b = c.args.board.now in
+    let told = e.2 c.args.lock (c.packed_word.ensures b.locks (many_locks b c.requires.may.0.packed) ∙ by_view b _ c.requires.at c.args.lock _ refl) in
+    let now = told.1 c.if-found-own.false in let v = c.args.self.now.seat.me.0 in record {
+      seat = stepped (knowing v (fast_given v.part.core c.args.lock)) c.requires.at e.0 now refl;
+      records = refl;
+      tried = search rules;
+    }

@@ -1,0 +1,16 @@
+use Rattle.std.proofs.Common.{ℕ, ◌+◌, arith, ap, refl, ◌∙◌}
+use Rattle.ww_rule.proofs.InsideSteps.{cancels}
+use Rattle.ww_table.proofs.Seated.{either, has_sign, sign_by_view}
+use Rattle.ww_table.proofs.seat.Stepper.set_cancel.Goals as goal
+
+pub compare_exchange-requires : goal.compare_exchange-requires
+compare_exchange-requires c = let s = c.requires.at in let few = c.requires.may.0 in (
+  s.home,
+  has_sign c.args.board.now c.args.self.now c.args.victim _ s (let same = s.seats in omega arith) (let word = c.cancel_word.ensures in omega arith),
+  cancels _ _ _ _ c.args.victim _ _ (c.cancel_word.ensures ∙ ap (λ (i : ℕ). i + 1) (sign_by_view c.args.victim s))
+      few s.seated c.requires.may.1 (let w = s.who in omega arith),
+)
+
+pub returns : goal.returns
+returns c = let s = c.requires.at in let e = c.compare_exchange.ensures in
+    either s e.0 (e.2 c.args.victim (c.cancel_word.ensures ∙ ap (λ (i : ℕ). i + 1) (sign_by_view c.args.victim s))) (refl, refl)

@@ -1,0 +1,38 @@
+use Rattle.std.proofs.Common.{refl, ◌∙◌, inl, inr, rules}
+use Rattle.ww_plain.proofs.Members.{true_or_false}
+use Rattle.ww_view.specs.View.{owns}
+use Rattle.ww_view.specs.Made.{fast_taken, fast_missed}
+use Rattle.ww_rule.specs.Steps.{knowing}
+use Rattle.ww_rule.proofs.Moves.{takes_bare}
+use Rattle.ww_table.proofs.Seated.{has_lock, stepped, own_taker, by_rule, by_view, many_locks}
+use Rattle.ww_table.proofs.seat.Stepper.take_bare.Goals as goal
+
+pub compare_exchange-found-requires : goal.compare_exchange-found-requires
+compare_exchange-found-requires c = let s = c.requires.at in let lock = c.requires.may.0 in let b = c.args.board.now in
+    let word = c.packed_word.ensures b.locks (many_locks b lock.packed) in (
+      s.home,
+      has_lock b c.args.lock _ lock.lock word,
+      takes_bare _ _ _ _ c.args.lock _ _ (word ∙ by_rule b c.args.lock) lock.bare lock.lock s.seated c.requires.may.1
+          (own_taker _ c.args.self.now s),
+    )
+
+pub returns : goal.returns
+returns c = let e = c.compare_exchange-found.ensures in let b = c.args.board.now in
+    let told = e.2 c.args.lock (c.packed_word.ensures b.locks (many_locks b c.requires.may.0.packed) ∙ by_view b _ c.requires.at c.args.lock _ refl) in
+    let s = c.requires.at in let v = c.args.self.now.seat.me.0 in record {
+      seat = elim (true_or_false (owns v.part.core c.args.lock)) [
+        | inl own ↦ stepped v s e.0 (told.2 c.if-found-eq0.false own) refl
+        | inr lacks ↦ stepped (knowing v (fast_missed v.part.core)) s e.0 (told.3 c.if-found-eq0.false lacks) refl
+      ];
+      records = refl;
+      tried = search rules;
+    }
+
+pub returns-then-found-eq0 : goal.returns-then-found-eq0
+returns-then-found-eq0 c = let e = c.compare_exchange-found.ensures in let b = c.args.board.now in
+    let told = e.2 c.args.lock (c.packed_word.ensures b.locks (many_locks b c.requires.may.0.packed) ∙ by_view b _ c.requires.at c.args.lock _ refl) in
+    let now = told.1 c.if-found-eq0.true in let v = c.args.self.now.seat.me.0 in record {
+      seat = stepped (knowing v (fast_taken v.part.core c.args.lock)) c.requires.at e.0 now refl;
+      records = refl;
+      tried = search rules;
+    }
