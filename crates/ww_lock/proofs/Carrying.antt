@@ -21,8 +21,8 @@ use Rattle.ww_seat.specs.Standings.{Standing, view_in, size_in, IsAt, IsBack, Is
 use Rattle.ww_seat.specs.declared.bell.Bell.{Bell}
 use Rattle.ww_seat.specs.declared.bell.Wire.{Wire}
 use Rattle.ww_seat.specs.declared.patience.Patience.{Patience}
-use Rattle.ww_seat.specs.declared.waiting.Stop.{Stop}
-use Rattle.ww_seat.specs.declared.waiting.Stop.TheVariants.{Deadlk, Interrupted}
+use Rattle.ww_seat.specs.declared.waiting.NoLock.{NoLock}
+use Rattle.ww_seat.specs.declared.waiting.NoLock.TheVariants.{Deadlk, Interrupted}
 use Rattle.ww_seat.specs.declared.waits.Waits.{Waits}
 use Rattle.ww_seat.specs.declared.waits.Waits.TheVariants.{UntilCancelled}
 use Rattle.ww_seat.proofs.Among.{others_among, owns_more}
@@ -253,11 +253,11 @@ holds_one h c one = some_among (held_of (carried_of h)) one.0 (sym (c.suits.owne
     some_among (m ∷ ms) n e = omega arith
 
 -- it came without the lock, after one try in vain
-pub record TurnsAway (h g : Inside) (n : ℕ) (waits : Waits) (why : Stop) : Type 0 where
+pub record TurnsAway (h g : Inside) (n : ℕ) (waits : Waits) (why : NoLock) : Type 0 where
   pub carries : Carries g
   pub came : (s : Holding) → holding_of (carried_of h) ≡ tried s → HasReturned s n waits (Err why) (carried_of g)
 
-pub turned_away : (h : Inside) (s' : Standing) (p : Patience) (bells : Vec Bell) (n : ℕ) (waits : Waits) (why : Stop)
+pub turned_away : (h : Inside) (s' : Standing) (p : Patience) (bells : Vec Bell) (n : ℕ) (waits : Waits) (why : NoLock)
     → Carries h → MayStillCommit (carried_of h) → is_among n (held_of (carried_of h)) ≡ false → IsBack h.seat s'
     → IsAlike h (record h { seat = s'; patience = p; bells = bells }) → IsTurnedAway h.seat.me n why s'.me → MayStop 16 waits why
     → (waits ≡ UntilCancelled → (view_in s').deaf ≡ (view_in h.seat).deaf)
@@ -302,7 +302,7 @@ turned_away h s' p bells n waits (Interrupted by) c f new b alike d may still =
     }
 
 -- ... as its seat tells it, which had its bells as a slice
-pub waits_in_vain : (h : Inside) (b : Board) (s : Standing) (p : Patience) (was now : List Bell) (n m : ℕ) (waits : Waits) (why : Stop)
+pub waits_in_vain : (h : Inside) (b : Board) (s : Standing) (p : Patience) (was now : List Bell) (n m : ℕ) (waits : Waits) (why : NoLock)
     → Carries h → MayLock n (carried_of h) → IsWait b h.seat m waits (Err why) s → StaysEven h.patience was s p now
     → was ≡ h.bells.items → m ≡ n → b.table.shared.key.places ≡ 16
     → TurnsAway h (record h { seat = s; patience = p; bells = with_items h.bells now }) n waits why

@@ -12,8 +12,8 @@ use Rattle.ww_rule.specs.Rule.{own_of}
 use Rattle.ww_seat.specs.Accounts.{Account, account_of}
 use Rattle.ww_seat.specs.Calls.{HasMet}
 use Rattle.ww_seat.specs.Standings.{Standing, view_in}
-use Rattle.ww_seat.specs.declared.waiting.Stop.{Stop}
-use Rattle.ww_seat.specs.declared.waiting.Stop.TheVariants.{Deadlk, Interrupted}
+use Rattle.ww_seat.specs.declared.waiting.NoLock.{NoLock}
+use Rattle.ww_seat.specs.declared.waiting.NoLock.TheVariants.{Deadlk, Interrupted}
 use Rattle.ww_lock.specs.Holding.{Holding}
 
 -- Its seat; the parkers that its bells ring, in their order; how many contexts and solos it may still start; and the graph
@@ -97,6 +97,6 @@ pub record MayLockAlone (n : ℕ) (c : Carried) : Type 0 where
 
 -- what its seat has met where it came without lock n: an older context of the stamp that it tells; or nothing, where its
 -- wait was cancelled
-abbrev pub HasMetSo : ℕ → Stop → Carried → Type 0
+abbrev pub HasMetSo : ℕ → NoLock → Carried → Type 0
 HasMetSo n (Deadlk k) c = HasMet n k (known_of c)
 HasMetSo n (Interrupted by) c = met_of c ≡ None

@@ -13,8 +13,8 @@ use Rattle.ww_lock.specs.declared.interruptible.Halt.{Halt}
 use Rattle.ww_lock.specs.declared.interruptible.Halt.TheVariants as halt
 use Rattle.ww_lock.specs.declared.acquiring.Try.{Try}
 use Rattle.ww_lock.specs.declared.acquiring.Try.TheVariants as try
-use Rattle.ww_seat.specs.declared.waiting.Stop.{Stop}
-use Rattle.ww_seat.specs.declared.waiting.Stop.TheVariants as seat
+use Rattle.ww_seat.specs.declared.waiting.NoLock.{NoLock}
+use Rattle.ww_seat.specs.declared.waiting.NoLock.TheVariants as seat
 use Rattle.ww_seat.specs.declared.waits.Waits.{Waits}
 use Rattle.ww_seat.specs.declared.waits.Waits.TheVariants.{UntilCancelled}
 use Rattle.ww_view.specs.May.{WantsSigns}
@@ -94,7 +94,7 @@ pub record IsInterrupted (s : Holding) (n by : ℕ) (a : Holding) : Type 0 where
   pub told : a ≡ interrupted_by s n by
 
 -- why a lock wasn't taken, told of a node that wasn't held
-abbrev pub IsStopOf : Holding → ℕ → Stop → Holding → Type 0
+abbrev pub IsStopOf : Holding → ℕ → NoLock → Holding → Type 0
 IsStopOf s n (seat.Deadlk k) a = (a ≡ backed_off (having_slept s a.deaf)) × (1 ≤ k) × (k < s.stamp) × (1 ≤ length s.held)
 IsStopOf s n (seat.Interrupted by) a = IsInterrupted s n by a
 
@@ -202,7 +202,7 @@ IsTried c n true c' = MayStillCommit c' × IsTaken (holding_of c) n (holding_of 
 IsTried c n false c' = HasLost n c' × (holding_of c' ≡ tried (holding_of c)) × (met_of c' ≡ met_of c)
 
 -- what a call that takes lock n came to, from a state that hadn't tried yet: it has the lock; or why not
-abbrev pub HasReturned : Holding → ℕ → Waits → Result (Unit {0}) Stop → Carried → Type 0
+abbrev pub HasReturned : Holding → ℕ → Waits → Result (Unit {0}) NoLock → Carried → Type 0
 HasReturned s n waits (Ok _) c' = MayStillCommit c' × IsHeeding waits s (holding_of c') × IsTaken s n (holding_of c') × (met_of c' ≡ None)
 HasReturned s n waits (Err why) c' = MayStillCommit c' × IsHeeding waits s (holding_of c') × IsStopOf s n why (holding_of c')
     × HasMetSo n why c' × MayStop 16 waits why

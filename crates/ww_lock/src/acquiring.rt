@@ -9,7 +9,7 @@ use crate::world::World;
 use std::marker::{Model, PhantomData};
 use std::sync::Wait;
 use ww_plain::Node;
-use ww_seat::{Stop, Waits};
+use ww_seat::{NoLock, Waits};
 
 /// A context that takes locks. Its seat has noted no older context for which it had to die.
 pub struct Acquiring {
@@ -125,12 +125,15 @@ impl Acquiring {
     {
         match hand.wait_for(rt, world, n, waits) {
             Ok(()) => Interruptible::Locked(Acquiring { hand }),
-            Err(Stop::Deadlk(met)) => Interruptible::Deadlk(Backoff {
+            Err(NoLock::Deadlk(met)) => Interruptible::Deadlk(Backoff {
                 hand,
                 contended: n,
                 met,
             }),
-            Err(Stop::Interrupted(by)) => Interruptible::Interrupted(Acquiring { hand }, by as u8),
+            Err(NoLock::Interrupted(by)) => Interruptible::Interrupted(
+                Acquiring { hand },
+                by as u8,
+            ),
         }
     }
 

@@ -6,7 +6,7 @@ use crate::pass::Pass;
 use crate::world::World;
 use std::marker::Model;
 use std::sync::Wait;
-use ww_seat::{Stop, Waits};
+use ww_seat::{NoLock, Waits};
 
 /// A context that got EDEADLK and has released all locks. It may take the lock that it couldn't get, or end.
 pub struct Contended {
@@ -67,8 +67,8 @@ impl Contended {
         } = self;
         match hand.take(rt, world, contended, waits) {
             Ok(()) => Ok(Acquiring { hand }),
-            Err(Stop::Interrupted(by)) => Err((Contended { hand, contended }, by as u8)),
-            Err(Stop::Deadlk(_)) => unreachable!(),
+            Err(NoLock::Interrupted(by)) => Err((Contended { hand, contended }, by as u8)),
+            Err(NoLock::Deadlk(_)) => unreachable!(),
         }
     }
 

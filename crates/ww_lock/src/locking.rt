@@ -3,7 +3,7 @@
 use crate::hand::{Hand, add};
 use crate::world::World;
 use std::sync::Wait;
-use ww_seat::{Stop, Waits};
+use ww_seat::{NoLock, Waits};
 
 impl Hand {
     ghost use Rattle.std.specs.Prelude.{◌≡◌, ◌<◌, ◌≤◌, ◌∷◌, [], true, false, length, None};
@@ -59,7 +59,7 @@ impl Hand {
         world: &World,
         n: u8,
         waits: Waits,
-    ) -> Result<(), Stop>
+    ) -> Result<(), NoLock>
         requires home { IsAtHome (holding_of self.old) world.now }
         requires may { HasLost n self.old }
         ensures { (s : Holding) → holding_of self.old ≡ tried s → HasReturned s n waits result self.new }
@@ -84,7 +84,7 @@ impl Hand {
         world: &World,
         n: u8,
         waits: Waits,
-    ) -> Result<(), Stop>
+    ) -> Result<(), NoLock>
         requires home { IsAtHome (holding_of self.old) world.now }
         requires may { MayLock n self.old }
         ensures { HasReturned (holding_of self.old) n waits result self.new }

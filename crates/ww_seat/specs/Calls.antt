@@ -18,8 +18,8 @@ use Rattle.ww_table.specs.declared.seat.Taking.TheVariants.{Took, Had, Missed}
 use Rattle.ww_table.specs.declared.seat.Giving.{Giving}
 use Rattle.ww_table.specs.declared.seat.Giving.TheVariants.{Gave, Kept, Lacked}
 use Rattle.ww_seat.specs.Accounts.{Account, account_of, having_tried, having_taken, having_given, having_died, having_stopped, having_begun, having_ended, having_committed}
-use Rattle.ww_seat.specs.declared.waiting.Stop.{Stop}
-use Rattle.ww_seat.specs.declared.waiting.Stop.TheVariants.{Deadlk, Interrupted}
+use Rattle.ww_seat.specs.declared.waiting.NoLock.{NoLock}
+use Rattle.ww_seat.specs.declared.waiting.NoLock.TheVariants.{Deadlk, Interrupted}
 use Rattle.ww_seat.specs.declared.waits.Waits.{Waits}
 use Rattle.ww_seat.specs.declared.waits.Waits.TheVariants.{UntilCancelled}
 
@@ -103,12 +103,12 @@ pub record HasStopped (m : Sat) (n by : ℕ) (m' : Sat) : Type 0 where
   pub unmet : m'.0.part.core.met ≡ None
 
 -- why it came without the lock
-abbrev pub IsTurnedAway : Sat → ℕ → Stop → Sat → Type 0
+abbrev pub IsTurnedAway : Sat → ℕ → NoLock → Sat → Type 0
 IsTurnedAway m n (Deadlk k) m' = HasToDie m n k m'
 IsTurnedAway m n (Interrupted by) m' = HasStopped m n by m'
 
 -- only a wait until a cancel is interrupted
-abbrev pub MayStop : ℕ → Waits → Stop → Type 0
+abbrev pub MayStop : ℕ → Waits → NoLock → Type 0
 MayStop seats waits (Deadlk k) = Unit {0}
 MayStop seats waits (Interrupted by) = (waits ≡ UntilCancelled) × (by < seats)
 

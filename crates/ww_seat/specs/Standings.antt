@@ -31,7 +31,7 @@ use Rattle.ww_seat.specs.declared.look.Attempt.{Attempt}
 use Rattle.ww_seat.specs.declared.look.Attempt.TheVariants.{Lost, Ended}
 use Rattle.ww_seat.specs.declared.look.Look.{Look}
 use Rattle.ww_seat.specs.declared.patience.Patience.{Patience}
-use Rattle.ww_seat.specs.declared.waiting.Stop.{Stop}
+use Rattle.ww_seat.specs.declared.waiting.NoLock.{NoLock}
 use Rattle.ww_seat.specs.declared.waits.Waits.{Waits}
 use Rattle.ww_seat.specs.declared.waits.Waits.TheVariants.{UntilCancelled}
 use Rattle.ww_seat.specs.Bells.{sleeps_at, AreBellsOf, ArePaid, ArePlacedAlike, HasRungHeir, HaveRung, IsRung, OnlyRing, heard}
@@ -175,7 +175,7 @@ pub record MayWaitWith (board : Board) (s : Standing) (patience : Patience) (bel
   pub even : IsEven s.me patience bells
 
 -- what a wait came to: the lock with its node, or why not
-abbrev pub HasWaited : ℕ → Sat → ℕ → Waits → Result Node Stop → Sat → Type 0
+abbrev pub HasWaited : ℕ → Sat → ℕ → Waits → Result Node NoLock → Sat → Type 0
 HasWaited seats m n waits (Ok x) m' = HasTaken m n x m'
 HasWaited seats m n waits (Err why) m' = IsTurnedAway m n why m' × MayStop seats waits why
 
@@ -186,7 +186,7 @@ pub record StaysEven (p : Patience) (bells : List Bell) (s' : Standing) (p' : Pa
   pub even : IsEven s'.me p' bells'
 
 -- a wait came to its end; one until a cancel never slept without having looked for that
-pub record IsWait (board : Board) (s : Standing) (n : ℕ) (waits : Waits) (r : Result Node Stop) (s' : Standing) : Type 0 where
+pub record IsWait (board : Board) (s : Standing) (n : ℕ) (waits : Waits) (r : Result Node NoLock) (s' : Standing) : Type 0 where
   pub back : IsBack s s'
   pub came : HasWaited board.table.shared.key.places s.me n waits r s'.me
   pub deaf : waits ≡ UntilCancelled → (view_in s').deaf ≡ (view_in s).deaf

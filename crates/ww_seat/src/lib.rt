@@ -29,6 +29,6 @@ pub use look::{Arrival, Attempt, Look};
 pub use patience::{Patience, Waited};
 pub use resting::{MOST_GLANCES, MOST_PAUSES, Memory, Rest, Stay, limits};
 pub use seats::Seat;
-pub use waiting::Stop;
+pub use waiting::NoLock;
 pub use waits::Waits;
 pub use wake::mark;

@@ -5,7 +5,7 @@ use crate::bell::Bell;
 use crate::committing::NodeChange;
 use crate::look::{Arrival, Attempt, Look};
 use crate::patience::Patience;
-use crate::waiting::Stop;
+use crate::waiting::NoLock;
 use crate::waits::Waits;
 use std::alloc::AllocError;
 use std::marker::Model;

@@ -12,7 +12,7 @@ use ww_table::Board;
 
 /// Why a waiter came without the lock.
 #[derive(Clone, Copy)]
-pub enum Stop {
+pub enum NoLock {
     /// It had to die, for this older stamp.
     Deadlk(u64),
     /// This seat called it off.
@@ -37,7 +37,7 @@ impl Seat {
         waits: Waits,
         patience: &mut Patience,
         bells: &mut [Bell],
-    ) -> Result<Node, Stop>
+    ) -> Result<Node, NoLock>
         requires at { IsAt board.now self.old × MayWaitWith board.now self.old patience.old bells.old }
         requires may { MayWait board.now lock self.old }
         ensures waited { IsWait board.now self.old lock waits result self.new }
@@ -57,7 +57,7 @@ impl Seat {
         waits: Waits,
         patience: &mut Patience,
         bells: &mut [Bell],
-    ) -> Result<Node, Stop>
+    ) -> Result<Node, NoLock>
         requires at { IsAt board.now self.old × MayWaitWith board.now self.old patience.old bells.old }
         requires may { MayGoIn board.now lock self.old × ((view_in self.old).waits ≡ 0) × OwnsNodes self.old }
         ensures waited { IsWait board.now self.old lock waits result self.new }
@@ -70,9 +70,9 @@ impl Seat {
                 Look::Locked(node) => return Ok(node),
                 Look::Deadlk(met) => {
                     patience.back_off();
-                    return Err(Stop::Deadlk(met));
+                    return Err(NoLock::Deadlk(met));
                 }
-                Look::Interrupted(by) => return Err(Stop::Interrupted(by)),
+                Look::Interrupted(by) => return Err(NoLock::Interrupted(by)),
                 Look::Waits => {
                     patience.sleep(rt, self, bells, waits);
                     arrival = Arrival::Woken;

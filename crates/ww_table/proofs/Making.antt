@@ -23,7 +23,7 @@ use Rattle.ww_rule.specs.Steps.{seat_of, first_seat, rest_of, without_first}
 use Rattle.ww_table.specs.Seat.{IsNew}
 use Rattle.ww_rule.specs.Out.{numbers_of}
 use Rattle.ww_rule.specs.Homes.{AreSlots}
-use Rattle.ww_table.specs.Made.{AreNew, IsFresh, MayCut, less}
+use Rattle.ww_table.specs.Made.{AreNew, HasDoneNothing, MayCut, less}
 use Rattle.ww_table.specs.Closed.{HasCome, HaveAllCome}
 use Rattle.ww_queue.specs.Queue.{Has}
 use Rattle.ww_model.specs.State.{start}
@@ -31,7 +31,7 @@ use Rattle.ww_view.specs.View.{IsBare}
 use Rattle.ww_rule.proofs.Seats.{opens, opens_start, splits, at_end, bare_first}
 
 pub new_seat : {table : TableId} {key : Start} {kind : Kind} {locks places seats : ℕ} {first token : Seat Cell Sight} (k : ℕ) (s : Stepper)
-    → MayCut table key kind locks places seats first → IsFresh token kind k locks places s → token.table_id ≡ table
+    → MayCut table key kind locks places seats first → HasDoneNothing token kind k locks places s → token.table_id ≡ table
     → token.me ≡ (seat_of (length (first_graph key)) (first_part key.kind key.locks key.places k), []) → k < places → IsNew table key k s
 new_seat {table} k s cut is home here few = let me = ap (λ (t : Seat Cell Sight). t.me) is.seat_is ∙ here in record {
   seated = record {

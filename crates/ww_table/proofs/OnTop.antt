@@ -21,7 +21,7 @@ use Rattle.ww_rule.proofs.Turning.{brought}
 use Rattle.ww_table.specs.declared.board.Board.{Board}
 use Rattle.ww_table.specs.declared.seat.Stepper.{Stepper}
 use Rattle.ww_table.specs.Seat.{IsSeated, IsSeatOf, view_of}
-use Rattle.ww_table.specs.Inside.{HasBroughtList, HasOnlyTried, HasTriedToGo, IsOver}
+use Rattle.ww_table.specs.Inside.{HasBroughtList, HasOnlyTried, HasTriedToGo, HasListThen}
 use Rattle.ww_table.proofs.Seated.{IsTold, known, seated_paged, stepped}
 
 -- it stays there while nothing changes
@@ -134,7 +134,7 @@ module _ {table : TableId} {m : Sat} {now : Stepper} {n : ℕ} (is : IsSeated ta
       → known (w now.seat.me.0) ≡ known now.seat.me.0 → k ≡ 64 + n → page ≡ now.page
       → HasLeftList token out k now.who page has
       → IsSeated table (record now { seat = out; page = has })
-      × IsOver m n (w m.0) (left m.0.part.core.list m.0.part.core.who) out.me
+      × HasListThen m n (w m.0) (left m.0.part.core.list m.0.part.core.who) out.me
   gone token out {has = has} w home hit knows at same g = let done = gone_over token (record now { seat = out; page = has }) w home
       (ap (λ (x : Sat). x.0) hit.0) (ap (λ (x : Sat). x.1) hit.0 ∙ ap (λ (x : Sat). x.1) t.now) hit.1 knows at same g refl
       (is.order ∙ ap (λ (x : Sat). numbers_of x.1) t.now ∙ ap (λ (i : ℕ). numbers_of t.others ++ i ∷ []) (sym at)) in
@@ -163,6 +163,6 @@ module _ {b : Board} {s now : Stepper} {n : ℕ} {o : Owner} (is : IsSeatOf b no
     seat = done.0;
     records = records;
     sure = λ _ _. refl;
-    gone = λ _. subst (λ (q : List Entry). IsOver s.seat.me n (w s.seat.me.0) q out.me) (sym leaves) done.1;
+    gone = λ _. subst (λ (q : List Entry). HasListThen s.seat.me n (w s.seat.me.0) q out.me) (sym leaves) done.1;
     lost = λ no. absurd cc;
   }

@@ -150,13 +150,13 @@ abbrev pub IsSure : Stepper → Owner → Bool → Type 0
 IsSure s o won = (view_of s).list ≢ [] → (view_of s).seen ≡ Some o → won ≡ true
 
 -- it knows w then, and the wait list of lock n, the slot taken last, is q; the others are those that it had
-abbrev pub IsOver : Sat → ℕ → Sight → List Entry → Sat → Type 0
-IsOver m n w q m' = (others : List (ℕ × Cell)) × AreOthers m.1 (list_at n) (Line m.0.part.core.list) others
+abbrev pub HasListThen : Sat → ℕ → Sight → List Entry → Sat → Type 0
+HasListThen m n w q m' = (others : List (ℕ × Cell)) × AreOthers m.1 (list_at n) (Line m.0.part.core.list) others
     × (m' ≡ (w, (list_at n, Line q) ∷ others))
 
 -- another word was found: it has only made a step
 abbrev pub HasOnlyTried : Sat → ℕ → Sat → Type 0
-HasOnlyTried m n m' = IsOver m n (guards.lost m.0) m.0.part.core.list m'
+HasOnlyTried m n m' = HasListThen m n (guards.lost m.0) m.0.part.core.list m'
 
 -- there is a lock n that the view allows to wait for, by the owner that was seen; its wait list is out; and some says whether
 -- the seat holds a lock
@@ -172,7 +172,7 @@ pub record HasTriedToJoin (b : Board) (s : Stepper) (n : ℕ) (o : Owner) (won :
   pub seat : IsSeatOf b s'
   pub records : s'.records ≡ s.records
   pub sure : IsSure s o won
-  pub joined : won ≡ true → IsOver s.seat.me n (joining s.seat.me.0 n o) (made.queued (view_of s) n o).list s'.seat.me
+  pub joined : won ≡ true → HasListThen s.seat.me n (joining s.seat.me.0 n o) (made.queued (view_of s) n o).list s'.seat.me
   pub lost : won ≡ false → s'.seat.me ≡ (guards.lost s.seat.me.0, s.seat.me.1)
 
 -- there is a lock n that the view allows to ask for, by the owner that was seen
@@ -234,7 +234,7 @@ pub record HasTriedToGo (b : Board) (s : Stepper) (n : ℕ) (o : Owner) (w : Sig
   pub seat : IsSeatOf b s'
   pub records : s'.records ≡ s.records
   pub sure : IsSure s o won
-  pub gone : won ≡ true → IsOver s.seat.me n w w.part.core.list s'.seat.me
+  pub gone : won ≡ true → HasListThen s.seat.me n w w.part.core.list s'.seat.me
   pub lost : won ≡ false → HasOnlyTried s.seat.me n s'.seat.me
 
 -- lock n guards a node, which is out, and is the seat's, which saw its word last; the wait list is out, and each waiter is a seat
@@ -267,4 +267,4 @@ pub record MayGiveBareAt (b : Board) (n : ℕ) (o : Owner) (s : Stepper) : Type 
 pub record HasGivenBareInside (b : Board) (s : Stepper) (n : ℕ) (o : Owner) (s' : Stepper) : Type 0 where
   pub seat : IsSeatOf b s'
   pub records : s'.records ≡ s.records
-  pub gave : IsOver s.seat.me n (knowing s.seat.me.0 (made.given (view_of s) n (o.flags == 3))) (view_of s).list s'.seat.me
+  pub gave : HasListThen s.seat.me n (knowing s.seat.me.0 (made.given (view_of s) n (o.flags == 3))) (view_of s).list s'.seat.me

@@ -46,7 +46,7 @@ pub record MayCut (table : TableId) (key : Start) (kind : Kind) (locks places se
   pub seats_are : (seats ≡ key.seats) × (1 ≤ seats)
 
 -- a seat of this number that did nothing yet
-pub record IsFresh (seat : Seat Cell Sight) (kind : Kind) (who locks places : ℕ) (s : Stepper) : Type 0 where
+pub record HasDoneNothing (seat : Seat Cell Sight) (kind : Kind) (who locks places : ℕ) (s : Stepper) : Type 0 where
   pub seat_is : s.seat ≡ seat
   pub kind_is : s.kind ≡ kind
   pub who_is : s.who ≡ who

@@ -28,7 +28,7 @@ use Rattle.ww_table.specs.Seat.{HasTriedToGive, HasTriedToTake, IsSeatOf, locks_
 -- ---- a step that leaves the slots that are out
 
 -- the step made w of what the seat knows; its records and the slots that are out are the same
-pub record IsStep (b : Board) (s : Stepper) (w : Sight) (s' : Stepper) : Type 0 where
+pub record HasStepped (b : Board) (s : Stepper) (w : Sight) (s' : Stepper) : Type 0 where
   pub seat : IsSeatOf b s'
   pub records : s'.records ≡ s.records
   pub now : s'.seat.me ≡ (w, s.seat.me.1)
@@ -143,7 +143,7 @@ pub record HasPlaced (b : Board) (s : Stepper) (done : Record) (place : ℕ) (s'
   pub capacity : vec_capacity s'.records ≡ vec_capacity s.records
 
 -- ... which is one that the program can count
-pub record IsPlaced (m : Sat) (done : Record) (place : ℕ) (m' : Sat) : Type 0 where
+pub record HasItsPlace (m : Sat) (done : Record) (place : ℕ) (m' : Sat) : Type 0 where
   pub placed : m' ≡ (placing m.0 place done, m.1)
   pub above : AllByRecursion (λ p. p.0 < place) m.0.part.own
   pub few : place < 2 ^ 44

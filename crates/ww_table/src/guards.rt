@@ -5,7 +5,7 @@ ghost use Rattle.ww_word.specs.AnySeats.{IsValid};
 ghost use Rattle.ww_view.specs.May.{MayGlance};
 ghost use Rattle.ww_rule.specs.Guards.{glancing};
 ghost use Rattle.ww_table.specs.Seat.{IsSeatOf, locks_of, view_of};
-ghost use Rattle.ww_table.specs.Steps.{IsStep};
+ghost use Rattle.ww_table.specs.Steps.{HasStepped};
 ghost use Rattle.ww_table.specs.Inside.{MayBringList, MayEnterAt, MayExitAt, HasBroughtList, HasExited, HasSeen, HasTriedToEnter};
 
 use crate::board::Board;
@@ -78,7 +78,7 @@ impl Stepper {
     pub fn glance(&mut self, board: &Board, lock: u32) -> Owner
         requires at { IsSeatOf board.now self.old }
         requires may { (lock < locks_of board.now) × MayGlance (view_of self.old) }
-        ensures glanced { IsStep board.now self.old (glancing self.old.seat.me.0) self.new }
+        ensures glanced { HasStepped board.now self.old (glancing self.old.seat.me.0) self.new }
         ensures valid { IsValid result }
     {
         let shared = &board.table.shared;
@@ -94,7 +94,7 @@ impl Stepper {
     pub fn begun(&mut self, board: &Board) -> u64
         requires at { IsSeatOf board.now self.old }
         requires may { MayGlance (view_of self.old) }
-        ensures { IsStep board.now self.old (glancing self.old.seat.me.0) self.new }
+        ensures { HasStepped board.now self.old (glancing self.old.seat.me.0) self.new }
     {
         board.table.shared.load::<Count>(&mut self.seat, STAMP)
     }

@@ -3,7 +3,7 @@
 ghost use Rattle.std.specs.Prelude.{◌≡◌, ◌<◌, ◌≤◌, [], length, IfOk, IfErr, vec_len, vec_capacity};
 ghost use Rattle.ww_plain.specs.Graph.{IsGraph};
 ghost use Rattle.ww_rule.specs.Rule.{nodes_of, IsSize, places_for};
-ghost use Rattle.ww_table.specs.Made.{AreNew, IsFresh, IsMade, MayCut};
+ghost use Rattle.ww_table.specs.Made.{AreNew, HasDoneNothing, IsMade, MayCut};
 ghost use Rattle.ww_table.specs.Seat.{step_of};
 
 use crate::board::Board;
@@ -171,7 +171,7 @@ fn seated(
     page: Page,
 ) -> Stepper
     requires { (who < sizes.1) × IsSize sizes.1 }
-    ensures { IsFresh seat kind who sizes.0 sizes.1 result }
+    ensures { HasDoneNothing seat kind who sizes.0 sizes.1 result }
 {
     Stepper {
         seat,

@@ -4,7 +4,7 @@ ghost use Rattle.std.specs.Prelude.{◌≡◌, ◌<◌, ◌↔◌, true, length,
 ghost use Rattle.ww_plain.specs.History.{recorded_of};
 ghost use Rattle.ww_table.specs.Seat.{IsSeatOf};
 ghost use Rattle.ww_rule.specs.Steps.{MayPlace};
-ghost use Rattle.ww_table.specs.Steps.{HasPlaced, IsPlaced};
+ghost use Rattle.ww_table.specs.Steps.{HasPlaced, HasItsPlace};
 
 use crate::board::Board;
 use crate::seat::Stepper;
@@ -59,7 +59,7 @@ fn place_said<W: Said>(seat: &mut TableSeat, board: &Board, done: &Record) -> u6
     requires at { (seat.old.table_id ≡ board.now.table.shared.table_id) × (seat.old.me.0.seated ≡ true) }
     requires may { MayPlace seat.old.me.0 (recorded_of done.now) }
     ensures home { (seat.new.table_id ≡ seat.old.table_id) × (seat.new.id ≡ seat.old.id) }
-    ensures placed { IsPlaced seat.old.me done.now result seat.new.me }
+    ensures placed { HasItsPlace seat.old.me done.now result seat.new.me }
 {
     board.table.shared.fetch_add::<Commit<W>>(seat, FRONT, 1)
 }

@@ -4,7 +4,7 @@ ghost use Rattle.std.specs.Prelude.{◌<◌};
 ghost use Rattle.ww_view.specs.May.{MayClear, MaySign};
 ghost use Rattle.ww_table.specs.Seat.{IsSeatOf, view_of};
 ghost use Rattle.ww_rule.specs.Signs.{clearing, condemning, noting};
-ghost use Rattle.ww_table.specs.Steps.{IsEither, IsStep, HasReadSign};
+ghost use Rattle.ww_table.specs.Steps.{IsEither, HasStepped, HasReadSign};
 
 use crate::board::Board;
 use crate::seat::Stepper;
@@ -37,7 +37,7 @@ impl Stepper {
     pub fn clear(&mut self, board: &Board)
         requires at { IsSeatOf board.now self.old }
         requires may { MayClear (view_of self.old) }
-        ensures { IsStep board.now self.old (clearing self.old.seat.me.0) self.new }
+        ensures { HasStepped board.now self.old (clearing self.old.seat.me.0) self.new }
     {
         let shared = &board.table.shared;
         shared.store::<Clear>(&mut self.seat, self.sign, 0);

@@ -5,7 +5,7 @@ use Rattle.ww_model.specs.declared.state.Holder.TheVariants.{Taken}
 use Rattle.ww_view.specs.View.{owns}
 use Rattle.ww_rule.specs.declared.cells.Start.{Start}
 use Rattle.ww_rule.specs.Rule.{St, Sat, Ruled}
-use Rattle.ww_table_laws.specs.Laws.{Stepper}
+use Rattle.ww_table_laws.specs.Laws.{StepsAt}
 
 -- who has taken a lock is one seat
 one_seat : (h : Holder) (a b : ℕ) → h ≡ Taken a → h ≡ Taken b → a ≡ b
@@ -13,7 +13,7 @@ one_seat h a b p q = cc
 
 -- a view of a seat knows of each lock that it owns that the core's owner is that seat; and it stands where the rule has
 -- the seat's number
-pub one_owner : (key : Start) (s : St) (r : Ruled key s) (id other : ℕ) (me it : Sat) (n : ℕ) → Stepper s id me → Stepper s other it →
+pub one_owner : (key : Start) (s : St) (r : Ruled key s) (id other : ℕ) (me it : Sat) (n : ℕ) → StepsAt s id me → StepsAt s other it →
     owns me.0.part.core n ≡ true → owns it.0.part.core n ≡ true →
     (id ≡ other) × (me.0.part.core.who ≡ it.0.part.core.who)
 one_owner key s r id other me it n here there mine its =

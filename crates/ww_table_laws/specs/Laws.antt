@@ -31,20 +31,20 @@ use Rattle.ww_rule.specs.Rule.{St, Sat, first_graph, first_sight, Ruled, IsSize,
 use Rattle.ww_rule.specs.Steps.{MayDraw, MayEnd, MayPlace, taker, drawing, drawing_none, taking, giving, knowing, placing, IsToldBy}
 
 -- a seat of the table that steps: where its view stands, and the seat itself
-pub record Stepper (s : St) (id : ℕ) (me : Sat) : Type 0 where
+pub record StepsAt (s : St) (id : ℕ) (me : Sat) : Type 0 where
   pub here : get_elem? s.views id ≡ some me.0
   pub seated : me.0.seated ≡ true
 
 -- the stamp word goes one up as Begin
 abbrev pub DrawIsBegin : Type 0
-DrawIsBegin = (key : Start) (s : St) (r : Ruled key s) (id : ℕ) (me : Sat) → Stepper s id me → MayDraw me.0.part →
+DrawIsBegin = (key : Start) (s : St) (r : Ruled key s) (id : ℕ) (me : Sat) → StepsAt s id me → MayDraw me.0.part →
     slice_index s.words stamp_at < most_for key.places →
     let stamp : ℕ = slice_index s.words stamp_at + 1 in
     Makes key s r (Begin me.0.part.core.who) (stepped s stamp_at stamp id me.1 (drawing me.0 stamp) keeps)
 
 -- where all stamps are spent, which can't be with 16 seats, no context begins
 abbrev pub SpentIsNoEvent : Type 0
-SpentIsNoEvent = (key : Start) (s : St) (r : Ruled key s) (id : ℕ) (me : Sat) → Stepper s id me → MayDraw me.0.part →
+SpentIsNoEvent = (key : Start) (s : St) (r : Ruled key s) (id : ℕ) (me : Sat) → StepsAt s id me → MayDraw me.0.part →
     most_for key.places ≤ slice_index s.words stamp_at →
     Stays key s r (stepped s stamp_at (slice_index s.words stamp_at + 1) id me.1 (drawing_none me.0) keeps)
 
@@ -58,7 +58,7 @@ FewSeatsHaveNarrowWords = (key : Start) (s : St) (r : Ruled key s) (n : ℕ) →
 
 -- outside a guard an owner word 0 becomes that of the seat as Fast, and the node that comes out has the fold's value
 abbrev pub TakeFreeIsFast : Type 0
-TakeFreeIsFast = (key : Start) (s : St) (r : Ruled key s) (id : ℕ) (me : Sat) (n : ℕ) → Stepper s id me
+TakeFreeIsFast = (key : Start) (s : St) (r : Ruled key s) (id : ℕ) (me : Sat) (n : ℕ) → StepsAt s id me
     → n < length (first_graph key) → MayFast me.0.part.core → slice_index s.words (owner_at key.locks n) ≡ 0 →
     let x : Node = node_at (last_graph (first_graph key) r.log) n in
     Makes key s r (Fast me.0.part.core.who n)
@@ -66,7 +66,7 @@ TakeFreeIsFast = (key : Start) (s : St) (r : Ruled key s) (id : ℕ) (me : Sat) 
 
 -- outside a guard the owner word of the seat without flags becomes 0 as FastGive
 abbrev pub GiveFreeIsFastGive : Type 0
-GiveFreeIsFastGive = (key : Start) (s : St) (r : Ruled key s) (id : ℕ) (me : Sat) (n : ℕ) (x : Node) → Stepper s id me
+GiveFreeIsFastGive = (key : Start) (s : St) (r : Ruled key s) (id : ℕ) (me : Sat) (n : ℕ) (x : Node) → StepsAt s id me
     → n < length (first_graph key) → IsAway me.0.part.core → owns me.0.part.core n ≡ true →
     get_elem? me.0.held n ≡ some (Some x) → me.1 ≡ (n, Content x) ∷ rest me.1
     → slice_index s.words (owner_at key.locks n) ≡ packed (taker me.0.part.core) →
@@ -74,14 +74,14 @@ GiveFreeIsFastGive = (key : Start) (s : St) (r : Ruled key s) (id : ℕ) (me : S
 
 -- the same of a lock that guards no node: no slot comes or goes
 abbrev pub TakeBareIsFast : Type 0
-TakeBareIsFast = (key : Start) (s : St) (r : Ruled key s) (id : ℕ) (me : Sat) (n : ℕ) → Stepper s id me
+TakeBareIsFast = (key : Start) (s : St) (r : Ruled key s) (id : ℕ) (me : Sat) (n : ℕ) → StepsAt s id me
     → length (first_graph key) ≤ n → n < key.locks → MayFast me.0.part.core → slice_index s.words (owner_at key.locks n) ≡ 0 →
     Makes key s r (Fast me.0.part.core.who n)
     (stepped s (owner_at key.locks n) (packed (taker me.0.part.core)) id me.1 (knowing me.0 (fast_taken me.0.part.core n))
     keeps)
 
 abbrev pub GiveBareIsFastGive : Type 0
-GiveBareIsFastGive = (key : Start) (s : St) (r : Ruled key s) (id : ℕ) (me : Sat) (n : ℕ) → Stepper s id me
+GiveBareIsFastGive = (key : Start) (s : St) (r : Ruled key s) (id : ℕ) (me : Sat) (n : ℕ) → StepsAt s id me
     → length (first_graph key) ≤ n → n < key.locks → IsAway me.0.part.core → owns me.0.part.core n ≡ true →
     slice_index s.words (owner_at key.locks n) ≡ packed (taker me.0.part.core) →
     Makes key s r (FastGive me.0.part.core.who n) (stepped s (owner_at key.locks n) 0 id me.1 (knowing me.0 (fast_given me.0.part.core n)) keeps)
@@ -89,19 +89,19 @@ GiveBareIsFastGive = (key : Start) (s : St) (r : Ruled key s) (id : ℕ) (me : S
 -- Outside all guards and lists an owner word, except its flags, is the seat's own if and only if the seat owns the lock:
 -- so a seat needs no list of what it holds.
 abbrev pub WordsTellOwners : Type 0
-WordsTellOwners = (key : Start) (s : St) (r : Ruled key s) (id : ℕ) (me : Sat) (n : ℕ) → Stepper s id me → n < key.locks →
+WordsTellOwners = (key : Start) (s : St) (r : Ruled key s) (id : ℕ) (me : Sat) (n : ℕ) → StepsAt s id me → n < key.locks →
     IsAway me.0.part.core → IsToldBy me.0.part.core n (slice_index s.words (owner_at key.locks n))
 
 -- Mutual exclusion: at each moment a lock is owned by one seat of the table at most. Who owns it stands where any other does
 -- that owns it, and so has its number.
 abbrev pub OwnersExclude : Type 0
-OwnersExclude = (key : Start) (s : St) (r : Ruled key s) (id other : ℕ) (me it : Sat) (n : ℕ) → Stepper s id me → Stepper s other it →
+OwnersExclude = (key : Start) (s : St) (r : Ruled key s) (id other : ℕ) (me it : Sat) (n : ℕ) → StepsAt s id me → StepsAt s other it →
     owns me.0.part.core n ≡ true → owns it.0.part.core n ≡ true →
     (id ≡ other) × (me.0.part.core.who ≡ it.0.part.core.who)
 
 -- the own sign word is found 0, and the context ends, as End
 abbrev pub EndIsEnd : Type 0
-EndIsEnd = (key : Start) (s : St) (r : Ruled key s) (id : ℕ) (me : Sat) → Stepper s id me → MayEnd me.0.part.core
+EndIsEnd = (key : Start) (s : St) (r : Ruled key s) (id : ℕ) (me : Sat) → StepsAt s id me → MayEnd me.0.part.core
     → slice_index s.words (sign_at key.locks me.0.part.core.who) ≡ 0 →
     let i : ℕ = sign_at key.locks me.0.part.core.who in
     Makes key s r (End me.0.part.core.who)
@@ -109,7 +109,7 @@ EndIsEnd = (key : Start) (s : St) (r : Ruled key s) (id : ℕ) (me : Sat) → St
 
 -- the front word goes one up as Commit, and the commits are one more: this record, behind all others
 abbrev pub PlaceIsCommit : Type 0
-PlaceIsCommit = (key : Start) (s : St) (r : Ruled key s) (id : ℕ) (me : Sat) (done : Record) → Stepper s id me
+PlaceIsCommit = (key : Start) (s : St) (r : Ruled key s) (id : ℕ) (me : Sat) (done : Record) → StepsAt s id me
     → MayPlace me.0 (recorded_of done) →
     let place : ℕ = slice_index s.words front_at in
     MakesWith key s r (Commit me.0.part.core.who) (r.log ++ recorded_of done ∷ [])

@@ -16,7 +16,7 @@ use Rattle.ww_rule.specs.Steps.{knowing, keeping, nobody, first_seat, without_fi
 use Rattle.ww_rule.specs.Guards.{lost, shutting_out, looking, glancing}
 use Rattle.ww_rule.specs.Signs.{noting, reading, finding_none}
 use Rattle.ww_rule.specs.Cancels.{finding_pending, finding_uncancelled}
-use Rattle.ww_table_laws.specs.Laws.{Stepper}
+use Rattle.ww_table_laws.specs.Laws.{StepsAt}
 
 -- the table once the seat read a word, or found there another than it expected, and has this view then
 abbrev pub once_read : St → ℕ → ℕ → Sat → Sight → St
@@ -24,23 +24,23 @@ once_read s i id me w = stepped s i (slice_index s.words i) id me.1 w keeps
 
 -- a look at the owner word inside the guard
 abbrev pub LookIsNoEvent : Type 0
-LookIsNoEvent = (key : Start) (s : St) (r : Ruled key s) (id : ℕ) (me : Sat) (n : ℕ) (o : Owner) → Stepper s id me →
+LookIsNoEvent = (key : Start) (s : St) (r : Ruled key s) (id : ℕ) (me : Sat) (n : ℕ) (o : Owner) → StepsAt s id me →
     me.0.part.core.inside ≡ suc n → IsValid o → slice_index s.words (owner_at key.locks n) ≡ packed o →
     Stays key s r (once_read s (owner_at key.locks n) id me (looking me.0 o))
 
 -- a spin read of an owner word from outside the guard
 abbrev pub GlanceIsNoEvent : Type 0
-GlanceIsNoEvent = (key : Start) (s : St) (r : Ruled key s) (id : ℕ) (me : Sat) (n : ℕ) → Stepper s id me →
+GlanceIsNoEvent = (key : Start) (s : St) (r : Ruled key s) (id : ℕ) (me : Sat) (n : ℕ) → StepsAt s id me →
     Stays key s r (once_read s (owner_at key.locks n) id me (glancing me.0))
 
 -- a look from outside whether the seat owns a lock
 abbrev pub OwnsIsNoEvent : Type 0
-OwnsIsNoEvent = (key : Start) (s : St) (r : Ruled key s) (id : ℕ) (me : Sat) (n : ℕ) → Stepper s id me →
+OwnsIsNoEvent = (key : Start) (s : St) (r : Ruled key s) (id : ℕ) (me : Sat) (n : ℕ) → StepsAt s id me →
     Stays key s r (once_read s (owner_at key.locks n) id me me.0)
 
 -- a spin read of the stamp word
 abbrev pub CountIsNoEvent : Type 0
-CountIsNoEvent = (key : Start) (s : St) (r : Ruled key s) (id : ℕ) (me : Sat) → Stepper s id me →
+CountIsNoEvent = (key : Start) (s : St) (r : Ruled key s) (id : ℕ) (me : Sat) → StepsAt s id me →
     Stays key s r (once_read s stamp_at id me (glancing me.0))
 
 -- a look at the own sign: what is found is noted, or that nothing was; so too where a context doesn't end, being signed
@@ -49,7 +49,7 @@ pub record IsNotedOnly (key : Start) (s : St) (r : Ruled key s) (id : ℕ) (me :
   pub found_none : Stays key s r (once_read s i id me (finding_none me.0))
 
 abbrev pub OwnSignIsNoEvent : Type 0
-OwnSignIsNoEvent = (key : Start) (s : St) (r : Ruled key s) (id : ℕ) (me : Sat) → Stepper s id me
+OwnSignIsNoEvent = (key : Start) (s : St) (r : Ruled key s) (id : ℕ) (me : Sat) → StepsAt s id me
     → IsNotedOnly key s r id me (sign_at key.locks me.0.part.core.who)
 
 -- A try that finds another word than the seat expected: to take a lock at once; to release it at once; to take one at once
@@ -65,11 +65,11 @@ pub record IsLostOnly (key : Start) (s : St) (r : Ruled key s) (id : ℕ) (me : 
   pub others : Stays key s r (once_read s i id me (lost me.0))
 
 abbrev pub LostIsNoEvent : Type 0
-LostIsNoEvent = (key : Start) (s : St) (r : Ruled key s) (id : ℕ) (me : Sat) (i : ℕ) → Stepper s id me → IsLostOnly key s r id me i
+LostIsNoEvent = (key : Start) (s : St) (r : Ruled key s) (id : ℕ) (me : Sat) (i : ℕ) → StepsAt s id me → IsLostOnly key s r id me i
 
 -- a sign for a seat that was signed already
 abbrev pub LostSignIsNoEvent : Type 0
-LostSignIsNoEvent = (key : Start) (s : St) (r : Ruled key s) (id : ℕ) (me : Sat) (u : ℕ) → Stepper s id me →
+LostSignIsNoEvent = (key : Start) (s : St) (r : Ruled key s) (id : ℕ) (me : Sat) (u : ℕ) → StepsAt s id me →
     u < key.places → slice_index s.words (sign_at key.locks u) ≢ 0 → Stays key s r (once_read s (sign_at key.locks u) id me (noting me.0 u))
 
 -- the first idle number of a seat is cut off

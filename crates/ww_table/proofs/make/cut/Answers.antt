@@ -1,6 +1,6 @@
 use Rattle.std.proofs.Common.{arith, ℕ, ◌≡◌, ◌<◌, ◌+◌, ◌-◌, [], ap, subst, sym, ◌∙◌}
 use Rattle.ww_rule.specs.Rule.{Sat}
-use Rattle.ww_table.specs.Made.{AreNew, IsFresh}
+use Rattle.ww_table.specs.Made.{AreNew, HasDoneNothing}
 use Rattle.ww_table.proofs.Making.{new_seat, news_more, next_splits, next_left, next_cut, last_left}
 use Rattle.ww_table.proofs.make.cut.Goals as goal
 
@@ -26,7 +26,7 @@ returns c = let i = c.loop-who.invariant in let may = c.requires.may in let e = 
     let a = c.loop-who.auto.who-end in let key = c.args.shared.now.key in
     let ended : c.loop-who.who ≡ key.seats - 1 = omega arith in
     let all : c.loop-who.who + 1 ≡ c.args.seats = omega arith in let p = c.push_reserved-2.ensures in
-    let fresh = subst (λ (k : ℕ). IsFresh c.loop-who.first c.args.kind k c.args.sizes.0 c.args.sizes.1 c.seated-2.result)
+    let fresh = subst (λ (k : ℕ). HasDoneNothing c.loop-who.first c.args.kind k c.args.sizes.0 c.args.sizes.1 c.seated-2.result)
     (let z : c.args.seats - 1 ≡ c.loop-who.who = omega arith in z) c.seated-2.ensures in
     subst (λ n. AreNew c.args.shared.now.table_id key n c.push_reserved-2.new.self.items) all
     (subst (AreNew c.args.shared.now.table_id key _) (sym p.items)
