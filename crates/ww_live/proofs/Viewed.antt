@@ -25,7 +25,7 @@ use Rattle.ww_wakes.proofs.Rests.{start_is_in_call, leaving_comes_to_rest, rest_
 use Rattle.ww_live.specs.Views.{Finds, looks, notes, reads, keeps, misses, glances, pends, is_shut_out, steps, FindsOn, no_more, more, MayByView, MadeBy, IsViewedRun, ViewedRunsAreRuns, ViewedWaitersSleep, ViewedDeadlocksEnd, ViewedRunsAreThere, LooksAgainStill, LaterStays, ViewedRunsAsk}
 use Rattle.ww_live.proofs.Deadlocks.{no_deadlock_lasts}
 use Rattle.ww_live.proofs.Asked.{who_leaves_has_asked}
-use Rattle.ww_live.proofs.Runs.{holds_at}
+use Rattle.ww_wakes.proofs.Endless.{holds_at}
 
 -- ---- who looks again
 
@@ -37,15 +37,8 @@ record FoundKeeps (v w : View) : Type 0 where
   uncancelled : w.uncancelled ≡ v.uncancelled
 
 found_keeps : (c : State) (v w : View) → Finds c v w → FoundKeeps v w
-found_keeps c v w (looks n at) = record { who = refl; inside = refl; later = refl; uncancelled = refl }
-found_keeps c v w (notes u signed) = record { who = refl; inside = refl; later = refl; uncancelled = refl }
-found_keeps c v w (reads signed) = record { who = refl; inside = refl; later = refl; uncancelled = refl }
 found_keeps c v w keeps = record { who = refl; inside = refl; later = refl; uncancelled = refl }
-found_keeps c v w misses = record { who = refl; inside = refl; later = refl; uncancelled = refl }
-found_keeps c v w glances = record { who = refl; inside = refl; later = refl; uncancelled = refl }
-found_keeps c v w pends = record { who = refl; inside = refl; later = refl; uncancelled = refl }
-found_keeps c v w is_shut_out = record { who = refl; inside = refl; later = refl; uncancelled = refl }
-found_keeps c v w steps = record { who = refl; inside = refl; later = refl; uncancelled = refl }
+found_keeps c v w _ = record { who = refl; inside = refl; later = refl; uncancelled = refl }
 
 made_still : (c : State) (v : View) (e : Event) → ((s n : ℕ) → e ≢ Guard s n) → ((s n : ℕ) → e ≢ Unguard s n) →
     LooksAgainStill v (view_after c e v)
@@ -74,15 +67,10 @@ knows_found c v w k is_shut_out = mine_shut_out c v k
 knows_found c v w k steps = mine_stepped c v k
 
 fresh_before : (c : State) (v w : View) → Finds c v w → w.fresh ≡ true → v.fresh ≡ true
-fresh_before c v w (looks n at) fresh = absurd (true≢false (sym fresh))
-fresh_before c v w (notes u signed) fresh = absurd (true≢false (sym fresh))
 fresh_before c v w (reads signed) fresh = absurd (signed (same_number (c.sign v.who) 0 fresh))
-fresh_before c v w keeps fresh = absurd (true≢false (sym fresh))
-fresh_before c v w misses fresh = absurd (true≢false (sym fresh))
 fresh_before c v w glances fresh = fresh
 fresh_before c v w pends fresh = fresh
-fresh_before c v w is_shut_out fresh = absurd (true≢false (sym fresh))
-fresh_before c v w steps fresh = absurd (true≢false (sym fresh))
+fresh_before c v w _ fresh = absurd (true≢false (sym fresh))
 
 -- the seat is in its call or at rest, whomever it has to wake
 abbrev pub IsPlaced : Scene → View → Type 0
@@ -224,12 +212,8 @@ same_who c _ v = refl
 -- a step keeps which seat it is
 made_who : (w : Scene) (x : Step) (v made : View) → MadeBy w x v made → made.who ≡ v.who
 made_who w (performs e) v made is = ap (λ (y : View). y.who) is ∙ same_who w.core e v
-made_who w (leaves_to_sleep s n heeds) v made is = ap (λ (y : View). y.who) is
 made_who w (finds_no_sign s) v made is = ⊎_elim (λ a. ap (λ (y : View). y.who) a) (λ a. ap (λ (y : View). y.who) a.1) is
-made_who w (finds_no_cancel s) v made is = ap (λ (y : View). y.who) is
-made_who w (wakes s u) v made is = ap (λ (y : View). y.who) is
-made_who w (falls_asleep s) v made is = ap (λ (y : View). y.who) is
-made_who w (rises s) v made is = ap (λ (y : View). y.who) is
+made_who w _ v made is = ap (λ (y : View). y.who) is
 
 -- ---- along a run
 
@@ -364,10 +348,7 @@ made_later w (leaves_to_sleep s m heeds) v made n k own may is inside still =
     ap (put w.core.guard m 0) same ∙ put_here w.core.guard m 0 in absurd (omega arith)
 made_later w (finds_no_sign s) v made n k own may is inside still =
     ⊎_elim (λ a. ap (λ (y : View). y.later) a) (λ a. ap (λ (y : View). y.later) a.1) is
-made_later w (finds_no_cancel s) v made n k own may is inside still = ap (λ (y : View). y.later) is
-made_later w (wakes s u) v made n k own may is inside still = ap (λ (y : View). y.later) is
-made_later w (falls_asleep s) v made n k own may is inside still = ap (λ (y : View). y.later) is
-made_later w (rises s) v made n k own may is inside still = ap (λ (y : View). y.later) is
+made_later w _ v made n k own may is inside still = ap (λ (y : View). y.later) is
 
 pub viewed_runs_ask : ViewedRunsAsk
 viewed_runs_ask kind locks seats scene step view run i j s n heeds before enters stands inside leaves first =
