@@ -24,16 +24,27 @@ use Rattle.ww_drives.specs.Stages.{Stage, IsFirstStage}
 use Rattle.ww_drives.specs.Deeds.{Deed, calls, steps, reads, answers, names, wakes, parks, rises, halts, Does, IsDriven}
 use Rattle.ww_drives.specs.Deeds as drive
 use Rattle.ww_drives.specs.Laws.{NewWorldsBegin, move_of, DrivesAreRuns, IsDueBy, NoWakeIsLostInDrives, NoStandstillInDrives, IsEndlessDrive, WakesArriveByDesks, NobodySleepsInVainInDrives, IsServed, NoDeadlockLastsInDrives, DrivesRunOn, WaitsEndInDrives}
-use Rattle.ww_drives.proofs.Kept.{as_is}
+use Rattle.ww_drives.proofs.Kept.{OfDesk, of_desk, IsKept}
 use Rattle.ww_drives.proofs.Keeping.{IsInOrder, acts, follows, keep, owes_there}
 
 -- ---- the first stage
 
 first_keeps : {key : Start} (g : Stage key) → IsFirstStage g → IsInOrder g
 first_keeps {key = key} g f d low = let h = f.desks d low in let m = g.moment in
-    as_is d (fresh h.home key.locks key.seats key.kind h.left d) _ false _ false _ false _ (λ _. false) _
-    (λ _. 0) _ 0 _ (m.part d) _ h.now (f.calling d) (f.to_sleep d) (ap (λ (a : ℕ → Bool). a d) f.first.asleep) (f.named d)
-    (ap (λ (r : ℕ → ℕ → ℕ). r d) f.first.rung) (ap (λ (r : ℕ → ℕ). r d) f.first.risen) refl (record {
+    let first : OfDesk = record {
+      desk = fresh h.home key.locks key.seats key.kind h.left d;
+      calling = false;
+      told = false;
+      asleep = false;
+      named = λ _. false;
+      rung = λ _. 0;
+      risen = 0;
+      part = m.part d;
+    } in
+    let now = h.now in let calling = f.calling d in let told = f.to_sleep d in let named = f.named d in
+    let asleep = ap (λ (a : ℕ → Bool). a d) f.first.asleep in
+    let rung = ap (λ (r : ℕ → ℕ → ℕ). r d) f.first.rung in let risen = ap (λ (r : ℕ → ℕ). r d) f.first.risen in
+    let same : of_desk g d ≡ first = cc in subst (IsKept d) (sym same) (record {
       number = refl;
       current = λ _. ap (λ (places : ℕ). first_view key.kind key.locks places d) (sym f.places)
           ∙ ap (λ (p : Part). p.core) (sym (f.first.parts d low));

@@ -183,6 +183,10 @@ pub record IsSeated (key : Start) (table : St) (id d : ℕ) (v : Sight) : Type 0
   pub who : v.part.core.who ≡ d
   pub low : d < key.seats
 
+pub seated : {key : Start} {table : St} {id d : ℕ} {v : Sight} → get_elem? table.views id ≡ some v → v.seated ≡ true →
+    v.part.core.who ≡ d → d < key.seats → IsSeated key table id d v
+seated here is_seated who low = record { here = here; seated = is_seated; who = who; low = low }
+
 -- it doesn't sleep, and neither it nor its desk has left a guard as a waiter
 pub record IsUp (p : Picture) (d : ℕ) (v : Sight) : Type 0 where
   pub awake : p.asleep d ≡ false
@@ -197,8 +201,8 @@ pub record IsActing (key : Start) (p : Picture) (id d : ℕ) (v : Sight) : Type 
 pub acting : {key : Start} {p : Picture} {id d : ℕ} {v : Sight} → get_elem? p.table.views id ≡ some v → v.seated ≡ true →
     v.part.core.who ≡ d → d < key.seats → p.asleep d ≡ false → v.part.core.naps ≡ 0 → (p.desk d).view.naps ≡ 0 →
     IsActing key p id d v
-acting here seated who low awake rested fresh = record {
-  seated = record { here = here; seated = seated; who = who; low = low };
+acting here is_seated who low awake rested fresh = record {
+  seated = seated here is_seated who low;
   up = record { awake = awake; rested = rested; fresh = fresh };
 }
 

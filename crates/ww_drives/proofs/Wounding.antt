@@ -29,10 +29,10 @@ use Rattle.ww_seat.specs.declared.waits.Waits.TheVariants.{ToTheEnd}
 use Rattle.ww_desk.specs.declared.turn.Answer.TheVariants.{Sleeps, Deadlk}
 use Rattle.ww_desk.specs.Situations.{Situation}
 use Rattle.ww_drives.specs.Deeds.{Does, go_on, steps, answers}
-use Rattle.ww_drives.proofs.Shown.{Picture, staged, Shown, Next, played, answered, naming, waking, parking, plays_then, answers_then, answers_does, names_then, wakes_then, parks_then, part_is, acting}
+use Rattle.ww_drives.proofs.Shown.{Picture, staged, Shown, Next, played, answered, naming, waking, parking, plays_then, answers_then, answers_does, names_then, wakes_then, parks_then, part_is, acting, seated}
 use Rattle.ww_drives.proofs.Pair.{a_6, b_6, p_12, g_12}
 use Rattle.ww_drives.proofs.Backing.{once_told, backs_off}
-use Rattle.ww_drives.proofs.Turns.{dies_as, dies_now, exits_as, exits_now, sleeps_now}
+use Rattle.ww_drives.proofs.Turns.{dies_as, dies_now, exits_as, exits_now, sleeps_now, may_play}
 use Rattle.ww_drives.proofs.Sleeping.{marked, cleared, has_no_mark_then, is_taken, wakes_one, wakes_none, once_asleep, falls_asleep}
 
 -- it signs the younger, finds that it has no sign, and comes out
@@ -65,7 +65,7 @@ g_13 : Shown (small WoundWait) p_13
 unfolding put ℕ_discrete lock_at
 g_13 = let g = g_12 WoundWait in let a = g.at in
     (plays_then g 1 0 (a_6 WoundWait, out 1 older_waits)
-    (record { here = refl; seated = refl; who = refl; low = omega arith })
+    (seated refl refl refl (omega arith))
     (record { awake = refl; rested = refl; fresh = refl }) refl (Some (performs (Sign 0 1))) table_14 (record {
       found = _;
       is = λ i. stepped (a.is_table i) (sign_at least 1) 1 1 (out 1 older_waits) a_7 keeps;
@@ -79,7 +79,7 @@ p_14 = played p_13 table_15 (Some (finds_no_sign 0))
 g_14 : Shown (small WoundWait) p_14
 unfolding put ℕ_discrete lock_at
 g_14 = let g = g_13 in let a = g.at in
-    (plays_then g 1 0 (a_7, out 1 older_waits) (record { here = refl; seated = refl; who = refl; low = omega arith })
+    (plays_then g 1 0 (a_7, out 1 older_waits) (seated refl refl refl (omega arith))
     (record { awake = refl; rested = refl; fresh = refl }) refl (Some (finds_no_sign 0)) table_15 (record {
       found = _;
       is = λ i. stepped (a.is_table i) (sign_at least 0) (slice_index (a.is_table i).words (sign_at least 0)) 1 (out 1 older_waits)
@@ -92,10 +92,8 @@ p_15 = exits_as (small WoundWait) p_14 1 1 a_8 (leaves_to_sleep 0 1 false)
 
 g_15 : Shown (small WoundWait) p_15
 unfolding put ℕ_discrete lock_at
-g_15 = (sleeps_now g_14 1 0 a_8 (record {
-  acts = acting refl refl refl (omega arith) refl refl refl;
-  calling = refl;
-}) 1
+g_15 = (sleeps_now g_14 1 0 a_8
+    (may_play (acting refl refl refl (omega arith) refl refl refl) refl) 1
     (record {
       exit = record {
         inside = refl;
@@ -122,7 +120,7 @@ p_16 = answered p_15 0 Sleeps older_5
 
 g_16 : Shown (small WoundWait) p_16
 unfolding put ℕ_discrete lock_at
-g_16 = answers_then g_15 1 0 a_9 (record { here = refl; seated = refl; who = refl; low = omega arith }) refl go_on Sleeps older_5
+g_16 = answers_then g_15 1 0 a_9 (seated refl refl refl (omega arith)) refl go_on Sleeps older_5
     (record {
       done = falls_asleep ((p_12 WoundWait).desk 0) 1 marked a_9.part.core refl (omega arith) refl
           (wakes_one ((p_12 WoundWait).desk 0) older_5 refl refl refl refl)
@@ -144,7 +142,7 @@ p_18 = waking p_17 0 1 a_9.part
 
 g_18 : Shown (small WoundWait) p_18
 unfolding put ℕ_discrete lock_at
-g_18 = wakes_then g_17 1 0 1 a_9 (record { here = refl; seated = refl; who = refl; low = omega arith }) refl refl refl
+g_18 = wakes_then g_17 1 0 1 a_9 (seated refl refl refl (omega arith)) refl refl refl
 
 abbrev p_19 : Picture
 p_19 = parking p_18 0
@@ -176,7 +174,7 @@ pub g_20 : Shown (small WoundWait) p_20
 unfolding put ℕ_discrete lock_at
 g_20 = let g = g_19 in let a = g.at in
     (plays_then g 0 1 (b_6 WoundWait, out 0 younger_waits)
-    (record { here = refl; seated = refl; who = refl; low = omega arith })
+    (seated refl refl refl (omega arith))
     (record { awake = refl; rested = refl; fresh = refl }) refl None table_17 (record {
       found = _;
       is = λ i. let k = slice_index (a.is_table i).words (sign_at least 1) in
@@ -190,10 +188,8 @@ p_21 = dies_as (small WoundWait) p_20 0 0 (with_waiters owner) b_7
 
 pub dies : Next g_20 (steps 1 (Some (performs (Die 1 0)))) p_21
 unfolding put ℕ_discrete lock_at
-dies = dies_now g_20 0 1 b_7 (record {
-  acts = acting refl refl refl (omega arith) refl refl refl;
-  calling = refl;
-}) 0 1 (with_waiters owner)
+dies = dies_now g_20 0 1 b_7
+    (may_play (acting refl refl refl (omega arith) refl refl refl) refl) 0 1 (with_waiters owner)
     (record {
       inside = refl;
       waits = refl;
@@ -216,10 +212,8 @@ p_22 = exits_as (small WoundWait) p_21 0 0 died (performs (Unguard 1 0))
 
 pub comes_out : Next dies.next (steps 1 (Some (performs (Unguard 1 0)))) p_22
 unfolding put ℕ_discrete lock_at
-comes_out = exits_now dies.next 0 1 died (record {
-  acts = acting refl refl refl (omega arith) refl refl refl;
-  calling = refl;
-}) 0
+comes_out = exits_now dies.next 0 1 died
+    (may_play (acting refl refl refl (omega arith) refl refl refl) refl) 0
     (record { inside = refl; why = inl (refl, refl); unsigned = λ is. absurd (cc); unheeded = refl }) refl
 
 abbrev pub told : Situation
@@ -228,7 +222,7 @@ told = once_told (p_20.desk 1) 0 died_out.part.core
 pub answers_so : Does (staged comes_out.next.at.moment p_22) (staged comes_out.next.at.moment (answered p_22 1 (Deadlk 1) told))
     (answers 1 go_on (Deadlk 1))
 unfolding put ℕ_discrete lock_at
-answers_so = answers_does comes_out.next 0 1 died_out (record { here = refl; seated = refl; who = refl; low = omega arith }) refl go_on
+answers_so = answers_does comes_out.next 0 1 died_out (seated refl refl refl (omega arith)) refl go_on
     (Deadlk 1) told (record {
       done = backs_off (p_20.desk 1) 0 1 Came ToTheEnd died_out.part.core refl (
         wakes_none (p_20.desk 1) told refl refl,
@@ -253,25 +247,25 @@ answers_so = answers_does comes_out.next 0 1 died_out (record { here = refl; sea
 pub before : IsPending g_20.at.moment 1
 unfolding put ℕ_discrete lock_at
 before = let g = g_20 in
-    is_pending g.at a_9 b_7 (part_is g 1 0 a_9 (record { here = refl; seated = refl; who = refl; low = omega arith }))
-    (part_is g 0 1 b_7 (record { here = refl; seated = refl; who = refl; low = omega arith }))
+    is_pending g.at a_9 b_7 (part_is g 1 0 a_9 (seated refl refl refl (omega arith)))
+    (part_is g 0 1 b_7 (seated refl refl refl (omega arith)))
     refl refl refl (λ u. refl) refl refl 1 refl
 
 pub then : IsPending dies.next.at.moment 0
 unfolding put ℕ_discrete lock_at
 then = let g = dies.next in
-    is_pending g.at a_9 died (part_is g 1 0 a_9 (record { here = refl; seated = refl; who = refl; low = omega arith }))
-    (part_is g 0 1 died (record { here = refl; seated = refl; who = refl; low = omega arith }))
+    is_pending g.at a_9 died (part_is g 1 0 a_9 (seated refl refl refl (omega arith)))
+    (part_is g 0 1 died (seated refl refl refl (omega arith)))
     refl refl refl (λ u. refl) refl refl 0 refl
 
 pub at_last : IsPending comes_out.next.at.moment 0
 unfolding put ℕ_discrete lock_at
 at_last = let g = comes_out.next in
-    is_pending g.at a_9 died_out (part_is g 1 0 a_9 (record { here = refl; seated = refl; who = refl; low = omega arith }))
-    (part_is g 0 1 died_out (record { here = refl; seated = refl; who = refl; low = omega arith }))
+    is_pending g.at a_9 died_out (part_is g 1 0 a_9 (seated refl refl refl (omega arith)))
+    (part_is g 0 1 died_out (seated refl refl refl (omega arith)))
     refl refl refl (λ u. refl) refl refl 0 refl
 
 pub inside : (view g_20.at.moment 1).inside ≡ 1
 unfolding put ℕ_discrete lock_at
 inside = ap (λ (p : Part). p.core.inside)
-    (sym (part_is g_20 0 1 b_7 (record { here = refl; seated = refl; who = refl; low = omega arith })))
+    (sym (part_is g_20 0 1 b_7 (seated refl refl refl (omega arith))))
