@@ -10,7 +10,7 @@ use Rattle.ww_wakes.specs.Scene.{performs}
 use Rattle.ww_live.specs.Theorem.{AreDeadlocked}
 use Rattle.ww_runs.specs.Moment.{view}
 use Rattle.ww_runs.proofs.Small.{small}
-use Rattle.ww_runs.proofs.Doomed.{IsPending, IsDoomed, moment, pending, sleeper_is_scheduled, dying_is_scheduled, are_deadlocked}
+use Rattle.ww_runs.proofs.Doomed.{IsPending, IsDoomed, moment, pending, sleeper_is_scheduled, dying_is_scheduled}
 use Rattle.ww_desk.specs.declared.turn.Answer.TheVariants.{Deadlk}
 use Rattle.ww_desk.specs.Situations.{Situation}
 use Rattle.ww_drives.specs.Stages.{Stage}
@@ -22,6 +22,7 @@ use Rattle.ww_drives.proofs.Starting.{is_of_world, owe_nobody}
 use Rattle.ww_drives.proofs.Sleeping.{has_no_mark, has_no_mark_then}
 use Rattle.ww_drives.proofs.Dying as dying
 use Rattle.ww_drives.proofs.Wounding as wounding
+use Rattle.ww_live.proofs.Deadlocks.{are_deadlocked}
 
 -- from this stage on the younger dies, comes out of the guard, and its desk answers so
 record Ends {kind : Kind} {p : Picture} (g : Shown (small kind) p) : Type 0 where

@@ -388,11 +388,9 @@ module _ (scene : ℕ → Scene) (step : ℕ → Step) (run : IsEndlessRun scene
   -- So there are ever more of them: each waits for a younger one.
   no_chain : (fuel k : ℕ) (ws : List Entry) → start ≤ k → Once ws → AllEver k ws → (f : Entry) (m : ℕ) →
       ((x : ℕ) → k ≤ x → Has ((scene x).core.queue m) f) → f.holds ≡ true → 0 < f.stamp →
-      ((y : Entry) → Has ws y → y.stamp ≤ f.stamp) → (scene k).core.seats ≤ length ws + fuel → ⊥
-  no_chain zero k ws from once all f m fs holds some old room = next_of_chain k ws from once all f m fs holds some
-      old (λ p later g o new all' gs holds' some' old'.
-      let full = few scene step run p (g ∷ ws) (new, once) (λ y hy. let z = all' y hy in (z.0, z.1 p (omega arith))) in
-      let same = seats_at scene step run k p later in omega arith)
+      ((y : Entry) → Has ws y → y.stamp ≤ f.stamp) → (scene k).core.seats < length ws + fuel → ⊥
+  no_chain zero k ws from once all f m fs holds some old room =
+      let full = few scene step run k ws once (λ y hy. let z = all y hy in (z.0, z.1 k (omega arith))) in omega arith
   no_chain (suc fuel) k ws from once all f m fs holds some old room =
       next_of_chain k ws from once all f m fs holds some old (λ p later g o new all' gs holds' some' old'.
       let same = seats_at scene step run k p later in
@@ -411,7 +409,7 @@ module _ (scene : ℕ → Scene) (step : ℕ → Step) (run : IsEndlessRun scene
       let gs = ever_has g o p h'.1 (λ x a. subst (Stands ((scene x).core.queue o)) (sym h'.2) (locked.ever.1 x a)) in
       let own = locked.owns p (omega arith) ∙ ap Taken (sym h'.2) in
       let has = owner_holds (scene p).core (lawful_at scene step run p) g n o h'.1 own in
-      absurd (no_chain (scene p).core.seats p (g ∷ []) (omega arith) ((λ y none. absurd none), tt)
+      absurd (no_chain (suc (scene p).core.seats) p (g ∷ []) (omega arith) ((λ y none. absurd none), tt)
       (λ y. ⊎_elim (λ is. (o, λ x a. subst (Has ((scene x).core.queue o)) (sym is) (gs x a))) (λ none. absurd none))
       g o gs has.0 has.1
       (λ y. ⊎_elim (λ is. let same = ap (λ (z : Entry). z.stamp) is in omega arith) (λ none. absurd none))

@@ -3,7 +3,7 @@ use Rattle.std.proofs.Common.{◌≡◌, ◌⊎◌, inl, inr, ⊎_elim, ℕ, ◌
 use mathlib.Core.Logic.{dite}
 use native.Mathlib.Decide.{ℕ_discrete}
 use Rattle.ww_queue.specs.declared.entry.Entry.{Entry}
-use Rattle.ww_queue.specs.Queue.{Has}
+use Rattle.ww_queue.specs.Queue.{Has, Stands}
 use Rattle.ww_model.specs.declared.state.Holder.TheVariants.{Taken, Handed}
 use Rattle.ww_model.specs.declared.event.Event.TheVariants.{Take, Die, Leave}
 use Rattle.ww_model.specs.State.{State}
@@ -12,7 +12,7 @@ use Rattle.ww_model.specs.Lawful.{IsLawful}
 use Rattle.ww_model.specs.Waits.{IsOneOf, Leads, WaitsFor}
 use Rattle.ww_wakes.specs.Scene.{Scene, Step, performs, May, next}
 use Rattle.ww_wakes.specs.Theorem.{IsEndlessRun}
-use Rattle.ww_live.specs.Theorem.{GivesUp, IsStuck, IsResolved, NoDeadlockLasts, CyclesAreBroken, EndsWait}
+use Rattle.ww_live.specs.Theorem.{GivesUp, IsStuck, IsResolved, NoDeadlockLasts, CyclesAreBroken, EndsWait, AreDeadlocked}
 use Rattle.ww_live.proofs.Steps.{entry_next, taken_next}
 use Rattle.ww_wakes.proofs.Endless.{unless}
 use Rattle.ww_live.proofs.Runs.{Ended, lawful_at, made_next, may_be}
@@ -162,3 +162,14 @@ cycles_are_broken scene step run i (a ∷ bs) go cycle = no_deadlock_lasts scene
   some = (a, inl refl);
   stuck = stuck_in (scene i).core (lawful_at scene step run i) a bs cycle;
 })
+
+-- ---- two seats
+
+-- each stands in the list of the lock that the other has
+pub are_deadlocked : (c : State) → c.owner 0 ≡ Taken 0 → c.owner 1 ≡ Taken 1 → Stands (c.queue 1) 0 → Stands (c.queue 0) 1 →
+    AreDeadlocked c (0 ∷ 1 ∷ [])
+are_deadlocked c has_0 has_1 waits_0 waits_1 = record {
+  some = (0, inl refl);
+  stuck = λ s. ⊎_elim (λ is. (1, inr (inl refl), (1, subst (Stands (c.queue 1)) (sym is) waits_0, has_1)))
+      (⊎_elim (λ is. (0, inl refl, (0, subst (Stands (c.queue 0)) (sym is) waits_1, has_0))) (λ none. absurd none));
+}

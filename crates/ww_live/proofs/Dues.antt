@@ -9,7 +9,7 @@ use Rattle.ww_model.proofs.Cancels.{not_free, kept_there}
 use Rattle.ww_wakes.specs.Scene.{Scene, Step, performs}
 use Rattle.ww_wakes.specs.Theorem.{IsEndlessRun, IsDue}
 use Rattle.ww_live.specs.Premises.{WaitersGoOn}
-use Rattle.ww_live.specs.Theorem.{DueLocksAreTaken}
+use Rattle.ww_live.specs.Theorem.{DueLocksAreTaken, EndsWait}
 use Rattle.ww_live.proofs.Steps.{handed_next, free_next}
 use Rattle.ww_wakes.proofs.Endless.{unless}
 use Rattle.ww_live.proofs.Runs.{IsCalled, Stays, Ended, Sleeps, ended_from, orderly_at, lawful_at, made_next, may_be, comes_in, goes_out, along}
@@ -63,19 +63,21 @@ module _ (scene : ℕ → Scene) (step : ℕ → Step) (run : IsEndlessRun scene
       (λ on. inr (made_next scene step run (λ w. w.core.owner n ≡ Nobody) k on))
       (free_next (scene k) (step k) n e (run.may k) still (stays.here k from (omega arith)))))
 
-  -- a wait that ends while the lock is free ends since the lock is taken
-  free_ends : (e : Entry) (n i : ℕ) → (scene i).core.owner n ≡ Nobody → Ended scene step e n i → IsTaken n i
-  free_ends e n i free end = let j = end.at in let c = (scene j).core in let l = lawful_at scene step run j in
-      ⊎_elim (λ t. t)
-      (λ still. ⊎_elim
-      (λ take. record { at = j; later = end.later; seat = e.seat; takes = take })
+  -- a wait that ends while the lock is there for the waiter, or is free, ends since the waiter takes it
+  takes_it : (e : Entry) (n i : ℕ) → ((scene i).core.owner n ≡ Nobody) ⊎ ((scene i).core.owner n ≡ Handed e.seat) →
+      EndsWait e.seat n (step i) → step i ≡ performs (Take e.seat n)
+  takes_it e n i there ends = let c = (scene i).core in let l = lawful_at scene step run i in ⊎_elim (λ take. take)
       (⊎_elim
-      (λ dies. let can = may_be scene step run j (performs (Die e.seat n)) dies in
-      absurd (not_free (c.owner n) e.seat can.possible.base.other (inl still)))
-      (λ leaves. let can = may_be scene step run j (performs (Leave e.seat n)) leaves in
-      absurd (not_free (c.owner n) e.seat (kept_there c l.base e.seat n can.possible.base) (inl still))))
-      end.ends)
-      (free_at e n i j end.later end.stays free)
+      (λ dies. let can = may_be scene step run i (performs (Die e.seat n)) dies in
+      absurd (not_free (c.owner n) e.seat can.possible.base.other there))
+      (λ leaves. let can = may_be scene step run i (performs (Leave e.seat n)) leaves in
+      absurd (not_free (c.owner n) e.seat (kept_there c l.base e.seat n can.possible.base) there)))
+      ends
+
+  free_ends : (e : Entry) (n i : ℕ) → (scene i).core.owner n ≡ Nobody → Ended scene step e n i → IsTaken n i
+  free_ends e n i free end = ⊎_elim (λ t. t)
+      (λ still. record { at = end.at; later = end.later; seat = e.seat; takes = takes_it e n end.at (inl still) end.ends })
+      (free_at e n i end.at end.later end.stays free)
 
   free_inside : (e : Entry) (n i : ℕ) → Has ((scene i).core.queue n) e → (scene i).core.owner n ≡ Nobody →
       (scene i).core.guard n ≡ suc e.seat → IsTaken n i
@@ -108,18 +110,8 @@ module _ (scene : ℕ → Scene) (step : ℕ → Step) (run : IsEndlessRun scene
   -- a seat to which a lock was handed takes it
   pub handed_takes : (e : Entry) (n i : ℕ) → Has ((scene i).core.queue n) e → (scene i).core.owner n ≡ Handed e.seat →
       (end : Ended scene step e n i) × (step end.at ≡ performs (Take e.seat n))
-  handed_takes e n i h own = let end = handed_ends e n i h own in let j = end.at in let c = (scene j).core in
-      let still = handed_on e n i j end.later end.stays own in (
-        end,
-        ⊎_elim (λ take. take)
-            (⊎_elim
-            (λ dies. let can = may_be scene step run j (performs (Die e.seat n)) dies in
-            absurd (not_free (c.owner n) e.seat can.possible.base.other (inr still)))
-            (λ leaves. let can = may_be scene step run j (performs (Leave e.seat n)) leaves in
-            absurd (not_free (c.owner n) e.seat (kept_there c
-            (lawful_at scene step run j).base e.seat n can.possible.base) (inr still))))
-            end.ends,
-      )
+  handed_takes e n i h own = let end = handed_ends e n i h own in
+      (end, takes_it e n end.at (inr (handed_on e n i end.at end.later end.stays own)) end.ends)
 
 pub due_locks_are_taken : DueLocksAreTaken
 due_locks_are_taken scene step run go i s n = let l = lawful_at scene step run i in record {

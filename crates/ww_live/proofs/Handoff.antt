@@ -336,18 +336,10 @@ module _ (scene : ℕ → Scene) (step : ℕ → Step) (run : IsEndlessRun scene
 
   on : (fuel i : ℕ) (ws ls : List Entry) → Once ws → Once ls → AllWait scene step run i ws →
       AllAsked scene step run i ls →
-      (scene i).core.seats + (scene i).core.locks ≤ length ws + length ls + fuel → (e : Entry) (n : ℕ) →
+      (scene i).core.seats + (scene i).core.locks < length ws + length ls + fuel → (e : Entry) (n : ℕ) →
       Has ((scene i).core.queue n) e → Goal i
-  on zero i ws ls once each wait asked room e n h = by_leaf i ws ls (record {
-    once = once;
-    each = each;
-    wait = wait;
-    asked = asked;
-    more = λ j later ws' ls' once' each' wait' asked' grown x m there.
-        let a = few scene step run j ws' once' wait' in let b = few_asked scene step run j ls' each' asked' in
-        let same = seats_at scene step run i j later in let same' = locks_at scene step run i j later in
-        absurd (omega arith);
-  }) (leaf_of (scene i).core (orderly_at scene step run i).reached (lawful_at scene step run i) e n h)
+  on zero i ws ls once each wait asked room e n h = let a = few scene step run i ws once wait in
+      let b = few_asked scene step run i ls each asked in absurd (omega arith)
   on (suc fuel) i ws ls once each wait asked room e n h = by_leaf i ws ls (record {
     once = once;
     each = each;
@@ -360,6 +352,6 @@ module _ (scene : ℕ → Scene) (step : ℕ → Step) (run : IsEndlessRun scene
 
 pub waits_end : WaitsEnd
 waits_end scene step run go holders asks i s n h =
-    on scene step run go holders asks ((scene i).core.seats + (scene i).core.locks) i [] [] tt tt
+    on scene step run go holders asks (suc ((scene i).core.seats + (scene i).core.locks)) i [] [] tt tt
     (λ e none. absurd none) (λ a none. absurd none)
     (omega arith) h.0 n h.1

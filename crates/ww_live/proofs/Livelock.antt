@@ -218,17 +218,9 @@ module _ (scene : ℕ → Scene) (step : ℕ → Step) (run : IsEndlessRun scene
       (λ f. let y = f.0 in let after = f.1 in freed i j y t k ls once all h later after has f.2 (next y (omega arith)))
       (dead j t m k die has)
 
-  on : (fuel i : ℕ) (ls : List Entry) → Once ls → AllFree i ls → (scene i).core.locks ≤ length ls + fuel →
+  on : (fuel i : ℕ) (ls : List Entry) → Once ls → AllFree i ls → (scene i).core.locks < length ls + fuel →
       Has ((scene i).core.queue n) e → Goal i
-  on zero i ls once all room h = let g = somebody_goes_on scene step run go holders i e.seat n (e, h, refl) in
-      let j = g.0 in
-      let later = g.1 in ⊎_elim
-      (λ take. (j, later, inr (g.2.0, take.0, inr (inl take.1))))
-      (λ up. ⊎_elim
-      (λ die. died i j g.2.0 up.0 ls once all h later die (λ y after ls' once' all' grown there.
-      let a = few_free y ls' once' all' in let same = locks_at scene step run i y after in absurd (omega arith)))
-      (λ leave. (j, later, inr (g.2.0, up.0, inr (inr leave)))) up.1)
-      g.2.1
+  on zero i ls once all room h = let full = few_free i ls once all in absurd (omega arith)
   on (suc fuel) i ls once all room h = let g = somebody_goes_on scene step run go holders i e.seat n (e, h, refl) in
       let j = g.0 in let later = g.1 in ⊎_elim
       (λ take. (j, later, inr (g.2.0, take.0, inr (inl take.1))))
@@ -240,7 +232,7 @@ module _ (scene : ℕ → Scene) (step : ℕ → Step) (run : IsEndlessRun scene
 
   pub ends_or_taken : (i : ℕ) → Has ((scene i).core.queue n) e → Goal i
   unfolding AllFree
-  ends_or_taken i h = on (scene i).core.locks i [] tt (λ a none. absurd none) (omega arith) h
+  ends_or_taken i h = on (suc (scene i).core.locks) i [] tt (λ a none. absurd none) (omega arith) h
 
 pub no_livelock : NoLivelock
 no_livelock scene step run go holders backs i s n h = let g =

@@ -23,7 +23,7 @@ use Rattle.ww_wakes.specs.Scene.{Phase, acting, going_to_sleep, asleep, Scene, S
 use Rattle.ww_wakes.specs.Theorem.{IsEndlessRun}
 use Rattle.ww_wakes.proofs.Woken.{owing_more, debt_else}
 use Rattle.ww_wakes.proofs.Keeping.{reached_is_orderly}
-use Rattle.ww_live.specs.Premises.{WaitersGoOn, HoldersGoOn, HoldersRelease, RestsOn, IsOver, ContextsEnd, WaitsOwning, FirstsAsk, Wants, BacksOff, TakesContendedFirst, ContextsEndOrDie}
+use Rattle.ww_live.specs.Premises.{WaitersGoOn, HoldersGoOn, HoldersRelease, RestsOn, IsOver, ContextsEnd, WaitsOwning, FirstsAsk, Wants, BacksOff, TakesContendedFirst, ContextsEndOrDie, InTheEnd}
 use Rattle.ww_live.proofs.Steps.{taken_or_not, entry_next, ends_inside}
 use Rattle.ww_live.proofs.Runs.{phase_is, number_is}
 use Rattle.ww_live.proofs.Leaves.{stands_or_not, waits_or_not}
@@ -191,6 +191,10 @@ abbrev pub with_first : {A : Type 0} → A → (ℕ → A) → ℕ → A
 with_first a f zero = a
 with_first a f (suc i) = f i
 
+-- what comes later in the rest comes later with the step in front
+later_first : (P : ℕ → Type 0) (k i : ℕ) → k ≤ suc i → InTheEnd i (λ j. P (suc j)) → InTheEnd k P
+later_first P k i from later = let a = later.1 in (suc later.0, omega arith, later.2)
+
 -- a debt is paid, or stays
 debt_next : (w : Scene) (x : Step) (s v : ℕ) → w.owes s v ≡ true → (x ≡ wakes s v) ⊎ ((next w x).owes s v ≡ true)
 debt_next w (performs e) s v owed = inr (owing_more w.owes (actor e) (woken_by w.core e) s v owed)
@@ -277,29 +281,24 @@ module _ (w : Scene) (x : Step) (reached : IsReached w) (plain : is_plain w x �
   made_first : (i s v : ℕ) → (with_first w scene i).owes s v ≡ true →
       (j : ℕ) × (i ≤ j) × (with_first x step j ≡ wakes s v)
   made_first zero s v owed = ⊎_elim (λ is. (0, omega arith, is))
-      (λ still. let later = (g.go v).scheduled.made 0 s (at_first (λ y. y.owes s v ≡ true) still) in
-      (suc later.0, omega arith, later.2))
+      (λ still. later_first _ 0 0 (omega arith) ((g.go v).scheduled.made 0 s (at_first (λ y. y.owes s v ≡ true) still)))
       (debt_next w x s v owed)
-  made_first (suc i) s v owed = let later = (g.go v).scheduled.made i s owed in let a = later.1 in
-      (suc later.0, omega arith, later.2)
+  made_first (suc i) s v owed = later_first _ (suc i) i (omega arith) ((g.go v).scheduled.made i s owed)
 
   heard_first : (i s : ℕ) → (with_first w scene i).token s ≡ true → (with_first w scene i).phase s ≡ asleep →
       (j : ℕ) × (i ≤ j) × (with_first x step j ≡ rises s)
   heard_first zero s token sleeps = ⊎_elim (λ is. (0, omega arith, is))
-      (λ still. let later = (g.go s).scheduled.heard 0 (at_first (λ y. y.token s ≡ true) still.0)
-      (at_first (λ y. y.phase s ≡ asleep) still.1) in
-      (suc later.0, omega arith, later.2))
+      (λ still. later_first _ 0 0 (omega arith) ((g.go s).scheduled.heard 0 (at_first (λ y. y.token s ≡ true) still.0)
+      (at_first (λ y. y.phase s ≡ asleep) still.1)))
       (token_next w x s may_first token sleeps)
-  heard_first (suc i) s token sleeps = let later = (g.go s).scheduled.heard i token sleeps in let a = later.1 in
-      (suc later.0, omega arith, later.2)
+  heard_first (suc i) s token sleeps = later_first _ (suc i) i (omega arith) ((g.go s).scheduled.heard i token sleeps)
 
   settled_first : (i s : ℕ) → (with_first w scene i).phase s ≡ going_to_sleep →
       (j : ℕ) × (i ≤ j) × ((with_first w scene j).phase s ≢ going_to_sleep)
   settled_first zero s goes = ⊎_elim (λ acts. (1, omega arith, λ z. let y : ⊥ = cc in y)) (⊎_elim
-      (λ still. let later = (g.go s).scheduled.settled 0 still in (suc later.0, omega arith, later.2))
+      (λ still. later_first _ 0 0 (omega arith) ((g.go s).scheduled.settled 0 still))
       (λ sleeps. (1, omega arith, λ z. let y : ⊥ = cc in y))) (phase_is ((scene 0).phase s))
-  settled_first (suc i) s goes = let later = (g.go s).scheduled.settled i goes in let a = later.1 in
-      (suc later.0, omega arith, later.2)
+  settled_first (suc i) s goes = later_first _ (suc i) i (omega arith) ((g.go s).scheduled.settled i goes)
 
   leaves_first : (i s n : ℕ) → Stands ((with_first w scene i).core.queue n) s →
       (with_first w scene i).core.guard n ≡ suc s →
@@ -307,23 +306,20 @@ module _ (w : Scene) (x : Step) (reached : IsReached w) (plain : is_plain w x �
       StandsNot ((with_first w scene j).core.queue n) s)
   leaves_first zero s n h inside = ⊎_elim
       (λ still. ⊎_elim
-      (λ there. let later = (g.go s).scheduled.leaves 0 n there still in (suc later.0, omega arith, later.2))
+      (λ there. later_first _ 0 0 (omega arith) ((g.go s).scheduled.leaves 0 n there still))
       (λ none. (1, omega arith, inr none))
       (stands_or_not ((scene 0).core.queue n) s))
       (λ out. (1, omega arith, inl out)) (number_is ((scene 0).core.guard n) (suc s))
-  leaves_first (suc i) s n h inside = let later = (g.go s).scheduled.leaves i n h inside in let a = later.1 in
-      (suc later.0, omega arith, later.2)
+  leaves_first (suc i) s n h inside = later_first _ (suc i) i (omega arith) ((g.go s).scheduled.leaves i n h inside)
 
   looks_first : (i s n : ℕ) → Stands ((with_first w scene i).core.queue n) s → (with_first w scene i).phase s ≡ acting →
       (j : ℕ) × (i ≤ j) × ((with_first w scene j).core.guard n ≡ suc s)
   looks_first zero s n h acts = ⊎_elim (λ inside. (0, omega arith, inside))
       (λ out. let still = looks_next w x s n may_first
       (reached_is_lawful w.core (reached_is_orderly w reached).reached) h acts out in
-      let later = (g.go s).scheduled.looks 0 n (at_first (λ y. Stands (y.core.queue n) s) still.0)
-      (at_first (λ y. y.phase s ≡ acting) still.1) in
-      (suc later.0, omega arith, later.2)) (number_is (w.core.guard n) (suc s))
-  looks_first (suc i) s n h acts = let later = (g.go s).scheduled.looks i n h acts in let a = later.1 in
-      (suc later.0, omega arith, later.2)
+      later_first _ 0 0 (omega arith) ((g.go s).scheduled.looks 0 n (at_first (λ y. Stands (y.core.queue n) s) still.0)
+      (at_first (λ y. y.phase s ≡ acting) still.1))) (number_is (w.core.guard n) (suc s))
+  looks_first (suc i) s n h acts = later_first _ (suc i) i (omega arith) ((g.go s).scheduled.looks i n h acts)
 
   sleeps_first : (i s n : ℕ) → with_first x step i ≡ performs (Unguard s n) →
       StandsNot ((with_first w scene i).core.queue n) s
@@ -334,11 +330,10 @@ module _ (w : Scene) (x : Step) (reached : IsReached w) (plain : is_plain w x �
   holders_first zero s n own idle = ⊎_elim
       (λ still. ⊎_elim
       (λ waits. (1, omega arith, inr waits))
-      (λ none. let later = g.holders 0 s n still none in (suc later.0, omega arith, later.2))
+      (λ none. later_first _ 0 0 (omega arith) (g.holders 0 s n still none))
       (waits_or_not (scene 0).core (reached_is_orderly (scene 0) g.run.begins).reached s))
       (λ gone. (1, omega arith, inl gone)) (taken_or_not ((scene 0).core.owner n) s)
-  holders_first (suc i) s n own idle = let later = g.holders i s n own idle in let a = later.1 in
-      (suc later.0, omega arith, later.2)
+  holders_first (suc i) s n own idle = later_first _ (suc i) i (omega arith) (g.holders i s n own idle)
 
   shifted : (j s m : ℕ) → ((k : ℕ) → j ≤ k → Stands ((scene k).core.queue m) s) →
       (k : ℕ) → suc j ≤ k → Stands ((with_first w scene k).core.queue m) s

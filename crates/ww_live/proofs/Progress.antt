@@ -134,12 +134,8 @@ module _ (scene : ℕ → Scene) (step : ℕ → Step) (run : IsEndlessRun scene
 
   -- there are only as many waiters as seats
   on : (fuel i : ℕ) (ws : List Entry) → Once ws → AllWait scene step run i ws →
-      (scene i).core.seats ≤ length ws + fuel →
-      (e : Entry) (n : ℕ) → Has ((scene i).core.queue n) e → Goal i
-  on zero i ws once all room e n h = by_leaf i
-      (by_holder i ws all (λ j later x new wait y m there. let full = few scene step run j (x ∷ ws) (new, once) wait in
-      let same = seats_at scene step run i j later in absurd (omega arith)))
-      (leaf_of (scene i).core (orderly_at scene step run i).reached (lawful_at scene step run i) e n h)
+      (scene i).core.seats < length ws + fuel → (e : Entry) (n : ℕ) → Has ((scene i).core.queue n) e → Goal i
+  on zero i ws once all room e n h = let full = few scene step run i ws once all in absurd (omega arith)
   on (suc fuel) i ws once all room e n h = by_leaf i
       (by_holder i ws all (λ j later x new wait y m there. let same = seats_at scene step run i j later in
       on fuel j (x ∷ ws) (new, once) wait (omega arith) y m there))
@@ -147,4 +143,4 @@ module _ (scene : ℕ → Scene) (step : ℕ → Step) (run : IsEndlessRun scene
 
 pub somebody_goes_on : SomebodyGoesOn
 somebody_goes_on scene step run go holders i s n h =
-    on scene step run go holders (scene i).core.seats i [] tt (λ e none. absurd none) (omega arith) h.0 n h.1
+    on scene step run go holders (suc (scene i).core.seats) i [] tt (λ e none. absurd none) (omega arith) h.0 n h.1

@@ -6,8 +6,6 @@ use Rattle.ww_word.specs.Owner.{with_waiters}
 use Rattle.ww_word.specs.AnySeats.{IsValid, packed}
 use Rattle.ww_queue.specs.declared.kind.Kind.{Kind}
 use Rattle.ww_queue.specs.declared.kind.Kind.TheVariants.{WoundWait, WaitDie}
-use Rattle.ww_queue.specs.Queue.{Stands}
-use Rattle.ww_model.specs.declared.state.Holder.TheVariants.{Taken}
 use Rattle.ww_model.specs.declared.event.Event.TheVariants.{Die}
 use Rattle.ww_model.specs.State.{State, put}
 use Rattle.ww_view.specs.Word.{rest_word}
@@ -28,6 +26,7 @@ use Rattle.ww_runs.specs.Deadlocks.{IsScheduledThere, HasDeadlockThere, Deadlock
 use Rattle.ww_runs.proofs.Standstill.{idles}
 use Rattle.ww_runs.proofs.Small.{least, small, owner, AtWith, after_event, moves_there, part_there, word_there}
 use Rattle.ww_runs.proofs.Deadlocked.{first_not_second, younger_waits, out, aged_out, wounded_out, b_4, b_5, dying_12, wound_15, core_wound, core_dying, core_dead, at_dying_12, at_wound_15, sleeping, heeding}
+use Rattle.ww_live.proofs.Deadlocks.{are_deadlocked}
 
 -- ---- what holds as long as nothing more happens
 
@@ -146,15 +145,6 @@ module _ {kind : Kind} {m m' m'' : Moment (small kind)} {x : Option Step} (d : I
 
 pub is_valid : IsValid (with_waiters owner)
 is_valid = record { seating = inl (omega arith, omega arith); flags = inr (inl refl) }
-
--- each stands in the list of the lock that the other has
-pub are_deadlocked : (c : State) → c.owner 0 ≡ Taken 0 → c.owner 1 ≡ Taken 1 → Stands (c.queue 1) 0 → Stands (c.queue 0) 1 →
-    AreDeadlocked c (0 ∷ 1 ∷ [])
-are_deadlocked c has_0 has_1 waits_0 waits_1 = record {
-  some = (0, inl refl);
-  stuck = λ s. ⊎_elim (λ is. (1, inr (inl refl), (1, subst (Stands (c.queue 1)) (sym is) waits_0, has_1)))
-      (⊎_elim (λ is. (0, inl refl, (0, subst (Stands (c.queue 0)) (sym is) waits_1, has_0))) (λ none. absurd none));
-}
 
 -- in Wait-Die
 abbrev dying_me : Sat
