@@ -21,7 +21,7 @@ use Rattle.ww_runs.proofs.Ends.{nobody_sleeps_in_vain_in_runs}
 use Rattle.ww_runs.proofs.Unlocking.{no_deadlock_lasts_in_runs, waits_end_in_runs}
 use Rattle.ww_desk.specs.Opened.{fresh}
 use Rattle.ww_drives.specs.Stages.{Stage, IsFirstStage}
-use Rattle.ww_drives.specs.Deeds.{Deed, calls, steps, reads, answers, names, wakes, parks, rises, halts, Does, IsDriven}
+use Rattle.ww_drives.specs.Deeds.{Deed, steps, rises, Does, IsDriven}
 use Rattle.ww_drives.specs.Deeds as drive
 use Rattle.ww_drives.specs.Laws.{NewWorldsBegin, move_of, DrivesAreRuns, IsDueBy, NoWakeIsLostInDrives, NoStandstillInDrives, IsEndlessDrive, WakesArriveByDesks, NobodySleepsInVainInDrives, IsServed, NoDeadlockLastsInDrives, DrivesRunOn, WaitsEndInDrives}
 use Rattle.ww_drives.proofs.Kept.{OfDesk, of_desk, IsKept}
@@ -136,14 +136,7 @@ pub event_of : {key : Start} (g g' : Stage key) → IsDriven g → (x : Deed) (e
 event_of g g' from (steps d y) e does is = let there = does.there (acts g g' (in_order g from) d y does) in
     let own = subst (IsBy d) is there.by in
     ap (λ (z : Option Step). steps d z) is ∙ ap (λ (z : ℕ). steps z (Some (performs e))) (sym own)
-event_of g g' from (calls d) e does is = absurd (cc)
-event_of g g' from (reads d) e does is = absurd (cc)
-event_of g g' from (answers d call a) e does is = absurd (cc)
-event_of g g' from (names d u) e does is = absurd (cc)
-event_of g g' from (wakes d u) e does is = absurd (cc)
-event_of g g' from (parks d) e does is = absurd (cc)
-event_of g g' from (rises d) e does is = absurd (cc)
-event_of g g' from halts e does is = absurd (cc)
+event_of g g' from _ e does is = absurd (cc)
 
 module _ {key : Start} (stage : ℕ → Stage key) (deed : ℕ → Deed) (endless : IsEndlessDrive stage deed) where
   driven : (j : ℕ) → IsDriven (stage j)

@@ -20,7 +20,7 @@ use Rattle.ww_view.proofs.Inside.{mine_look, mine_lost_sign, mine_read, mine_mis
 use Rattle.ww_wakes.specs.Scene.{Phase, Scene, first_scene, acting, going_to_sleep, asleep, Step, performs, leaves_to_sleep, finds_no_sign, finds_no_cancel, wakes, falls_asleep, rises, May, next, woken_by, IsReached, begins, goes_on}
 use Rattle.ww_wakes.specs.Ties.{IsInCall, IsResting, also, mover}
 use Rattle.ww_wakes.proofs.Woken.{debt_was}
-use Rattle.ww_wakes.proofs.Calls.{shown_is_a_step, leaving_is_a_step, sign_look_is_a_step, cancel_look_is_a_step, others_leave_calls_alone}
+use Rattle.ww_wakes.proofs.Calls.{shown_is_a_step, leaving_is_a_step, sign_look_is_a_step, cancel_look_is_a_step, others_leave_calls_alone, call_stays}
 use Rattle.ww_wakes.proofs.Rests.{start_is_in_call, leaving_comes_to_rest, rest_stays, rising_is_in_call}
 use Rattle.ww_live.specs.Views.{Finds, looks, notes, reads, keeps, misses, glances, pends, is_shut_out, steps, FindsOn, no_more, more, MayByView, MadeBy, IsViewedRun, ViewedRunsAreRuns, ViewedWaitersSleep, ViewedDeadlocksEnd, ViewedRunsAreThere, LooksAgainStill, LaterStays, ViewedRunsAsk}
 use Rattle.ww_live.proofs.Deadlocks.{no_deadlock_lasts}
@@ -123,14 +123,9 @@ pub record GoesOn (w : Scene) (x : Step) (made : View) : Type 0 where
   pub placed : IsPlaced (next w x) made
 
 woke_in_call : (w : Scene) (v : View) (us : List ℕ) (u : ℕ) → IsInCall w v us → IsInCall (next w (wakes v.who u)) v us
-woke_in_call w v us u i = record {
-  knows = i.knows;
-  acts = i.acts;
-  fresh = i.fresh;
-  uncancelled = i.uncancelled;
-  debts = λ x owed. ⊎_elim (λ paid. absurd (true≢false (sym paid.2))) (i.debts x)
-      (debt_was w.owes v.who u false v.who x owed);
-}
+woke_in_call w v us u i = call_stays w v us i (next w (wakes v.who u)) i.knows refl refl refl
+    (λ x owed. ⊎_elim (λ paid. absurd (true≢false (sym paid.2))) (λ old. old)
+    (debt_was w.owes v.who u false v.who x owed))
 
 in_call : (w : Scene) (v : View) → w.phase v.who ≡ acting → IsPlaced w v → (us : List ℕ) × IsInCall w v us
 in_call w v acts p = (p.0, ⊎_elim (λ i. i) (λ i. absurd (i.rests acts)) p.1)
