@@ -35,8 +35,8 @@ use Rattle.ww_drives.specs.Deeds.{Deed, Does, cancel, unlock, steps, answers, ha
 use Rattle.ww_drives.specs.Deeds as drive
 use Rattle.ww_drives.specs.Laws.{IsDueBy, IsServed}
 use Rattle.ww_drives.specs.Witness.{WaitsAreInEndlessDrives}
-use Rattle.ww_drives.proofs.Shown.{Picture, staged, Shown, Next, called, played, answered, calls_then, plays_then, answers_then, answers_does, IsAnswer, part_is, OwesNobody, nothing_due, follows_of, acting}
-use Rattle.ww_drives.proofs.Turns.{misses_as, misses_now, glances_as, glances_now, enters_as, enters_now, joins_as, joins_now, exits_as, exits_now, turned, turns}
+use Rattle.ww_drives.proofs.Shown.{Picture, staged, Shown, Next, called, played, answered, calls_then, plays_then, answers_then, answers_does, IsAnswer, part_is, OwesNobody, nothing_due, follows_of, acting, seated}
+use Rattle.ww_drives.proofs.Turns.{misses_as, misses_now, glances_as, glances_now, enters_as, enters_now, joins_as, joins_now, exits_as, exits_now, turned, turns, may_turn, may_play}
 use Rattle.ww_drives.proofs.Starting.{is_of_world, p_3, g_3, owe_nobody}
 use Rattle.ww_drives.proofs.Sleeping.{has_no_mark, wakes_none}
 
@@ -83,14 +83,8 @@ p_4 kind = turned (p_3 kind) 0 1 (cancel_at least 1) 2 (off_1 kind) (Some (perfo
 g_4 : (kind : Kind) → Shown (small kind) (p_4 kind)
 unfolding put ℕ_discrete lock_at
 g_4 kind = let g = g_3 kind in let a = g.at in let s = (p_3 kind).desk 1 in
-    turns g 0 1 (waiter_1 kind) (record {
-      acts = acting refl refl refl (omega arith) refl refl refl;
-      idle = refl;
-      rose = refl;
-      knows = refl;
-      cancelled = refl;
-      out = refl;
-    }) (cancel_at least 1) 2 (off_1 kind) (Some (performs (Cancel 1 1))) (record {
+    turns g 0 1 (waiter_1 kind)
+    (may_turn (acting refl refl refl (omega arith) refl refl refl) refl refl refl refl refl) (cancel_at least 1) 2 (off_1 kind) (Some (performs (Cancel 1 1))) (record {
       play = record {
         found = _;
         is = λ i. stepped (a.is_table i) (cancel_at least 1) 2 0 [] (off_1 kind) keeps;
@@ -114,38 +108,24 @@ p_5 kind = misses_as (small kind) (p_4 kind) 0 1 0 UntilCancelled (off_1 kind)
 
 g_5 : (kind : Kind) → Shown (small kind) (p_5 kind)
 unfolding put ℕ_discrete lock_at
-g_5 kind = misses_now (g_4 kind) 0 1 (off_1 kind) (record {
-  acts = acting refl refl refl (omega arith) refl refl refl;
-  idle = refl;
-  rose = refl;
-  knows = refl;
-  cancelled = refl;
-  out = refl;
-}) 0 UntilCancelled (record { rests = refl; lacks = refl; there = omega arith; wants = refl })
+g_5 kind = misses_now (g_4 kind) 0 1 (off_1 kind)
+    (may_turn (acting refl refl refl (omega arith) refl refl refl) refl refl refl refl refl) 0 UntilCancelled (record { rests = refl; lacks = refl; there = omega arith; wants = refl })
 
 abbrev p_6 : Kind → Picture
 p_6 kind = glances_as (small kind) (p_5 kind) 0 1 0 UntilCancelled (off_2 kind)
 
 g_6 : (kind : Kind) → Shown (small kind) (p_6 kind)
 unfolding put ℕ_discrete lock_at
-g_6 kind = glances_now (g_5 kind) 0 1 (off_2 kind) (record {
-  acts = acting refl refl refl (omega arith) refl refl refl;
-  idle = refl;
-  rose = refl;
-  knows = refl;
-  cancelled = refl;
-  out = refl;
-}) 0 UntilCancelled refl
+g_6 kind = glances_now (g_5 kind) 0 1 (off_2 kind)
+    (may_turn (acting refl refl refl (omega arith) refl refl refl) refl refl refl refl refl) 0 UntilCancelled refl
 
 abbrev p_7 : Kind → Picture
 p_7 kind = enters_as (small kind) (called (p_6 kind) 1) 0 0 (off_3 kind)
 
 g_7 : (kind : Kind) → Shown (small kind) (p_7 kind)
 unfolding put ℕ_discrete lock_at
-g_7 kind = enters_now (calls_then (g_6 kind) 1 (omega arith) refl refl refl) 0 1 (off_3 kind) (record {
-  acts = acting refl refl refl (omega arith) refl refl refl;
-  calling = refl;
-}) 0 (omega arith)
+g_7 kind = enters_now (calls_then (g_6 kind) 1 (omega arith) refl refl refl) 0 1 (off_3 kind)
+    (may_play (acting refl refl refl (omega arith) refl refl refl) refl) 0 (omega arith)
     (record { outside = refl; why = inr (inr (refl, refl, inl (omega arith), inr (inl refl))) }) refl
 
 abbrev p_8 : Kind → Picture
@@ -153,10 +133,8 @@ p_8 kind = joins_as (small kind) (p_7 kind) 0 0 owner (off_4 kind)
 
 g_8 : (kind : Kind) → Shown (small kind) (p_8 kind)
 unfolding put ℕ_discrete lock_at
-g_8 kind = joins_now (g_7 kind) 0 1 (off_4 kind) (record {
-  acts = acting refl refl refl (omega arith) refl refl refl;
-  calling = refl;
-}) 0 owner
+g_8 kind = joins_now (g_7 kind) 0 1 (off_4 kind)
+    (may_play (acting refl refl refl (omega arith) refl refl refl) refl) 0 owner
     (record {
       inside = refl;
       not_waiting = refl;
@@ -175,7 +153,7 @@ p_9 kind = played (p_8 kind) (table_9 kind) (Some (performs (Heed 1 0)))
 g_9 : (kind : Kind) → Shown (small kind) (p_9 kind)
 unfolding put ℕ_discrete lock_at
 g_9 kind = let g = g_8 kind in let a = g.at in
-    (plays_then g 0 1 (off_5 kind, out line) (record { here = refl; seated = refl; who = refl; low = omega arith }) (record { awake = refl; rested = refl; fresh = refl }) refl (Some (performs (Heed 1 0))) (table_9 kind) (record {
+    (plays_then g 0 1 (off_5 kind, out line) (seated refl refl refl (omega arith)) (record { awake = refl; rested = refl; fresh = refl }) refl (Some (performs (Heed 1 0))) (table_9 kind) (record {
       found = _;
       is = λ i. stepped (a.is_table i) (cancel_at least 1) 0 0 (out line)
           (heeding (off_5 kind) (slice_index (a.is_table i).words (cancel_at least 1))) keeps;
@@ -207,7 +185,7 @@ p_11 kind = played (p_10 kind) (table_11 kind) (Some (performs (Leave 1 0)))
 leaves_list : (kind : Kind) → Next (g_10 kind) (steps 1 (Some (performs (Leave 1 0)))) (p_11 kind)
 unfolding put ℕ_discrete lock_at
 leaves_list kind = let g = g_10 kind in let a = g.at in
-    plays_then g 0 1 (off_6 kind, out line) (record { here = refl; seated = refl; who = refl; low = omega arith }) (record { awake = refl; rested = refl; fresh = refl }) refl (Some (performs (Leave 1 0))) (table_11 kind) (record {
+    plays_then g 0 1 (off_6 kind, out line) (seated refl refl refl (omega arith)) (record { awake = refl; rested = refl; fresh = refl }) refl (Some (performs (Leave 1 0))) (table_11 kind) (record {
       found = _;
       is = λ i. stepped (a.is_table i) (owner_at least 0) (packed (rest_word [] (with_waiters owner))) 0 (out line) (off_7 kind) keeps;
       plays = play.leaves 0 (with_waiters owner) (record { inside = refl; waits = refl; heeded = λ none. omega arith })
@@ -220,10 +198,8 @@ p_12 kind = exits_as (small kind) (p_11 kind) 0 0 (off_7 kind) (performs (Unguar
 
 comes_out : (kind : Kind) → Next (leaves_list kind).next (steps 1 (Some (performs (Unguard 1 0)))) (p_12 kind)
 unfolding put ℕ_discrete lock_at
-comes_out kind = exits_now (leaves_list kind).next 0 1 (off_7 kind) (record {
-  acts = acting refl refl refl (omega arith) refl refl refl;
-  calling = refl;
-}) 0
+comes_out kind = exits_now (leaves_list kind).next 0 1 (off_7 kind)
+    (may_play (acting refl refl refl (omega arith) refl refl refl) refl) 0
     (record { inside = refl; why = inl (refl, refl); unsigned = λ _. inr (inr bare); unheeded = refl }) refl
 
 abbrev table_13 : Kind → St
@@ -235,7 +211,7 @@ p_13 kind = played (p_12 kind) (table_13 kind) (Some (performs (FastGive 0 0)))
 releases : (kind : Kind) → Next (comes_out kind).next (steps 0 (Some (performs (FastGive 0 0)))) (p_13 kind)
 unfolding put ℕ_discrete lock_at
 releases kind = let g = (comes_out kind).next in let a = g.at in
-    plays_then g 1 0 (holder_2 kind, []) (record { here = refl; seated = refl; who = refl; low = omega arith }) (record { awake = refl; rested = refl; fresh = refl }) refl (Some (performs (FastGive 0 0))) (table_13 kind) (record {
+    plays_then g 1 0 (holder_2 kind, []) (seated refl refl refl (omega arith)) (record { awake = refl; rested = refl; fresh = refl }) refl (Some (performs (FastGive 0 0))) (table_13 kind) (record {
       found = _;
       is = λ i. stepped (a.is_table i) (owner_at least 0) 0 1 [] (free kind) keeps;
       plays = play.gives_bare 0 (omega arith) (omega arith) (refl, refl) refl (word_there a (owner_at least 0) (packed owner) refl);
@@ -294,23 +270,23 @@ is_off kind = let g_11 = (leaves_list kind).next in let g_12 = (comes_out kind).
   leaves = follows_of (leaves_list kind);
   comes_out = follows_of (comes_out kind);
   releases = follows_of (releases kind);
-  calm_0 = is_calm (g_10 kind).at (holder_2 kind) (off_6 kind) (part_is (g_10 kind) 1 0 (holder_2 kind) (record { here = refl; seated = refl; who = refl; low = omega arith }))
-      (part_is (g_10 kind) 0 1 (off_6 kind) (record { here = refl; seated = refl; who = refl; low = omega arith })) (λ u. refl) refl refl refl refl 1 refl;
-  calm_1 = is_calm g_11.at (holder_2 kind) (off_7 kind) (part_is g_11 1 0 (holder_2 kind) (record { here = refl; seated = refl; who = refl; low = omega arith }))
-      (part_is g_11 0 1 (off_7 kind) (record { here = refl; seated = refl; who = refl; low = omega arith })) (λ u. refl) refl refl refl refl 0 refl;
-  calm_2 = is_calm g_12.at (holder_2 kind) (off_8 kind) (part_is g_12 1 0 (holder_2 kind) (record { here = refl; seated = refl; who = refl; low = omega arith }))
-      (part_is g_12 0 1 (off_8 kind) (record { here = refl; seated = refl; who = refl; low = omega arith })) (λ u. refl) refl refl refl refl 0 refl;
-  calm_3 = is_calm g_13.at (free kind) (off_8 kind) (part_is g_13 1 0 (free kind) (record { here = refl; seated = refl; who = refl; low = omega arith }))
-      (part_is g_13 0 1 (off_8 kind) (record { here = refl; seated = refl; who = refl; low = omega arith })) (λ u. refl) refl refl refl refl 0 refl;
-  inside = ap (λ (p : Part). p.core.inside) (sym (part_is (g_10 kind) 0 1 (off_6 kind) (record { here = refl; seated = refl; who = refl; low = omega arith })));
+  calm_0 = is_calm (g_10 kind).at (holder_2 kind) (off_6 kind) (part_is (g_10 kind) 1 0 (holder_2 kind) (seated refl refl refl (omega arith)))
+      (part_is (g_10 kind) 0 1 (off_6 kind) (seated refl refl refl (omega arith))) (λ u. refl) refl refl refl refl 1 refl;
+  calm_1 = is_calm g_11.at (holder_2 kind) (off_7 kind) (part_is g_11 1 0 (holder_2 kind) (seated refl refl refl (omega arith)))
+      (part_is g_11 0 1 (off_7 kind) (seated refl refl refl (omega arith))) (λ u. refl) refl refl refl refl 0 refl;
+  calm_2 = is_calm g_12.at (holder_2 kind) (off_8 kind) (part_is g_12 1 0 (holder_2 kind) (seated refl refl refl (omega arith)))
+      (part_is g_12 0 1 (off_8 kind) (seated refl refl refl (omega arith))) (λ u. refl) refl refl refl refl 0 refl;
+  calm_3 = is_calm g_13.at (free kind) (off_8 kind) (part_is g_13 1 0 (free kind) (seated refl refl refl (omega arith)))
+      (part_is g_13 0 1 (off_8 kind) (seated refl refl refl (omega arith))) (λ u. refl) refl refl refl refl 0 refl;
+  inside = ap (λ (p : Part). p.core.inside) (sym (part_is (g_10 kind) 0 1 (off_6 kind) (seated refl refl refl (omega arith))));
   bare = bare_then;
 }
   where
     bare_then : (s n : ℕ) → s < 2 → owns (view (releases kind).next.at.moment s) n ≡ false
     bare_then zero n low = ap (λ (p : Part). slice_index_or p.core.owned n false)
-        (sym (part_is (releases kind).next 1 0 (free kind) (record { here = refl; seated = refl; who = refl; low = omega arith }))) ∙ bare n
+        (sym (part_is (releases kind).next 1 0 (free kind) (seated refl refl refl (omega arith)))) ∙ bare n
     bare_then (suc zero) n low = ap (λ (p : Part). slice_index_or p.core.owned n false)
-        (sym (part_is (releases kind).next 0 1 (off_8 kind) (record { here = refl; seated = refl; who = refl; low = omega arith }))) ∙ bare n
+        (sym (part_is (releases kind).next 0 1 (off_8 kind) (seated refl refl refl (omega arith)))) ∙ bare n
     bare_then (suc (suc s)) n low = absurd (omega arith)
 
 abbrev picture : Kind → ℕ → Picture
@@ -350,10 +326,10 @@ module _ (kind : Kind) where
   goes_on zero = (leaves_list kind).does
   goes_on (suc zero) = (comes_out kind).does
   goes_on (suc (suc zero)) = (releases kind).does
-  goes_on (suc (suc (suc zero))) = answers_does (releases kind).next 0 1 (off_8 kind) (record { here = refl; seated = refl; who = refl; low = omega arith }) refl drive.go_on (Interrupted 1)
+  goes_on (suc (suc (suc zero))) = answers_does (releases kind).next 0 1 (off_8 kind) (seated refl refl refl (omega arith)) refl drive.go_on (Interrupted 1)
       (stopped kind) (is_stopped kind)
-  goes_on (suc (suc (suc (suc zero)))) = answers_does (answers_then (releases kind).next 0 1 (off_8 kind) (record { here = refl; seated = refl; who = refl; low = omega arith }) refl drive.go_on
-      (Interrupted 1) (stopped kind) (is_stopped kind)) 1 0 (free kind) (record { here = refl; seated = refl; who = refl; low = omega arith }) refl (unlock 0) Done (freed kind) (is_freed kind)
+  goes_on (suc (suc (suc (suc zero)))) = answers_does (answers_then (releases kind).next 0 1 (off_8 kind) (seated refl refl refl (omega arith)) refl drive.go_on
+      (Interrupted 1) (stopped kind) (is_stopped kind)) 1 0 (free kind) (seated refl refl refl (omega arith)) refl (unlock 0) Done (freed kind) (is_freed kind)
   goes_on (suc (suc (suc (suc (suc i))))) = refl
 
   owes_nobody : (i : ℕ) → OwesNobody (small kind) (picture kind i)

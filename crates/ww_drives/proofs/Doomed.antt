@@ -1,64 +1,144 @@
--- The drive of the two from its deadlock on: the younger gets EDEADLK, and then nothing happens.
-use Rattle.std.proofs.Common.{◌≡◌, ⊎_elim, inl, inr, ℕ, zero, suc, ◌<◌, true≢false, [], ◌∷◌, Some, refl, sym, ◌∙◌, subst}
+-- The drive of the two from its deadlock on: the younger dies, comes out of the guard, and gets EDEADLK, while the older sleeps;
+-- and then nothing happens.
+use Rattle.std.proofs.Common.{◌≡◌, ℕ, false, true, [], ◌∷◌, Some, refl, sym, ap, ◌∙◌, subst, ⊎_elim, inl, inr, zero, suc, ◌<◌, true≢false}
 use native.Mathlib.Decide.{ℕ_discrete}
+use Rattle.std.specs.Prelude.{slice_index}
+use Rattle.atomic_table.proofs.Lists.{set_here, set_else}
+use Rattle.ww_word.specs.Owner.{with_waiters}
+use Rattle.ww_word.specs.AnySeats.{packed}
 use Rattle.ww_queue.specs.declared.kind.Kind.{Kind}
-use Rattle.ww_queue.specs.declared.kind.Kind.TheVariants.{WoundWait, WaitDie}
 use Rattle.ww_model.specs.declared.event.Event.TheVariants.{Die, Unguard}
-use Rattle.ww_model.specs.State.{State, put}
+use Rattle.ww_model.specs.State.{put, State}
+use Rattle.ww_view.specs.May.{MayDie, MayExit}
+use Rattle.ww_rule.specs.declared.cells.Part.{Part}
+use Rattle.ww_rule.specs.declared.cells.Sight.{Sight}
+use Rattle.ww_rule.specs.Layout.{owner_at}
 use Rattle.ww_rule.specs.Rule.{St}
+use Rattle.ww_rule.specs.Guards.{exiting}
+use Rattle.ww_rule.specs.Waiting.{dying}
+use Rattle.ww_rule.proofs.Fits.{place_low}
 use Rattle.ww_wakes.specs.Scene.{performs}
 use Rattle.ww_live.specs.Theorem.{AreDeadlocked}
 use Rattle.ww_runs.specs.Moment.{view}
-use Rattle.ww_runs.proofs.Small.{small}
-use Rattle.ww_runs.proofs.Doomed.{IsPending, IsDoomed, moment, pending, sleeper_is_scheduled, dying_is_scheduled, are_deadlocked}
+use Rattle.ww_runs.specs.Moment as runs
+use Rattle.ww_runs.proofs.Small.{least, small, owner}
+use Rattle.ww_runs.proofs.Deadlocked.{second_not_first}
+use Rattle.ww_runs.proofs.Doomed.{is_valid, is_pending, IsDoomed, moment, pending, sleeper_is_scheduled, dying_is_scheduled}
+use Rattle.ww_seat.specs.Marks.{is_marked}
+use Rattle.ww_seat.specs.declared.look.Arrival.TheVariants.{Came}
+use Rattle.ww_seat.specs.declared.waits.Waits.TheVariants.{ToTheEnd}
+use Rattle.ww_desk.specs.declared.turn.Turn.TheVariants.{Wants}
 use Rattle.ww_desk.specs.declared.turn.Answer.TheVariants.{Deadlk}
 use Rattle.ww_desk.specs.Situations.{Situation}
+use Rattle.ww_desk.specs.Answers.{HasToBackOff}
+use Rattle.ww_drives.specs.Deeds.{Does, go_on, steps, answers, Deed, halts}
+use Rattle.ww_drives.proofs.Shown.{Picture, staged, Shown, Next, played, answered, IsSeated, IsActing, OwesNobody, seated, answers_does, part_is, nothing_due, follows_of}
+use Rattle.ww_drives.proofs.Backing.{once_told, backs_off}
+use Rattle.ww_drives.proofs.Starting.{owe_nobody, is_of_world}
+use Rattle.ww_drives.proofs.Turns.{MayPlay, dies_as, dies_now, exits_as, exits_now}
+use Rattle.ww_drives.proofs.Sleeping.{wakes_none}
 use Rattle.ww_drives.specs.Stages.{Stage}
-use Rattle.ww_drives.specs.Deeds.{Deed, steps, answers, halts, go_on, Does}
 use Rattle.ww_drives.specs.Laws.{IsDueBy, IsServed}
-use Rattle.ww_drives.specs.Witness.{HasDeadlockDriven, DeadlocksAreInEndlessDrives}
-use Rattle.ww_drives.proofs.Shown.{Picture, staged, Shown, Next, played, answered, OwesNobody, nothing_due, follows_of}
-use Rattle.ww_drives.proofs.Starting.{is_of_world, owe_nobody}
-use Rattle.ww_drives.proofs.Sleeping.{has_no_mark, has_no_mark_then}
-use Rattle.ww_drives.proofs.Dying as dying
-use Rattle.ww_drives.proofs.Wounding as wounding
+use Rattle.ww_drives.specs.Witness.{HasDeadlockDriven}
 
--- from this stage on the younger dies, comes out of the guard, and its desk answers so
-record Ends {kind : Kind} {p : Picture} (g : Shown (small kind) p) : Type 0 where
-  died : St
-  dies : Next g (steps 1 (Some (performs (Die 1 0)))) (played p died (Some (performs (Die 1 0))))
-  out : St
-  comes_out : Next dies.next (steps 1 (Some (performs (Unguard 1 0))))
-      (played (played p died (Some (performs (Die 1 0)))) out (Some (performs (Unguard 1 0))))
-  told : Situation
-  answers_so : Does (staged comes_out.next.at.moment p) (staged comes_out.next.at.moment (answered p 1 (Deadlk 1) told))
-      (answers 1 go_on (Deadlk 1))
-  before : IsPending g.at.moment 1
-  then : IsPending dies.next.at.moment 0
-  at_last : IsPending comes_out.next.at.moment 0
-  inside : (view g.at.moment 1).inside ≡ 1
-  dead : AreDeadlocked p.core (0 ∷ 1 ∷ [])
-  owes : OwesNobody (small kind) p
-  owes_then : OwesNobody (small kind) (answered p 1 (Deadlk 1) told)
+-- the seat once it has died, and once it is out of the guard
+abbrev died : Sight → Sight
+died b = dying b (with_waiters owner)
 
-module _ {kind : Kind} {p : Picture} {g : Shown (small kind) p} (e : Ends g) where
-  doomed : IsDoomed g.at.moment e.dies.next.at.moment e.comes_out.next.at.moment (Some (performs (Unguard 1 0)))
-  doomed = record {
+abbrev died_out : Sight → Sight
+died_out b = exiting (died b)
+
+-- what its desk knows then
+abbrev told_by : Picture → Sight → Situation
+told_by p b = once_told (p.desk 1) 0 (died_out b).part.core
+
+-- The older sleeps with what this tells, and owes nobody a wake; the younger, with what that tells, is amid its call inside the
+-- guard of the first lock, where it has to die, and its desk to back off.
+pub record IsAboutToDie (kind : Kind) (p : Picture) (a b : Sight) : Type 0 where
+  pub older : IsSeated (small kind) p.table 1 0 a
+  pub younger : IsActing (small kind) p 0 1 b
+  pub calling : p.calling 1 ≡ true
+  pub word : slice_index p.table.words (owner_at least 0) ≡ packed (with_waiters owner)
+  pub dies : MayDie b.part.core 0 (with_waiters owner) 1
+  pub exits : MayExit (died b).part.core 0
+  pub turn : (p.desk 1).turn ≡ Wants 0 Came ToTheEnd
+  pub backs_off : HasToBackOff (p.desk 1) 0 1 (told_by p b)
+  pub alike : (b.part.core.debts ≡ (p.desk 1).view.debts) × (b.part.core.naps ≡ (p.desk 1).view.naps)
+  pub condemned : b.part.core.condemned ≡ []
+  pub cancelled : (p.desk 1).cancelled ≡ b.part.counts.cancelled
+  pub sleeps : (p.asleep 0 ≡ true) × (p.token 0 ≡ false) × (a.part.core.inside ≡ 0)
+  pub paid : (p.rung 0 0 ≡ runs.wakes_owed a.part 0) × (p.rung 0 1 ≡ runs.wakes_owed a.part 1)
+  pub owes_none : (u : ℕ) → runs.wakes_owed b.part u ≡ 0
+  pub dead : AreDeadlocked p.core (0 ∷ 1 ∷ [])
+  pub unmarked : ((s : ℕ) → is_marked (p.desk 0).wakes s ≡ false) × ((s : ℕ) → is_marked (p.desk 1).wakes s ≡ false)
+  pub unnamed : ((s : ℕ) → p.named 0 s ≡ false) × ((s : ℕ) → p.named 1 s ≡ false)
+
+module _ {kind : Kind} {p : Picture} (g : Shown (small kind) p) (a b : Sight) (h : IsAboutToDie kind p a b) where
+  abbrev table_1 : St
+  table_1 = (dies_as (small kind) p 0 0 (with_waiters owner) b).table
+
+  abbrev p_1 : Picture
+  p_1 = played p table_1 (Some (performs (Die 1 0)))
+
+  dies : Next g (steps 1 (Some (performs (Die 1 0)))) p_1
+  dies = subst (λ (w : ℕ). Next g (steps 1 (Some (performs (Die w 0)))) (played p table_1 (Some (performs (Die w 0)))))
+      h.younger.seated.who
+      (dies_now g 0 1 b (record { acts = h.younger; calling = h.calling }) 0 1 (with_waiters owner) h.dies is_valid h.word)
+
+  has_died : MayPlay (small kind) p_1 0 1 (died b)
+  has_died = let was = h.younger.seated in record {
+    acts = record {
+      seated = seated (set_here p.table.views 0 (died b) (place_low p.table.views 0 b was.here)) was.seated was.who was.low;
+      up = record { awake = h.younger.up.awake; rested = h.younger.up.rested; fresh = h.younger.up.fresh };
+    };
+    calling = h.calling;
+  }
+
+  abbrev table_2 : St
+  table_2 = (exits_as (small kind) p_1 0 0 (died b) (performs (Unguard 1 0))).table
+
+  abbrev p_2 : Picture
+  p_2 = played p_1 table_2 (Some (performs (Unguard 1 0)))
+
+  comes_out : Next dies.next (steps 1 (Some (performs (Unguard 1 0)))) p_2
+  comes_out = subst
+      (λ (w : ℕ). Next dies.next (steps 1 (Some (performs (Unguard w 0)))) (played p_1 table_2 (Some (performs (Unguard w 0)))))
+      h.younger.seated.who (exits_now dies.next 0 1 (died b) has_died 0 h.exits refl)
+
+  is_out : IsSeated (small kind) p_2.table 0 1 (died_out b)
+  is_out = let was = has_died.acts.seated in
+      seated (set_here p_1.table.views 0 (died_out b) (place_low p_1.table.views 0 (died b) was.here)) was.seated was.who was.low
+
+  -- the older is where it was
+  stays : IsSeated (small kind) p_1.table 1 0 a
+  stays = seated (set_else p.table.views 0 1 (died b) second_not_first ∙ h.older.here) h.older.seated h.older.who h.older.low
+
+  stays_on : IsSeated (small kind) p_2.table 1 0 a
+  stays_on = seated (set_else p_1.table.views 0 1 (died_out b) second_not_first ∙ stays.here) h.older.seated h.older.who
+      h.older.low
+
+  doomed : IsDoomed g.at.moment dies.next.at.moment comes_out.next.at.moment (Some (performs (Unguard 1 0)))
+  doomed = let awake = h.younger.up.awake in let naps = h.younger.up.rested in record {
     run = g.at.run;
-    dies = follows_of e.dies;
-    goes_on = follows_of e.comes_out;
-    before = e.before;
-    then = e.then;
-    at_last = e.at_last;
-    inside = e.inside;
-    dead = subst (λ (c : State). AreDeadlocked c (0 ∷ 1 ∷ [])) (sym g.at.is_core) e.dead;
+    dies = follows_of dies;
+    goes_on = follows_of comes_out;
+    before = is_pending g.at a b (part_is g 1 0 a h.older) (part_is g 0 1 b h.younger.seated) h.sleeps.0 awake h.sleeps.1
+        h.paid.0 h.paid.1 h.owes_none h.sleeps.2 naps 1 h.dies.waits;
+    then = is_pending dies.next.at a (died b) (part_is dies.next 1 0 a stays)
+        (part_is dies.next 0 1 (died b) has_died.acts.seated) h.sleeps.0 awake h.sleeps.1 h.paid.0 h.paid.1 h.owes_none
+        h.sleeps.2 naps 0 refl;
+    at_last = is_pending comes_out.next.at a (died_out b) (part_is comes_out.next 1 0 a stays_on)
+        (part_is comes_out.next 0 1 (died_out b) is_out) h.sleeps.0 awake h.sleeps.1 h.paid.0 h.paid.1 h.owes_none
+        h.sleeps.2 naps 0 refl;
+    inside = ap (λ (q : Part). q.core.inside) (sym (part_is g 0 1 b h.younger.seated)) ∙ h.dies.inside;
+    dead = subst (λ (c : State). AreDeadlocked c (0 ∷ 1 ∷ [])) (sym g.at.is_core) h.dead;
   }
 
   abbrev picture : ℕ → Picture
   picture zero = p
   picture (suc zero) = p
   picture (suc (suc zero)) = p
-  picture (suc (suc (suc i))) = answered p 1 (Deadlk 1) e.told
+  picture (suc (suc (suc i))) = answered p 1 (Deadlk 1) (told_by p b)
 
   abbrev stage : ℕ → Stage (small kind)
   stage i = staged (moment doomed i) (picture i)
@@ -70,16 +150,27 @@ module _ {kind : Kind} {p : Picture} {g : Shown (small kind) p} (e : Ends g) whe
   deed (suc (suc (suc i))) = halts
 
   goes_on : (i : ℕ) → Does (stage i) (stage (suc i)) (deed i)
-  goes_on zero = e.dies.does
-  goes_on (suc zero) = e.comes_out.does
-  goes_on (suc (suc zero)) = e.answers_so
+  goes_on zero = dies.does
+  goes_on (suc zero) = comes_out.does
+  goes_on (suc (suc zero)) = answers_does comes_out.next 0 1 (died_out b) is_out h.calling go_on (Deadlk 1) (told_by p b) (record {
+    done = backs_off (p.desk 1) 0 1 Came ToTheEnd (died_out b).part.core h.turn
+        (wakes_none (p.desk 1) (told_by p b) refl h.condemned, h.backs_off) h.alike;
+    outside = λ _. refl;
+    sees = refl;
+    cancelled = h.cancelled;
+  })
   goes_on (suc (suc (suc i))) = refl
 
+  owes : OwesNobody (small kind) p
+  owes = owe_nobody p h.unmarked.0 h.unmarked.1 h.unnamed.0 h.unnamed.1
+
   owes_nobody : (i : ℕ) → OwesNobody (small kind) (picture i)
-  owes_nobody zero = e.owes
-  owes_nobody (suc zero) = e.owes
-  owes_nobody (suc (suc zero)) = e.owes
-  owes_nobody (suc (suc (suc i))) = e.owes_then
+  unfolding put ℕ_discrete
+  owes_nobody zero = owes
+  owes_nobody (suc zero) = owes
+  owes_nobody (suc (suc zero)) = owes
+  owes_nobody (suc (suc (suc i))) =
+      owe_nobody (answered p 1 (Deadlk 1) (told_by p b)) h.unmarked.0 h.unmarked.1 h.unnamed.0 h.unnamed.1
 
   none_due : (i t s : ℕ) → t < 2 → ¬ IsDueBy (stage i) t s
   none_due i = nothing_due (picture i) (owes_nobody i) (moment doomed i) (pending doomed i).unowed
@@ -102,7 +193,7 @@ module _ {kind : Kind} {p : Picture} {g : Shown (small kind) p} (e : Ends g) whe
     leaves = h.leaves;
   }
 
-  has_deadlock : HasDeadlockDriven kind
+  pub has_deadlock : HasDeadlockDriven kind
   has_deadlock = record {
     key = small kind;
     stage = stage;
@@ -116,46 +207,3 @@ module _ {kind : Kind} {p : Picture} {g : Shown (small kind) p} (e : Ends g) whe
     deadlocked = doomed.dead;
     told = (2, 1, 1, inr (inl refl), refl);
   }
-
--- ---- in each kind
-
-ends_dying : Ends dying.g_16
-unfolding put ℕ_discrete
-ends_dying = record {
-  died = dying.p_17.table;
-  dies = dying.dies;
-  out = dying.p_18.table;
-  comes_out = dying.comes_out;
-  told = dying.told;
-  answers_so = dying.answers_so;
-  before = dying.before;
-  then = dying.then;
-  at_last = dying.at_last;
-  inside = dying.inside;
-  dead = are_deadlocked _ refl refl (_, inl refl, refl) (_, inl refl, refl);
-  owes = owe_nobody dying.p_16 has_no_mark has_no_mark (λ s. refl) (λ s. refl);
-  owes_then = owe_nobody (answered dying.p_16 1 (Deadlk 1) dying.told) has_no_mark has_no_mark (λ s. refl) (λ s. refl);
-}
-
-ends_wounding : Ends wounding.g_20
-unfolding put ℕ_discrete
-ends_wounding = record {
-  died = wounding.p_21.table;
-  dies = wounding.dies;
-  out = wounding.p_22.table;
-  comes_out = wounding.comes_out;
-  told = wounding.told;
-  answers_so = wounding.answers_so;
-  before = wounding.before;
-  then = wounding.then;
-  at_last = wounding.at_last;
-  inside = wounding.inside;
-  dead = are_deadlocked _ refl refl (_, inl refl, refl) (_, inl refl, refl);
-  owes = owe_nobody wounding.p_20 has_no_mark_then has_no_mark wounding.named_none (λ s. refl);
-  owes_then = owe_nobody (answered wounding.p_20 1 (Deadlk 1) wounding.told) has_no_mark_then has_no_mark wounding.named_none
-      (λ s. refl);
-}
-
-pub deadlocks_are_in_endless_drives : DeadlocksAreInEndlessDrives
-deadlocks_are_in_endless_drives WaitDie = has_deadlock ends_dying
-deadlocks_are_in_endless_drives WoundWait = has_deadlock ends_wounding

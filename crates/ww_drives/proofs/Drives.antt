@@ -21,19 +21,30 @@ use Rattle.ww_runs.proofs.Ends.{nobody_sleeps_in_vain_in_runs}
 use Rattle.ww_runs.proofs.Unlocking.{no_deadlock_lasts_in_runs, waits_end_in_runs}
 use Rattle.ww_desk.specs.Opened.{fresh}
 use Rattle.ww_drives.specs.Stages.{Stage, IsFirstStage}
-use Rattle.ww_drives.specs.Deeds.{Deed, calls, steps, reads, answers, names, wakes, parks, rises, halts, Does, IsDriven}
+use Rattle.ww_drives.specs.Deeds.{Deed, steps, rises, Does, IsDriven}
 use Rattle.ww_drives.specs.Deeds as drive
 use Rattle.ww_drives.specs.Laws.{NewWorldsBegin, move_of, DrivesAreRuns, IsDueBy, NoWakeIsLostInDrives, NoStandstillInDrives, IsEndlessDrive, WakesArriveByDesks, NobodySleepsInVainInDrives, IsServed, NoDeadlockLastsInDrives, DrivesRunOn, WaitsEndInDrives}
-use Rattle.ww_drives.proofs.Kept.{as_is}
+use Rattle.ww_drives.proofs.Kept.{OfDesk, of_desk, IsKept}
 use Rattle.ww_drives.proofs.Keeping.{IsInOrder, acts, follows, keep, owes_there}
 
 -- ---- the first stage
 
 first_keeps : {key : Start} (g : Stage key) → IsFirstStage g → IsInOrder g
 first_keeps {key = key} g f d low = let h = f.desks d low in let m = g.moment in
-    as_is d (fresh h.home key.locks key.seats key.kind h.left d) _ false _ false _ false _ (λ _. false) _
-    (λ _. 0) _ 0 _ (m.part d) _ h.now (f.calling d) (f.to_sleep d) (ap (λ (a : ℕ → Bool). a d) f.first.asleep) (f.named d)
-    (ap (λ (r : ℕ → ℕ → ℕ). r d) f.first.rung) (ap (λ (r : ℕ → ℕ). r d) f.first.risen) refl (record {
+    let first : OfDesk = record {
+      desk = fresh h.home key.locks key.seats key.kind h.left d;
+      calling = false;
+      told = false;
+      asleep = false;
+      named = λ _. false;
+      rung = λ _. 0;
+      risen = 0;
+      part = m.part d;
+    } in
+    let now = h.now in let calling = f.calling d in let told = f.to_sleep d in let named = f.named d in
+    let asleep = ap (λ (a : ℕ → Bool). a d) f.first.asleep in
+    let rung = ap (λ (r : ℕ → ℕ → ℕ). r d) f.first.rung in let risen = ap (λ (r : ℕ → ℕ). r d) f.first.risen in
+    let same : of_desk g d ≡ first = cc in subst (IsKept d) (sym same) (record {
       number = refl;
       current = λ _. ap (λ (places : ℕ). first_view key.kind key.locks places d) (sym f.places)
           ∙ ap (λ (p : Part). p.core) (sym (f.first.parts d low));
@@ -125,14 +136,7 @@ pub event_of : {key : Start} (g g' : Stage key) → IsDriven g → (x : Deed) (e
 event_of g g' from (steps d y) e does is = let there = does.there (acts g g' (in_order g from) d y does) in
     let own = subst (IsBy d) is there.by in
     ap (λ (z : Option Step). steps d z) is ∙ ap (λ (z : ℕ). steps z (Some (performs e))) (sym own)
-event_of g g' from (calls d) e does is = absurd (cc)
-event_of g g' from (reads d) e does is = absurd (cc)
-event_of g g' from (answers d call a) e does is = absurd (cc)
-event_of g g' from (names d u) e does is = absurd (cc)
-event_of g g' from (wakes d u) e does is = absurd (cc)
-event_of g g' from (parks d) e does is = absurd (cc)
-event_of g g' from (rises d) e does is = absurd (cc)
-event_of g g' from halts e does is = absurd (cc)
+event_of g g' from _ e does is = absurd (cc)
 
 module _ {key : Start} (stage : ℕ → Stage key) (deed : ℕ → Deed) (endless : IsEndlessDrive stage deed) where
   driven : (j : ℕ) → IsDriven (stage j)

@@ -1,11 +1,10 @@
 -- The drive of the two in Wait-Die: the older falls asleep, and the younger dies.
-use Rattle.std.proofs.Common.{◌≡◌, inl, inr, false, true≢false, Some, refl, sym, ap, ◌∙◌, arith}
+use Rattle.std.proofs.Common.{◌≡◌, inl, inr, false, true≢false, Some, refl, sym, ◌∙◌, arith}
 use native.Mathlib.Decide.{ℕ_discrete}
 use Rattle.std.specs.Prelude.{slice_index}
 use Rattle.atomic_table.specs.Table.{stepped, keeps}
 use Rattle.ww_word.specs.Owner.{with_waiters}
 use Rattle.ww_queue.specs.declared.kind.Kind.TheVariants.{WaitDie}
-use Rattle.ww_model.specs.declared.event.Event.TheVariants.{Die, Unguard}
 use Rattle.ww_model.specs.State.{put}
 use Rattle.ww_view.specs.Made.{has_read}
 use Rattle.ww_rule.specs.declared.cells.Sight.{Sight}
@@ -13,24 +12,20 @@ use Rattle.ww_rule.specs.Layout.{lock_at, sign_at}
 use Rattle.ww_rule.specs.Rule.{St}
 use Rattle.ww_rule.specs.Steps.{knowing}
 use Rattle.ww_rule.specs.Guards.{exiting}
-use Rattle.ww_rule.specs.Waiting.{dying}
-use Rattle.ww_wakes.specs.Scene.{performs, leaves_to_sleep, finds_no_sign}
-use Rattle.ww_rule.specs.declared.cells.Part.{Part}
-use Rattle.ww_runs.specs.Moment.{view}
+use Rattle.ww_wakes.specs.Scene.{leaves_to_sleep, finds_no_sign}
 use Rattle.ww_runs.specs.Plays as play
 use Rattle.ww_runs.proofs.Small.{least, small, owner, word_there}
 use Rattle.ww_runs.proofs.Deadlocked.{first_not_second, second_not_first, younger, older_waits, younger_waits, out}
-use Rattle.ww_runs.proofs.Doomed.{is_valid, IsPending, is_pending}
-use Rattle.ww_seat.specs.declared.look.Arrival.TheVariants.{Came}
-use Rattle.ww_seat.specs.declared.waits.Waits.TheVariants.{ToTheEnd}
-use Rattle.ww_desk.specs.declared.turn.Answer.TheVariants.{Sleeps, Deadlk}
+use Rattle.ww_desk.specs.declared.turn.Answer.TheVariants.{Sleeps}
 use Rattle.ww_desk.specs.Situations.{Situation}
-use Rattle.ww_drives.specs.Deeds.{Does, go_on, steps, answers}
-use Rattle.ww_drives.proofs.Shown.{Picture, staged, Shown, Next, played, answered, parking, plays_then, answers_then, answers_does, parks_then, part_is, acting}
+use Rattle.ww_drives.specs.Deeds.{go_on}
+use Rattle.ww_drives.proofs.Shown.{Picture, Shown, played, answered, parking, plays_then, answers_then, parks_then, acting, seated}
 use Rattle.ww_drives.proofs.Pair.{a_6, b_6, p_12, g_12}
-use Rattle.ww_drives.proofs.Backing.{once_told, backs_off}
-use Rattle.ww_drives.proofs.Turns.{dies_as, dies_now, exits_as, exits_now, sleeps_now}
+use Rattle.ww_drives.proofs.Turns.{exits_as, sleeps_now, may_play}
 use Rattle.ww_drives.proofs.Sleeping.{has_no_mark, wakes_none, unmarked, once_asleep, falls_asleep}
+use Rattle.ww_drives.proofs.Doomed.{has_deadlock}
+use Rattle.ww_live.proofs.Deadlocks.{are_deadlocked}
+use Rattle.ww_drives.specs.Witness.{HasDeadlockDriven}
 
 -- it finds that it has no sign, and comes out
 abbrev a_7 : Sight
@@ -51,7 +46,7 @@ p_13 = played (p_12 WaitDie) table_14 (Some (finds_no_sign 0))
 g_13 : Shown (small WaitDie) p_13
 unfolding put ℕ_discrete lock_at
 g_13 = let g = g_12 WaitDie in let a = g.at in
-    (plays_then g 1 0 (a_6 WaitDie, out 1 older_waits) (record { here = refl; seated = refl; who = refl; low = omega arith })
+    (plays_then g 1 0 (a_6 WaitDie, out 1 older_waits) (seated refl refl refl (omega arith))
     (record { awake = refl; rested = refl; fresh = refl }) refl (Some (finds_no_sign 0)) table_14 (record {
       found = _;
       is = λ i. stepped (a.is_table i) (sign_at least 0) (slice_index (a.is_table i).words (sign_at least 0)) 1 (out 1 older_waits)
@@ -65,10 +60,8 @@ p_14 = exits_as (small WaitDie) p_13 1 1 a_7 (leaves_to_sleep 0 1 false)
 
 g_14 : Shown (small WaitDie) p_14
 unfolding put ℕ_discrete lock_at
-g_14 = (sleeps_now g_13 1 0 a_7 (record {
-  acts = acting refl refl refl (omega arith) refl refl refl;
-  calling = refl;
-}) 1
+g_14 = (sleeps_now g_13 1 0 a_7
+    (may_play (acting refl refl refl (omega arith) refl refl refl) refl) 1
     (record {
       exit = record {
         inside = refl;
@@ -95,7 +88,7 @@ p_15 = answered p_14 0 Sleeps older_5
 
 g_15 : Shown (small WaitDie) p_15
 unfolding put ℕ_discrete lock_at
-g_15 = answers_then g_14 1 0 a_8 (record { here = refl; seated = refl; who = refl; low = omega arith }) refl go_on Sleeps older_5
+g_15 = answers_then g_14 1 0 a_8 (seated refl refl refl (omega arith)) refl go_on Sleeps older_5
     (record {
       done = falls_asleep ((p_12 WaitDie).desk 0) 1 unmarked a_8.part.core refl (omega arith) refl
           (wakes_none ((p_12 WaitDie).desk 0) older_5 refl refl)
@@ -105,102 +98,50 @@ g_15 = answers_then g_14 1 0 a_8 (record { here = refl; seated = refl; who = ref
       cancelled = refl;
     })
 
-abbrev pub p_16 : Picture
+abbrev p_16 : Picture
 p_16 = parking p_15 0
 
-pub g_16 : Shown (small WaitDie) p_16
+g_16 : Shown (small WaitDie) p_16
 unfolding put ℕ_discrete
 g_16 = parks_then g_15 0 (omega arith) refl refl refl (λ u has. true≢false (sym has ∙ has_no_mark u)) (λ u. refl)
 
 -- ---- the younger dies
 
-abbrev pub p_17 : Picture
-p_17 = dies_as (small WaitDie) p_16 0 0 (with_waiters owner) (b_6 WaitDie)
-
-pub dies : Next g_16 (steps 1 (Some (performs (Die 1 0)))) p_17
+pub has_deadlock_dying : HasDeadlockDriven WaitDie
 unfolding put ℕ_discrete lock_at
-dies = dies_now g_16 0 1 (b_6 WaitDie) (record {
-  acts = acting refl refl refl (omega arith) refl refl refl;
+has_deadlock_dying = has_deadlock g_16 a_8 (b_6 WaitDie) (record {
+  older = seated refl refl refl (omega arith);
+  younger = acting refl refl refl (omega arith) refl refl refl;
   calling = refl;
-}) 0 1 (with_waiters owner)
-    (record {
-      inside = refl;
-      waits = refl;
-      other = (0, refl, first_not_second);
-      why = (0, inl refl, refl);
-      unheeded = refl;
-    })
-    is_valid refl
-
--- ---- it comes out of the guard, and its call answers so
-
-abbrev died : Sight
-died = dying (b_6 WaitDie) (with_waiters owner)
-
-abbrev died_out : Sight
-died_out = exiting died
-
-abbrev pub p_18 : Picture
-p_18 = exits_as (small WaitDie) p_17 0 0 died (performs (Unguard 1 0))
-
-pub comes_out : Next dies.next (steps 1 (Some (performs (Unguard 1 0)))) p_18
-unfolding put ℕ_discrete lock_at
-comes_out = exits_now dies.next 0 1 died (record {
-  acts = acting refl refl refl (omega arith) refl refl refl;
-  calling = refl;
-}) 0
-    (record { inside = refl; why = inl (refl, refl); unsigned = λ is. inr (inl refl); unheeded = refl }) refl
-
-abbrev pub told : Situation
-told = once_told (p_16.desk 1) 0 died_out.part.core
-
-pub answers_so : Does (staged comes_out.next.at.moment p_18) (staged comes_out.next.at.moment (answered p_18 1 (Deadlk 1) told))
-    (answers 1 go_on (Deadlk 1))
-unfolding put ℕ_discrete lock_at
-answers_so = answers_does comes_out.next 0 1 died_out (record { here = refl; seated = refl; who = refl; low = omega arith }) refl go_on
-    (Deadlk 1) told (record {
-      done = backs_off (p_16.desk 1) 0 1 Came ToTheEnd died_out.part.core refl (
-        wakes_none (p_16.desk 1) told refl refl,
-        record {
-          context = omega arith;
-          older = omega arith;
-          holds = omega arith;
-          met = record {
-            owner = with_waiters owner;
-            list = younger_waits;
-            noted = refl;
-            shown = record { wounded = λ is. absurd (cc); older = λ _. inl ((0, refl, first_not_second), refl) };
-          };
-          now = refl;
-        },
-      ) (refl, refl);
-      outside = λ _. refl;
-      sees = refl;
-      cancelled = refl;
-    })
-
-pub before : IsPending g_16.at.moment 1
-unfolding put ℕ_discrete lock_at
-before = let g = g_16 in
-    is_pending g.at a_8 (b_6 WaitDie) (part_is g 1 0 a_8 (record { here = refl; seated = refl; who = refl; low = omega arith }))
-    (part_is g 0 1 (b_6 WaitDie) (record { here = refl; seated = refl; who = refl; low = omega arith }))
-    refl refl refl (λ u. refl) refl refl 1 refl
-
-pub then : IsPending dies.next.at.moment 0
-unfolding put ℕ_discrete lock_at
-then = let g = dies.next in
-    is_pending g.at a_8 died (part_is g 1 0 a_8 (record { here = refl; seated = refl; who = refl; low = omega arith }))
-    (part_is g 0 1 died (record { here = refl; seated = refl; who = refl; low = omega arith }))
-    refl refl refl (λ u. refl) refl refl 0 refl
-
-pub at_last : IsPending comes_out.next.at.moment 0
-unfolding put ℕ_discrete lock_at
-at_last = let g = comes_out.next in
-    is_pending g.at a_8 died_out (part_is g 1 0 a_8 (record { here = refl; seated = refl; who = refl; low = omega arith }))
-    (part_is g 0 1 died_out (record { here = refl; seated = refl; who = refl; low = omega arith }))
-    refl refl refl (λ u. refl) refl refl 0 refl
-
-pub inside : (view g_16.at.moment 1).inside ≡ 1
-unfolding put ℕ_discrete lock_at
-inside = ap (λ (p : Part). p.core.inside)
-    (sym (part_is g_16 0 1 (b_6 WaitDie) (record { here = refl; seated = refl; who = refl; low = omega arith })))
+  word = refl;
+  dies = record {
+    inside = refl;
+    waits = refl;
+    other = (0, refl, first_not_second);
+    why = (0, inl refl, refl);
+    unheeded = refl;
+  };
+  exits = record { inside = refl; why = inl (refl, refl); unsigned = λ is. inr (inl refl); unheeded = refl };
+  turn = refl;
+  backs_off = record {
+    context = omega arith;
+    older = omega arith;
+    holds = omega arith;
+    met = record {
+      owner = with_waiters owner;
+      list = younger_waits;
+      noted = refl;
+      shown = record { wounded = λ is. absurd (cc); older = λ _. inl ((0, refl, first_not_second), refl) };
+    };
+    now = refl;
+  };
+  alike = (refl, refl);
+  condemned = refl;
+  cancelled = refl;
+  sleeps = (refl, refl, refl);
+  paid = (refl, refl);
+  owes_none = λ u. refl;
+  dead = are_deadlocked _ refl refl (_, inl refl, refl) (_, inl refl, refl);
+  unmarked = (has_no_mark, has_no_mark);
+  unnamed = (λ s. refl, λ s. refl);
+})

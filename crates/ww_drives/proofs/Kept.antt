@@ -1,5 +1,5 @@
 -- What each stage keeps of each desk.
-use Rattle.std.proofs.Common.{◌≡◌, ◌≢◌, ◌⊎◌, ⊎_elim, inl, inr, ℕ, ◌+◌, ◌<◌, ◌≤◌, ◌==◌, Bool, true, false, true≢false, List, [], ◌∷◌, refl, sym, ap, ◌∙◌, subst, arith, Some}
+use Rattle.std.proofs.Common.{◌≡◌, ◌≢◌, ◌⊎◌, ⊎_elim, inl, inr, ℕ, ◌+◌, ◌<◌, ◌≤◌, ◌==◌, Bool, true, false, true≢false, List, [], ◌∷◌, refl, sym, ap, ◌∙◌, arith, Some}
 use Rattle.std.proofs.lemmas.Bool.{cases_Bool, cases_lt}
 use mathlib.Core.Logic.{dite}
 use native.Mathlib.Decide.{ℕ_discrete}
@@ -19,39 +19,48 @@ use Rattle.ww_drives.specs.Stages.{Stage, StandsOutside}
 use Rattle.ww_drives.specs.Deeds.{is_sleeps}
 use Rattle.ww_drives.proofs.Answered.{naps_alike, naps_more}
 
+-- What a stage says of one desk: what it knows, whether a call of it is on its way, whether it is told to sleep, and
+-- sleeps; whom it named; and by the table how many tokens it gave each seat, how often it rose, and its seat's part.
+pub record OfDesk : Type 0 where
+  pub desk : Situation
+  pub calling : Bool
+  pub told : Bool
+  pub asleep : Bool
+  pub named : ℕ → Bool
+  pub rung : ℕ → ℕ
+  pub risen : ℕ
+  pub part : Part
+
+abbrev pub of_desk : {key : Start} → Stage key → ℕ → OfDesk
+of_desk g d = record {
+  desk = g.desk d;
+  calling = g.calling d;
+  told = g.to_sleep d;
+  asleep = g.moment.asleep d;
+  named = g.named d;
+  rung = g.moment.rung d;
+  risen = g.moment.risen d;
+  part = g.moment.part d;
+}
+
 -- Of one desk, by what the stage says of it: between two calls it is as its last call left it; it has risen as often as it
 -- left a guard as a waiter, unless it is told to sleep; whomever it has yet to wake is marked or named.
-pub record IsKept (d : ℕ) (s : Situation) (calling told asleep : Bool) (named : ℕ → Bool) (rung : ℕ → ℕ) (risen : ℕ) (p : Part) : Type 0 where
-  pub number : s.caller ≡ d
-  pub current : calling ≡ false → s.view ≡ p.core
-  pub cancelled : calling ≡ false → s.cancelled ≡ p.counts.cancelled
-  pub up : told ≡ false → risen ≡ s.view.naps
-  pub due : told ≡ true → risen + 1 ≡ s.view.naps
-  pub rests : told ≡ true → calling ≡ false
-  pub sleeps : asleep ≡ true → told ≡ true
-  pub unmarked : asleep ≡ true → (u : ℕ) → ¬ IsMarked s.wakes u
-  pub unnamed : asleep ≡ true → (u : ℕ) → named u ≡ false
-  pub outside : StandsOutside s
-  pub even : (u : ℕ) → rung u ≤ wakes_owed s u
-  pub marked : (u : ℕ) → rung u < wakes_owed s u → u ≢ d → IsMarked s.wakes u ⊎ (named u ≡ true)
+pub record IsKept (d : ℕ) (x : OfDesk) : Type 0 where
+  pub number : x.desk.caller ≡ d
+  pub current : x.calling ≡ false → x.desk.view ≡ x.part.core
+  pub cancelled : x.calling ≡ false → x.desk.cancelled ≡ x.part.counts.cancelled
+  pub up : x.told ≡ false → x.risen ≡ x.desk.view.naps
+  pub due : x.told ≡ true → x.risen + 1 ≡ x.desk.view.naps
+  pub rests : x.told ≡ true → x.calling ≡ false
+  pub sleeps : x.asleep ≡ true → x.told ≡ true
+  pub unmarked : x.asleep ≡ true → (u : ℕ) → ¬ IsMarked x.desk.wakes u
+  pub unnamed : x.asleep ≡ true → (u : ℕ) → x.named u ≡ false
+  pub outside : StandsOutside x.desk
+  pub even : (u : ℕ) → x.rung u ≤ wakes_owed x.desk u
+  pub marked : (u : ℕ) → x.rung u < wakes_owed x.desk u → u ≢ d → IsMarked x.desk.wakes u ⊎ (x.named u ≡ true)
 
 abbrev pub Keeps : {key : Start} → Stage key → ℕ → Type 0
-Keeps g d = IsKept d (g.desk d) (g.calling d) (g.to_sleep d) (g.moment.asleep d) (g.named d) (g.moment.rung d)
-    (g.moment.risen d) (g.moment.part d)
-
--- the same of what is the same
-pub as_is : (d : ℕ) (s s' : Situation) (c c' t t' a a' : Bool) (n n' : ℕ → Bool) (r r' : ℕ → ℕ) (k k' : ℕ) (p p' : Part) →
-    s' ≡ s → c' ≡ c → t' ≡ t → a' ≡ a → n' ≡ n → r' ≡ r → k' ≡ k → p' ≡ p →
-    IsKept d s c t a n r k p → IsKept d s' c' t' a' n' r' k' p'
-as_is d s s' c c' t t' a a' n n' r r' k k' p p' es ec et ea en er ek ep h =
-    subst (λ x. IsKept d x c' t' a' n' r' k' p') (sym es)
-    (subst (λ x. IsKept d s x t' a' n' r' k' p') (sym ec)
-    (subst (λ x. IsKept d s c x a' n' r' k' p') (sym et)
-    (subst (λ x. IsKept d s c t x n' r' k' p') (sym ea)
-    (subst (λ x. IsKept d s c t a x r' k' p') (sym en)
-    (subst (λ x. IsKept d s c t a n x k' p') (sym er)
-    (subst (λ x. IsKept d s c t a n r x p') (sym ek)
-    (subst (λ x. IsKept d s c t a n r k x) (sym ep) h)))))))
+Keeps g d = IsKept d (of_desk g d)
 
 -- ---- wakes are counted alike
 
@@ -70,147 +79,145 @@ owed_there s p u view cancelled = let a = times_alike u p.counts.cancelled in le
 
 -- ---- a step at the table amid a call
 
-pub other_part : (d : ℕ) (s : Situation) (t a : Bool) (n : ℕ → Bool) (r : ℕ → ℕ) (k : ℕ) (p p' : Part) →
-    IsKept d s true t a n r k p → IsKept d s true t a n r k p'
-other_part d s t a n r k p p' h = record {
-  number = h.number;
-  current = λ off. absurd (true≢false off);
-  cancelled = λ off. absurd (true≢false off);
-  up = h.up;
-  due = h.due;
-  rests = h.rests;
-  sleeps = h.sleeps;
-  unmarked = h.unmarked;
-  unnamed = h.unnamed;
-  outside = h.outside;
-  even = h.even;
-  marked = h.marked;
-}
+module _ (d : ℕ) (x : OfDesk) (h : IsKept d x) where
+  -- amid a call it neither sleeps nor is told to
+  pub call_untold : x.calling ≡ true → (x.told ≡ false) × (x.asleep ≡ false)
+  call_untold on = (
+    ⊎_elim (λ told. absurd (true≢false (sym on ∙ h.rests told))) (λ isnt. isnt) (cases_Bool x.told),
+    ⊎_elim (λ sleeps. absurd (true≢false (sym on ∙ h.rests (h.sleeps sleeps)))) (λ isnt. isnt) (cases_Bool x.asleep),
+  )
 
--- amid a call it neither sleeps nor is told to
-pub call_untold : (d : ℕ) (s : Situation) (t a : Bool) (n : ℕ → Bool) (r : ℕ → ℕ) (k : ℕ) (p : Part) →
-    IsKept d s true t a n r k p → (t ≡ false) × (a ≡ false)
-call_untold d s t a n r k p h = (
-  ⊎_elim (λ told. absurd (true≢false (h.rests told))) (λ isnt. isnt) (cases_Bool t),
-  ⊎_elim (λ sleeps. absurd (true≢false (h.rests (h.sleeps sleeps)))) (λ isnt. isnt) (cases_Bool a),
-)
+  pub other_part : x.calling ≡ true → (p : Part) → IsKept d (record x { part = p })
+  other_part on p = record {
+    number = h.number;
+    current = λ off. absurd (true≢false (sym on ∙ off));
+    cancelled = λ off. absurd (true≢false (sym on ∙ off));
+    up = h.up;
+    due = h.due;
+    rests = h.rests;
+    sleeps = h.sleeps;
+    unmarked = h.unmarked;
+    unnamed = h.unnamed;
+    outside = h.outside;
+    even = h.even;
+    marked = h.marked;
+  }
 
--- ---- the deeds
+  -- ---- the deeds
 
--- a call begins
-pub called : (d : ℕ) (s : Situation) (c a : Bool) (n : ℕ → Bool) (r : ℕ → ℕ) (k : ℕ) (p : Part) → IsKept d s c false a n r k p → IsKept d s true false a n r k p
-called d s c a n r k p h = record {
-  number = h.number;
-  current = λ off. absurd (true≢false off);
-  cancelled = λ off. absurd (true≢false off);
-  up = h.up;
-  due = h.due;
-  rests = λ told. absurd (true≢false (sym told));
-  sleeps = h.sleeps;
-  unmarked = h.unmarked;
-  unnamed = h.unnamed;
-  outside = h.outside;
-  even = h.even;
-  marked = h.marked;
-}
+  -- a call begins
+  pub called : x.told ≡ false → IsKept d (record x { calling = true })
+  called rose = record {
+    number = h.number;
+    current = λ off. absurd (true≢false off);
+    cancelled = λ off. absurd (true≢false off);
+    up = h.up;
+    due = h.due;
+    rests = λ told. absurd (true≢false (sym told ∙ rose));
+    sleeps = h.sleeps;
+    unmarked = h.unmarked;
+    unnamed = h.unnamed;
+    outside = h.outside;
+    even = h.even;
+    marked = h.marked;
+  }
 
--- it answers
-pub answered : (d : ℕ) (s s' : Situation) (ans : Answer) (t a : Bool) (n : ℕ → Bool) (r : ℕ → ℕ) (k : ℕ) (p : Part) →
-    Balances s s' → CountsNaps s ans s' → StandsOutside s' → s'.view ≡ p.core → s'.cancelled ≡ p.counts.cancelled →
-    IsKept d s true t a n r k p → IsKept d s' false (is_sleeps ans) a n r k p
-answered d s s' ans t a n r k p b naps outside sees cancelled h = let before = call_untold d s t a n r k p h in record {
-  number = b.caller ∙ h.number;
-  current = λ _. sees;
-  cancelled = λ _. cancelled;
-  up = λ other. h.up before.0 ∙ sym (naps ∙ naps_alike ans s.view.naps other);
-  due = λ is. ap (λ (j : ℕ). j + 1) (h.up before.0) ∙ sym (naps ∙ naps_more ans s.view.naps is);
-  rests = λ _. refl;
-  sleeps = λ on. absurd (true≢false (sym on ∙ before.1));
-  unmarked = λ on. absurd (true≢false (sym on ∙ before.1));
-  unnamed = λ on. absurd (true≢false (sym on ∙ before.1));
-  outside = outside;
-  even = λ u. let x = h.even u in let y = b.owed u in omega arith;
-  marked = λ u few other. elim (cases_lt (r u) (wakes_owed s u)) [
-    | inl less ↦ ⊎_elim (λ was. inl ((b.marks u).1 (inl was))) inr (h.marked u less other)
-    | inr more ↦ inl ((b.marks u).1 (inr (let x = h.even u in omega arith, λ own. other (own ∙ h.number))))
-  ];
-}
+  -- it answers
+  pub answered : (s : Situation) (ans : Answer) → Balances x.desk s → CountsNaps x.desk ans s → StandsOutside s →
+      s.view ≡ x.part.core → s.cancelled ≡ x.part.counts.cancelled → x.calling ≡ true →
+      IsKept d (record x { desk = s; calling = false; told = is_sleeps ans })
+  answered s ans b naps outside sees cancelled on = let before = call_untold on in record {
+    number = b.caller ∙ h.number;
+    current = λ _. sees;
+    cancelled = λ _. cancelled;
+    up = λ other. h.up before.0 ∙ sym (naps ∙ naps_alike ans x.desk.view.naps other);
+    due = λ is. ap (λ (j : ℕ). j + 1) (h.up before.0) ∙ sym (naps ∙ naps_more ans x.desk.view.naps is);
+    rests = λ _. refl;
+    sleeps = λ sleeps. absurd (true≢false (sym sleeps ∙ before.1));
+    unmarked = λ sleeps. absurd (true≢false (sym sleeps ∙ before.1));
+    unnamed = λ sleeps. absurd (true≢false (sym sleeps ∙ before.1));
+    outside = outside;
+    even = λ u. let z = h.even u in let y = b.owed u in omega arith;
+    marked = λ u few other. elim (cases_lt (x.rung u) (wakes_owed x.desk u)) [
+      | inl less ↦ ⊎_elim (λ was. inl ((b.marks u).1 (inl was))) inr (h.marked u less other)
+      | inr more ↦ inl ((b.marks u).1 (inr (let z = h.even u in omega arith, λ own. other (own ∙ h.number))))
+    ];
+  }
 
--- it names a seat
-pub names_one : (d : ℕ) (s : Situation) (w : List ℕ) (v : ℕ) (c t a : Bool) (n : ℕ → Bool) (r : ℕ → ℕ) (k : ℕ) (p : Part) →
-    a ≡ false → IsTaken s.wakes (Some v) w →
-    IsKept d s c t a n r k p → IsKept d (record s { wakes = w }) c t a (put n v true) r k p
-names_one d s w v c t a n r k p awake taken h = record {
-  number = h.number;
-  current = h.current;
-  cancelled = h.cancelled;
-  up = h.up;
-  due = h.due;
-  rests = h.rests;
-  sleeps = h.sleeps;
-  unmarked = λ on. absurd (true≢false (sym on ∙ awake));
-  unnamed = λ on. absurd (true≢false (sym on ∙ awake));
-  outside = h.outside;
-  even = h.even;
-  marked = λ u few other. dite (ℕ_discrete u v) (λ is. inr (ap (put n v true) is ∙ put_here n v true))
-      (λ isnt. ⊎_elim (λ was. inl (taken.2 u isnt ∙ was)) (λ named. inr (put_else n v true u isnt ∙ named))
-      (h.marked u few other));
-}
+  -- it names a seat
+  pub names_one : (w : List ℕ) (v : ℕ) → x.asleep ≡ false → IsTaken x.desk.wakes (Some v) w →
+      IsKept d (record x { desk = let s = x.desk in record s { wakes = w }; named = put x.named v true })
+  names_one w v awake taken = record {
+    number = h.number;
+    current = h.current;
+    cancelled = h.cancelled;
+    up = h.up;
+    due = h.due;
+    rests = h.rests;
+    sleeps = h.sleeps;
+    unmarked = λ sleeps. absurd (true≢false (sym sleeps ∙ awake));
+    unnamed = λ sleeps. absurd (true≢false (sym sleeps ∙ awake));
+    outside = h.outside;
+    even = h.even;
+    marked = λ u few other. dite (ℕ_discrete u v) (λ is. inr (ap (put x.named v true) is ∙ put_here x.named v true))
+        (λ isnt. ⊎_elim (λ was. inl (taken.2 u isnt ∙ was)) (λ named. inr (put_else x.named v true u isnt ∙ named))
+        (h.marked u few other));
+  }
 
--- whoever was named gets a token
-pub wakes_one : (d : ℕ) (s : Situation) (v j : ℕ) (c t a : Bool) (n : ℕ → Bool) (r : ℕ → ℕ) (k : ℕ) (p : Part) →
-    a ≡ false → j ≡ wakes_owed s v →
-    IsKept d s c t a n r k p → IsKept d s c t a (put n v false) (put r v j) k p
-wakes_one d s v j c t a n r k p awake paid h = record {
-  number = h.number;
-  current = h.current;
-  cancelled = h.cancelled;
-  up = h.up;
-  due = h.due;
-  rests = h.rests;
-  sleeps = h.sleeps;
-  unmarked = h.unmarked;
-  unnamed = λ on. absurd (true≢false (sym on ∙ awake));
-  outside = h.outside;
-  even = λ u. put_cases r v j u (λ (x : ℕ). x ≤ wakes_owed s u)
-      (λ is. let e = ap (wakes_owed s) is in omega arith) (λ _. h.even u);
-  marked = λ u few other. ⊎_elim (λ here. let e = ap (wakes_owed s) here.0 in let f = here.1 in absurd (omega arith))
-      (λ else. ⊎_elim inl (λ named. inr (put_else n v false u else.0 ∙ named)) (h.marked u else.1 other))
-      (put_was r v j u (λ (x : ℕ). x < wakes_owed s u) few);
-}
+  -- whoever was named gets a token
+  pub wakes_one : (v j : ℕ) → x.asleep ≡ false → j ≡ wakes_owed x.desk v →
+      IsKept d (record x { named = put x.named v false; rung = put x.rung v j })
+  wakes_one v j awake paid = record {
+    number = h.number;
+    current = h.current;
+    cancelled = h.cancelled;
+    up = h.up;
+    due = h.due;
+    rests = h.rests;
+    sleeps = h.sleeps;
+    unmarked = h.unmarked;
+    unnamed = λ sleeps. absurd (true≢false (sym sleeps ∙ awake));
+    outside = h.outside;
+    even = λ u. put_cases x.rung v j u (λ (k : ℕ). k ≤ wakes_owed x.desk u)
+        (λ is. let e = ap (wakes_owed x.desk) is in omega arith) (λ _. h.even u);
+    marked = λ u few other. ⊎_elim
+        (λ here. let e = ap (wakes_owed x.desk) here.0 in let f = here.1 in absurd (omega arith))
+        (λ else. ⊎_elim inl (λ named. inr (put_else x.named v false u else.0 ∙ named)) (h.marked u else.1 other))
+        (put_was x.rung v j u (λ (k : ℕ). k < wakes_owed x.desk u) few);
+  }
 
--- it falls asleep
-pub sleeps_on : (d : ℕ) (s : Situation) (c t a : Bool) (n : ℕ → Bool) (r : ℕ → ℕ) (k : ℕ) (p : Part) → t ≡ true →
-    ((u : ℕ) → ¬ IsMarked s.wakes u) → ((u : ℕ) → n u ≡ false) → IsKept d s c t a n r k p → IsKept d s c t true n r k p
-sleeps_on d s c t a n r k p told none_marked none_named h = record {
-  number = h.number;
-  current = h.current;
-  cancelled = h.cancelled;
-  up = h.up;
-  due = h.due;
-  rests = h.rests;
-  sleeps = λ _. told;
-  unmarked = λ _. none_marked;
-  unnamed = λ _. none_named;
-  outside = h.outside;
-  even = h.even;
-  marked = h.marked;
-}
+  -- it falls asleep
+  pub sleeps_on : x.told ≡ true → ((u : ℕ) → ¬ IsMarked x.desk.wakes u) → ((u : ℕ) → x.named u ≡ false) →
+      IsKept d (record x { asleep = true })
+  sleeps_on told none_marked none_named =
+      record {
+        number = h.number;
+        current = h.current;
+        cancelled = h.cancelled;
+        up = h.up;
+        due = h.due;
+        rests = h.rests;
+        sleeps = λ _. told;
+        unmarked = λ _. none_marked;
+        unnamed = λ _. none_named;
+        outside = h.outside;
+        even = h.even;
+        marked = h.marked;
+      }
 
--- it rises
-pub rises_up : (d : ℕ) (s : Situation) (c t a : Bool) (n : ℕ → Bool) (r : ℕ → ℕ) (k : ℕ) (p : Part) → t ≡ true →
-    IsKept d s c t a n r k p → IsKept d s c false false n r (k + 1) p
-rises_up d s c t a n r k p told h = record {
-  number = h.number;
-  current = h.current;
-  cancelled = h.cancelled;
-  up = λ _. h.due told;
-  due = λ on. absurd (true≢false (sym on));
-  rests = λ on. absurd (true≢false (sym on));
-  sleeps = λ on. absurd (true≢false (sym on));
-  unmarked = λ on. absurd (true≢false (sym on));
-  unnamed = λ on. absurd (true≢false (sym on));
-  outside = h.outside;
-  even = h.even;
-  marked = h.marked;
-}
+  -- it rises
+  pub rises_up : x.told ≡ true → IsKept d (record x { told = false; asleep = false; risen = x.risen + 1 })
+  rises_up told = record {
+    number = h.number;
+    current = h.current;
+    cancelled = h.cancelled;
+    up = λ _. h.due told;
+    due = λ on. absurd (true≢false (sym on));
+    rests = λ on. absurd (true≢false (sym on));
+    sleeps = λ on. absurd (true≢false (sym on));
+    unmarked = λ on. absurd (true≢false (sym on));
+    unnamed = λ on. absurd (true≢false (sym on));
+    outside = h.outside;
+    even = h.even;
+    marked = h.marked;
+  }

@@ -10,7 +10,7 @@ pub mod Starting
 pub mod Pair
 pub mod Sleeping
 pub mod Backing
+pub mod Doomed
 pub mod Dying
 pub mod Wounding
-pub mod Doomed
 pub mod CalledOff

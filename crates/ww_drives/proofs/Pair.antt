@@ -14,7 +14,7 @@ use Rattle.ww_runs.proofs.Deadlocked.{younger, b_2, first_not_second, second_not
 use Rattle.ww_seat.specs.declared.waits.Waits.TheVariants.{ToTheEnd}
 use Rattle.ww_drives.proofs.Shown.{Picture, Shown, called, calls_then, acting}
 use Rattle.ww_drives.proofs.Starting.{p_3, g_3}
-use Rattle.ww_drives.proofs.Turns.{locks_as, locks_now, misses_as, misses_now, glances_as, glances_now, enters_as, enters_now, joins_as, joins_now}
+use Rattle.ww_drives.proofs.Turns.{locks_as, locks_now, misses_as, misses_now, glances_as, glances_now, enters_as, enters_now, joins_as, joins_now, may_turn, may_play}
 
 -- ---- what the two know after each step
 
@@ -50,14 +50,8 @@ p_4 kind = locks_as (small kind) (p_3 kind) 0 1 1 (waiter_1 kind)
 
 g_4 : (kind : Kind) → Shown (small kind) (p_4 kind)
 unfolding put ℕ_discrete lock_at
-g_4 kind = locks_now (g_3 kind) 0 1 (waiter_1 kind) (record {
-  acts = acting refl refl refl (omega arith) refl refl refl;
-  idle = refl;
-  rose = refl;
-  knows = refl;
-  cancelled = refl;
-  out = refl;
-}) 1 (omega arith) (omega arith)
+g_4 kind = locks_now (g_3 kind) 0 1 (waiter_1 kind)
+    (may_turn (acting refl refl refl (omega arith) refl refl refl) refl refl refl refl refl) 1 (omega arith) (omega arith)
     (record { away = (refl, refl); base = inl (omega arith); signs = inr (inl refl) }) (record { rests = refl; lacks = refl; there = omega arith; wants = refl }) refl
 
 -- ---- each misses the other's, and looks at it once more
@@ -67,56 +61,32 @@ p_5 kind = misses_as (small kind) (p_4 kind) 1 0 1 ToTheEnd (holder_2 kind)
 
 g_5 : (kind : Kind) → Shown (small kind) (p_5 kind)
 unfolding put ℕ_discrete lock_at
-g_5 kind = misses_now (g_4 kind) 1 0 (holder_2 kind) (record {
-  acts = acting refl refl refl (omega arith) refl refl refl;
-  idle = refl;
-  rose = refl;
-  knows = refl;
-  cancelled = refl;
-  out = refl;
-}) 1 ToTheEnd (record { rests = refl; lacks = refl; there = omega arith; wants = refl })
+g_5 kind = misses_now (g_4 kind) 1 0 (holder_2 kind)
+    (may_turn (acting refl refl refl (omega arith) refl refl refl) refl refl refl refl refl) 1 ToTheEnd (record { rests = refl; lacks = refl; there = omega arith; wants = refl })
 
 abbrev p_6 : Kind → Picture
 p_6 kind = misses_as (small kind) (p_5 kind) 0 1 0 ToTheEnd (b_2 kind)
 
 g_6 : (kind : Kind) → Shown (small kind) (p_6 kind)
 unfolding put ℕ_discrete lock_at
-g_6 kind = misses_now (g_5 kind) 0 1 (b_2 kind) (record {
-  acts = acting refl refl refl (omega arith) refl refl refl;
-  idle = refl;
-  rose = refl;
-  knows = refl;
-  cancelled = refl;
-  out = refl;
-}) 0 ToTheEnd (record { rests = refl; lacks = refl; there = omega arith; wants = refl })
+g_6 kind = misses_now (g_5 kind) 0 1 (b_2 kind)
+    (may_turn (acting refl refl refl (omega arith) refl refl refl) refl refl refl refl refl) 0 ToTheEnd (record { rests = refl; lacks = refl; there = omega arith; wants = refl })
 
 abbrev p_7 : Kind → Picture
 p_7 kind = glances_as (small kind) (p_6 kind) 1 0 1 ToTheEnd (a_3 kind)
 
 g_7 : (kind : Kind) → Shown (small kind) (p_7 kind)
 unfolding put ℕ_discrete lock_at
-g_7 kind = glances_now (g_6 kind) 1 0 (a_3 kind) (record {
-  acts = acting refl refl refl (omega arith) refl refl refl;
-  idle = refl;
-  rose = refl;
-  knows = refl;
-  cancelled = refl;
-  out = refl;
-}) 1 ToTheEnd refl
+g_7 kind = glances_now (g_6 kind) 1 0 (a_3 kind)
+    (may_turn (acting refl refl refl (omega arith) refl refl refl) refl refl refl refl refl) 1 ToTheEnd refl
 
 abbrev p_8 : Kind → Picture
 p_8 kind = glances_as (small kind) (p_7 kind) 0 1 0 ToTheEnd (b_3 kind)
 
 g_8 : (kind : Kind) → Shown (small kind) (p_8 kind)
 unfolding put ℕ_discrete lock_at
-g_8 kind = glances_now (g_7 kind) 0 1 (b_3 kind) (record {
-  acts = acting refl refl refl (omega arith) refl refl refl;
-  idle = refl;
-  rose = refl;
-  knows = refl;
-  cancelled = refl;
-  out = refl;
-}) 0 ToTheEnd refl
+g_8 kind = glances_now (g_7 kind) 0 1 (b_3 kind)
+    (may_turn (acting refl refl refl (omega arith) refl refl refl) refl refl refl refl refl) 0 ToTheEnd refl
 
 -- ---- the older goes inside the guard of lock 1, and joins its list
 
@@ -125,10 +95,8 @@ p_9 kind = enters_as (small kind) (called (p_8 kind) 0) 1 1 (a_4 kind)
 
 g_9 : (kind : Kind) → Shown (small kind) (p_9 kind)
 unfolding put ℕ_discrete lock_at
-g_9 kind = enters_now (calls_then (g_8 kind) 0 (omega arith) refl refl refl) 1 0 (a_4 kind) (record {
-  acts = acting refl refl refl (omega arith) refl refl refl;
-  calling = refl;
-}) 1 (omega arith)
+g_9 kind = enters_now (calls_then (g_8 kind) 0 (omega arith) refl refl refl) 1 0 (a_4 kind)
+    (may_play (acting refl refl refl (omega arith) refl refl refl) refl) 1 (omega arith)
     (record { outside = refl; why = inr (inr (refl, refl, inl (omega arith), inr (inr (inl (0, refl))))) }) refl
 
 abbrev p_10 : Kind → Picture
@@ -136,10 +104,8 @@ p_10 kind = joins_as (small kind) (p_9 kind) 1 1 younger (a_5 kind)
 
 g_10 : (kind : Kind) → Shown (small kind) (p_10 kind)
 unfolding put ℕ_discrete lock_at
-g_10 kind = joins_now (g_9 kind) 1 0 (a_5 kind) (record {
-  acts = acting refl refl refl (omega arith) refl refl refl;
-  calling = refl;
-}) 1 younger
+g_10 kind = joins_now (g_9 kind) 1 0 (a_5 kind)
+    (may_play (acting refl refl refl (omega arith) refl refl refl) refl) 1 younger
     (record {
       inside = refl;
       not_waiting = refl;
@@ -156,10 +122,8 @@ p_11 kind = enters_as (small kind) (called (p_10 kind) 1) 0 0 (b_4 kind)
 
 g_11 : (kind : Kind) → Shown (small kind) (p_11 kind)
 unfolding put ℕ_discrete lock_at
-g_11 kind = enters_now (calls_then (g_10 kind) 1 (omega arith) refl refl refl) 0 1 (b_4 kind) (record {
-  acts = acting refl refl refl (omega arith) refl refl refl;
-  calling = refl;
-}) 0 (omega arith)
+g_11 kind = enters_now (calls_then (g_10 kind) 1 (omega arith) refl refl refl) 0 1 (b_4 kind)
+    (may_play (acting refl refl refl (omega arith) refl refl refl) refl) 0 (omega arith)
     (record { outside = refl; why = inr (inr (refl, refl, inl (omega arith), inr (inr (inl (1, refl))))) }) refl
 
 abbrev pub p_12 : Kind → Picture
@@ -167,10 +131,8 @@ p_12 kind = joins_as (small kind) (p_11 kind) 0 0 owner (b_5 kind)
 
 pub g_12 : (kind : Kind) → Shown (small kind) (p_12 kind)
 unfolding put ℕ_discrete lock_at
-g_12 kind = joins_now (g_11 kind) 0 1 (b_5 kind) (record {
-  acts = acting refl refl refl (omega arith) refl refl refl;
-  calling = refl;
-}) 0 owner
+g_12 kind = joins_now (g_11 kind) 0 1 (b_5 kind)
+    (may_play (acting refl refl refl (omega arith) refl refl refl) refl) 0 owner
     (record {
       inside = refl;
       not_waiting = refl;

@@ -12,7 +12,7 @@ use Rattle.ww_rule.specs.declared.cells.Sight.{Sight}
 use Rattle.ww_rule.specs.declared.cells.Start.{Start}
 use Rattle.ww_rule.specs.Layout.{words_for, slots_for}
 use Rattle.ww_rule.specs.Rule.{St, Sat, first_part, places_for}
-use Rattle.ww_wakes.specs.Scene.{Step, performs, leaves_to_sleep, finds_no_sign, finds_no_cancel, wakes, falls_asleep, rises}
+use Rattle.ww_wakes.specs.Scene.{Step, performs, leaves_to_sleep, finds_no_sign, finds_no_cancel}
 use Rattle.ww_runs.specs.Moment as runs
 use Rattle.ww_runs.specs.Moment.{Moment, core}
 use Rattle.ww_runs.specs.Moves.{Follows}
@@ -158,11 +158,9 @@ core_follows m m' d (Some (performs e)) by f = f.makes.core
 core_follows m m' d (Some (leaves_to_sleep s n heeds)) by f = f.makes.core
 core_follows m m' d (Some (finds_no_sign s)) by f = f.looks.core
 core_follows m m' d (Some (finds_no_cancel s)) by f = f.looks.core
-core_follows m m' d (Some (wakes s u)) by f = absurd by
-core_follows m m' d (Some (falls_asleep s)) by f = absurd by
-core_follows m m' d (Some (rises s)) by f = absurd by
 core_follows m m' d None by f = ⊎_elim (λ still. still.stays.core)
     (λ more. ⊎_elim (λ noted. noted.looks.core) (λ reads. reads.core) more.1) f
+core_follows m m' d _ by f = absurd by
 
 heeds_follow : {key : Start} (m m' : Moment key) (d : ℕ) (x : Option Step) → IsBy d x → Follows m m' x →
     m'.heeds ≡ heeds_after x m.heeds
@@ -170,11 +168,9 @@ heeds_follow m m' d (Some (performs e)) by f = f.heeds
 heeds_follow m m' d (Some (leaves_to_sleep s n heeds)) by f = f.noted
 heeds_follow m m' d (Some (finds_no_sign s)) by f = f.looks.heeds
 heeds_follow m m' d (Some (finds_no_cancel s)) by f = f.looks.heeds
-heeds_follow m m' d (Some (wakes s u)) by f = absurd by
-heeds_follow m m' d (Some (falls_asleep s)) by f = absurd by
-heeds_follow m m' d (Some (rises s)) by f = absurd by
 heeds_follow m m' d None by f = ⊎_elim (λ still. still.stays.heeds)
     (λ more. ⊎_elim (λ noted. noted.looks.heeds) (λ reads. reads.heeds) more.1) f
+heeds_follow m m' d _ by f = absurd by
 
 -- seat d of the table, at this place of it
 pub record IsSeated (key : Start) (table : St) (id d : ℕ) (v : Sight) : Type 0 where
@@ -182,6 +178,10 @@ pub record IsSeated (key : Start) (table : St) (id d : ℕ) (v : Sight) : Type 0
   pub seated : v.seated ≡ true
   pub who : v.part.core.who ≡ d
   pub low : d < key.seats
+
+pub seated : {key : Start} {table : St} {id d : ℕ} {v : Sight} → get_elem? table.views id ≡ some v → v.seated ≡ true →
+    v.part.core.who ≡ d → d < key.seats → IsSeated key table id d v
+seated here is_seated who low = record { here = here; seated = is_seated; who = who; low = low }
 
 -- it doesn't sleep, and neither it nor its desk has left a guard as a waiter
 pub record IsUp (p : Picture) (d : ℕ) (v : Sight) : Type 0 where
@@ -197,8 +197,8 @@ pub record IsActing (key : Start) (p : Picture) (id d : ℕ) (v : Sight) : Type 
 pub acting : {key : Start} {p : Picture} {id d : ℕ} {v : Sight} → get_elem? p.table.views id ≡ some v → v.seated ≡ true →
     v.part.core.who ≡ d → d < key.seats → p.asleep d ≡ false → v.part.core.naps ≡ 0 → (p.desk d).view.naps ≡ 0 →
     IsActing key p id d v
-acting here seated who low awake rested fresh = record {
-  seated = record { here = here; seated = seated; who = who; low = low };
+acting here is_seated who low awake rested fresh = record {
+  seated = seated here is_seated who low;
   up = record { awake = awake; rested = rested; fresh = fresh };
 }
 

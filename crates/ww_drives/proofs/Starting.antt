@@ -9,7 +9,7 @@ use Rattle.ww_runs.proofs.Small.{least, small, holder_0, holder_1, waiter_0, tab
 use Rattle.ww_seat.specs.Marks.{is_marked}
 use Rattle.ww_drives.specs.Witness.{IsOfWorld}
 use Rattle.ww_drives.proofs.Shown.{Picture, first_picture, first_shown, Shown, OwesNobody, acting}
-use Rattle.ww_drives.proofs.Turns.{begins_as, begins_now, locks_as, locks_now}
+use Rattle.ww_drives.proofs.Turns.{begins_as, begins_now, locks_as, locks_now, may_turn}
 
 pub is_of_world : (kind : Kind) → IsOfWorld (small kind)
 is_of_world kind = record {
@@ -36,14 +36,8 @@ p_1 kind = begins_as (p_0 kind) 1 0 (holder_0 kind)
 
 g_1 : (kind : Kind) → Shown (small kind) (p_1 kind)
 unfolding put ℕ_discrete lock_at
-g_1 kind = begins_now (g_0 kind) 1 0 (holder_0 kind) (record {
-  acts = acting refl refl refl (omega arith) refl refl refl;
-  idle = refl;
-  rose = refl;
-  knows = refl;
-  cancelled = refl;
-  out = refl;
-}) (record { away = (refl, refl); no_context = refl; bare = bare; fewer = omega arith })
+g_1 kind = begins_now (g_0 kind) 1 0 (holder_0 kind)
+    (may_turn (acting refl refl refl (omega arith) refl refl refl) refl refl refl refl refl) (record { away = (refl, refl); no_context = refl; bare = bare; fewer = omega arith })
     (record { left = λ is. omega arith; rests = refl; no_context = refl; bare = refl; goes_on = refl; untold = refl }) (omega arith)
 
 abbrev p_2 : Kind → Picture
@@ -51,14 +45,8 @@ p_2 kind = begins_as (p_1 kind) 0 1 (waiter_0 kind)
 
 g_2 : (kind : Kind) → Shown (small kind) (p_2 kind)
 unfolding put ℕ_discrete lock_at
-g_2 kind = begins_now (g_1 kind) 0 1 (waiter_0 kind) (record {
-  acts = acting refl refl refl (omega arith) refl refl refl;
-  idle = refl;
-  rose = refl;
-  knows = refl;
-  cancelled = refl;
-  out = refl;
-}) (record { away = (refl, refl); no_context = refl; bare = bare; fewer = omega arith })
+g_2 kind = begins_now (g_1 kind) 0 1 (waiter_0 kind)
+    (may_turn (acting refl refl refl (omega arith) refl refl refl) refl refl refl refl refl) (record { away = (refl, refl); no_context = refl; bare = bare; fewer = omega arith })
     (record { left = λ is. omega arith; rests = refl; no_context = refl; bare = refl; goes_on = refl; untold = refl }) (omega arith)
 
 abbrev pub p_3 : Kind → Picture
@@ -66,14 +54,8 @@ p_3 kind = locks_as (small kind) (p_2 kind) 1 0 0 (holder_1 kind)
 
 pub g_3 : (kind : Kind) → Shown (small kind) (p_3 kind)
 unfolding put ℕ_discrete lock_at
-g_3 kind = locks_now (g_2 kind) 1 0 (holder_1 kind) (record {
-  acts = acting refl refl refl (omega arith) refl refl refl;
-  idle = refl;
-  rose = refl;
-  knows = refl;
-  cancelled = refl;
-  out = refl;
-}) 0 (omega arith) (omega arith)
+g_3 kind = locks_now (g_2 kind) 1 0 (holder_1 kind)
+    (may_turn (acting refl refl refl (omega arith) refl refl refl) refl refl refl refl refl) 0 (omega arith) (omega arith)
     (record { away = (refl, refl); base = inl (omega arith); signs = inr (inl refl) }) (record { rests = refl; lacks = refl; there = omega arith; wants = refl }) refl
 
 -- ---- whose waking has yet to be seen to

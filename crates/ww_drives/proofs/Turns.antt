@@ -86,6 +86,12 @@ pub record MayTurn (key : Start) (p : Picture) (id d : ℕ) (v : Sight) : Type 0
   pub cancelled : (p.desk d).cancelled ≡ v.part.counts.cancelled
   pub out : v.part.core.inside ≡ 0
 
+pub may_turn : {key : Start} {p : Picture} {id d : ℕ} {v : Sight} → IsActing key p id d v → p.calling d ≡ false →
+    p.to_sleep d ≡ false → (p.desk d).view ≡ v.part.core → (p.desk d).cancelled ≡ v.part.counts.cancelled →
+    v.part.core.inside ≡ 0 → MayTurn key p id d v
+may_turn acts idle rose knows cancelled out =
+    record { acts = acts; idle = idle; rose = rose; knows = knows; cancelled = cancelled; out = out }
+
 -- the picture once a call has answered this, whose one step made word i of the table x, and the seat's view v
 abbrev pub turned : Picture → (id d i x : ℕ) → Sight → Option Step → Answer → Situation → Picture
 turned p id d i x v step a s = answered (played (called p d) (stepped p.table i x id [] v keeps) step) d a s
@@ -246,6 +252,10 @@ list_out n v = (list_at n, Line v.part.core.list) ∷ []
 pub record MayPlay (key : Start) (p : Picture) (id d : ℕ) (v : Sight) : Type 0 where
   pub acts : IsActing key p id d v
   pub calling : p.calling d ≡ true
+
+pub may_play : {key : Start} {p : Picture} {id d : ℕ} {v : Sight} → IsActing key p id d v → p.calling d ≡ true →
+    MayPlay key p id d v
+may_play acts calling = record { acts = acts; calling = calling }
 
 abbrev pub enters_as : Start → Picture → (id n : ℕ) → Sight → Picture
 enters_as key p id n v = let q = p.core.queue n in

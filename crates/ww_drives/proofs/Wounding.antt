@@ -5,8 +5,8 @@ use native.Mathlib.Decide.{ℕ_discrete}
 use Rattle.std.specs.Prelude.{slice_index}
 use Rattle.atomic_table.specs.Table.{stepped, keeps}
 use Rattle.ww_word.specs.Owner.{with_waiters}
-use Rattle.ww_queue.specs.declared.kind.Kind.TheVariants.{WoundWait}
-use Rattle.ww_model.specs.declared.event.Event.TheVariants.{Sign, Die, Unguard}
+use Rattle.ww_queue.specs.declared.kind.Kind.TheVariants.{WoundWait, WaitDie}
+use Rattle.ww_model.specs.declared.event.Event.TheVariants.{Sign}
 use Rattle.ww_model.specs.State.{put}
 use Rattle.ww_model.proofs.Puts.{put_here, put_else, put_cases}
 use Rattle.ww_view.specs.Made.{found_none, has_read}
@@ -15,25 +15,22 @@ use Rattle.ww_rule.specs.Layout.{lock_at, sign_at}
 use Rattle.ww_rule.specs.Rule.{St}
 use Rattle.ww_rule.specs.Steps.{knowing}
 use Rattle.ww_rule.specs.Guards.{exiting}
-use Rattle.ww_rule.specs.Waiting.{dying}
 use Rattle.ww_rule.specs.Signs.{condemning}
 use Rattle.ww_wakes.specs.Scene.{performs, leaves_to_sleep, finds_no_sign}
-use Rattle.ww_rule.specs.declared.cells.Part.{Part}
-use Rattle.ww_runs.specs.Moment.{view}
 use Rattle.ww_runs.specs.Plays as play
 use Rattle.ww_runs.proofs.Small.{least, small, owner, word_there}
 use Rattle.ww_runs.proofs.Deadlocked.{first_not_second, second_not_first, younger, older_waits, younger_waits, out}
-use Rattle.ww_runs.proofs.Doomed.{is_valid, IsPending, is_pending}
-use Rattle.ww_seat.specs.declared.look.Arrival.TheVariants.{Came}
-use Rattle.ww_seat.specs.declared.waits.Waits.TheVariants.{ToTheEnd}
-use Rattle.ww_desk.specs.declared.turn.Answer.TheVariants.{Sleeps, Deadlk}
+use Rattle.ww_desk.specs.declared.turn.Answer.TheVariants.{Sleeps}
 use Rattle.ww_desk.specs.Situations.{Situation}
-use Rattle.ww_drives.specs.Deeds.{Does, go_on, steps, answers}
-use Rattle.ww_drives.proofs.Shown.{Picture, staged, Shown, Next, played, answered, naming, waking, parking, plays_then, answers_then, answers_does, names_then, wakes_then, parks_then, part_is, acting}
+use Rattle.ww_drives.specs.Deeds.{go_on}
+use Rattle.ww_drives.proofs.Shown.{Picture, Shown, played, answered, naming, waking, parking, plays_then, answers_then, names_then, wakes_then, parks_then, acting, seated}
 use Rattle.ww_drives.proofs.Pair.{a_6, b_6, p_12, g_12}
-use Rattle.ww_drives.proofs.Backing.{once_told, backs_off}
-use Rattle.ww_drives.proofs.Turns.{dies_as, dies_now, exits_as, exits_now, sleeps_now}
-use Rattle.ww_drives.proofs.Sleeping.{marked, cleared, has_no_mark_then, is_taken, wakes_one, wakes_none, once_asleep, falls_asleep}
+use Rattle.ww_drives.proofs.Turns.{exits_as, sleeps_now, may_play}
+use Rattle.ww_drives.proofs.Sleeping.{marked, cleared, has_no_mark_then, is_taken, wakes_one, once_asleep, falls_asleep, has_no_mark}
+use Rattle.ww_drives.proofs.Doomed.{has_deadlock}
+use Rattle.ww_live.proofs.Deadlocks.{are_deadlocked}
+use Rattle.ww_drives.specs.Witness.{HasDeadlockDriven, DeadlocksAreInEndlessDrives}
+use Rattle.ww_drives.proofs.Dying.{has_deadlock_dying}
 
 -- it signs the younger, finds that it has no sign, and comes out
 abbrev a_7 : Sight
@@ -65,7 +62,7 @@ g_13 : Shown (small WoundWait) p_13
 unfolding put ℕ_discrete lock_at
 g_13 = let g = g_12 WoundWait in let a = g.at in
     (plays_then g 1 0 (a_6 WoundWait, out 1 older_waits)
-    (record { here = refl; seated = refl; who = refl; low = omega arith })
+    (seated refl refl refl (omega arith))
     (record { awake = refl; rested = refl; fresh = refl }) refl (Some (performs (Sign 0 1))) table_14 (record {
       found = _;
       is = λ i. stepped (a.is_table i) (sign_at least 1) 1 1 (out 1 older_waits) a_7 keeps;
@@ -79,7 +76,7 @@ p_14 = played p_13 table_15 (Some (finds_no_sign 0))
 g_14 : Shown (small WoundWait) p_14
 unfolding put ℕ_discrete lock_at
 g_14 = let g = g_13 in let a = g.at in
-    (plays_then g 1 0 (a_7, out 1 older_waits) (record { here = refl; seated = refl; who = refl; low = omega arith })
+    (plays_then g 1 0 (a_7, out 1 older_waits) (seated refl refl refl (omega arith))
     (record { awake = refl; rested = refl; fresh = refl }) refl (Some (finds_no_sign 0)) table_15 (record {
       found = _;
       is = λ i. stepped (a.is_table i) (sign_at least 0) (slice_index (a.is_table i).words (sign_at least 0)) 1 (out 1 older_waits)
@@ -92,10 +89,8 @@ p_15 = exits_as (small WoundWait) p_14 1 1 a_8 (leaves_to_sleep 0 1 false)
 
 g_15 : Shown (small WoundWait) p_15
 unfolding put ℕ_discrete lock_at
-g_15 = (sleeps_now g_14 1 0 a_8 (record {
-  acts = acting refl refl refl (omega arith) refl refl refl;
-  calling = refl;
-}) 1
+g_15 = (sleeps_now g_14 1 0 a_8
+    (may_play (acting refl refl refl (omega arith) refl refl refl) refl) 1
     (record {
       exit = record {
         inside = refl;
@@ -122,7 +117,7 @@ p_16 = answered p_15 0 Sleeps older_5
 
 g_16 : Shown (small WoundWait) p_16
 unfolding put ℕ_discrete lock_at
-g_16 = answers_then g_15 1 0 a_9 (record { here = refl; seated = refl; who = refl; low = omega arith }) refl go_on Sleeps older_5
+g_16 = answers_then g_15 1 0 a_9 (seated refl refl refl (omega arith)) refl go_on Sleeps older_5
     (record {
       done = falls_asleep ((p_12 WoundWait).desk 0) 1 marked a_9.part.core refl (omega arith) refl
           (wakes_one ((p_12 WoundWait).desk 0) older_5 refl refl refl refl)
@@ -144,12 +139,12 @@ p_18 = waking p_17 0 1 a_9.part
 
 g_18 : Shown (small WoundWait) p_18
 unfolding put ℕ_discrete lock_at
-g_18 = wakes_then g_17 1 0 1 a_9 (record { here = refl; seated = refl; who = refl; low = omega arith }) refl refl refl
+g_18 = wakes_then g_17 1 0 1 a_9 (seated refl refl refl (omega arith)) refl refl refl
 
 abbrev p_19 : Picture
 p_19 = parking p_18 0
 
-pub named_none : (u : ℕ) → p_18.named 0 u ≡ false
+named_none : (u : ℕ) → p_18.named 0 u ≡ false
 named_none u = subst (λ (f : ℕ → Bool). f u ≡ false) (sym (put_here p_17.named 0 (put (p_17.named 0) 1 false)))
     (put_cases (p_17.named 0) 1 false u (λ b. b ≡ false) (λ _. refl) (λ isnt. was u isnt))
   where
@@ -169,14 +164,14 @@ b_7 = knowing (b_6 WoundWait) (has_read (b_6 WoundWait).part.core 1)
 abbrev table_17 : St
 table_17 = stepped p_19.table (sign_at least 1) 1 0 (out 0 younger_waits) b_7 keeps
 
-abbrev pub p_20 : Picture
+abbrev p_20 : Picture
 p_20 = played p_19 table_17 None
 
-pub g_20 : Shown (small WoundWait) p_20
+g_20 : Shown (small WoundWait) p_20
 unfolding put ℕ_discrete lock_at
 g_20 = let g = g_19 in let a = g.at in
     (plays_then g 0 1 (b_6 WoundWait, out 0 younger_waits)
-    (record { here = refl; seated = refl; who = refl; low = omega arith })
+    (seated refl refl refl (omega arith))
     (record { awake = refl; rested = refl; fresh = refl }) refl None table_17 (record {
       found = _;
       is = λ i. let k = slice_index (a.is_table i).words (sign_at least 1) in
@@ -185,93 +180,49 @@ g_20 = let g = g_19 in let a = g.at in
       plays = play.finds _ _ (play.is_signed (λ none. let z = word_there a (sign_at least 1) 1 refl in omega arith));
     })).next
 
-abbrev pub p_21 : Picture
-p_21 = dies_as (small WoundWait) p_20 0 0 (with_waiters owner) b_7
+-- ---- the younger dies
 
-pub dies : Next g_20 (steps 1 (Some (performs (Die 1 0)))) p_21
+pub has_deadlock_wounding : HasDeadlockDriven WoundWait
 unfolding put ℕ_discrete lock_at
-dies = dies_now g_20 0 1 b_7 (record {
-  acts = acting refl refl refl (omega arith) refl refl refl;
+has_deadlock_wounding = has_deadlock g_20 a_9 b_7 (record {
+  older = seated refl refl refl (omega arith);
+  younger = acting refl refl refl (omega arith) refl refl refl;
   calling = refl;
-}) 0 1 (with_waiters owner)
-    (record {
-      inside = refl;
-      waits = refl;
-      other = (0, refl, first_not_second);
-      why = (1, inr refl, refl);
-      unheeded = refl;
-    })
-    is_valid refl
+  word = refl;
+  dies = record {
+    inside = refl;
+    waits = refl;
+    other = (0, refl, first_not_second);
+    why = (1, inr refl, refl);
+    unheeded = refl;
+  };
+  exits = record { inside = refl; why = inl (refl, refl); unsigned = λ is. absurd (cc); unheeded = refl };
+  turn = refl;
+  backs_off = record {
+    context = omega arith;
+    older = omega arith;
+    holds = omega arith;
+    met = record {
+      owner = with_waiters owner;
+      list = younger_waits;
+      noted = refl;
+      shown = record { wounded = λ _. (refl, omega arith); older = λ is. absurd (cc) };
+    };
+    now = refl;
+  };
+  alike = (refl, refl);
+  condemned = refl;
+  cancelled = refl;
+  sleeps = (refl, refl, refl);
+  paid = (refl, refl);
+  owes_none = λ u. refl;
+  dead = are_deadlocked _ refl refl (_, inl refl, refl) (_, inl refl, refl);
+  unmarked = (has_no_mark_then, has_no_mark);
+  unnamed = (named_none, λ s. refl);
+})
 
--- ---- it comes out of the guard, and its call answers so
+-- ---- in each kind
 
-abbrev died : Sight
-died = dying b_7 (with_waiters owner)
-
-abbrev died_out : Sight
-died_out = exiting died
-
-abbrev pub p_22 : Picture
-p_22 = exits_as (small WoundWait) p_21 0 0 died (performs (Unguard 1 0))
-
-pub comes_out : Next dies.next (steps 1 (Some (performs (Unguard 1 0)))) p_22
-unfolding put ℕ_discrete lock_at
-comes_out = exits_now dies.next 0 1 died (record {
-  acts = acting refl refl refl (omega arith) refl refl refl;
-  calling = refl;
-}) 0
-    (record { inside = refl; why = inl (refl, refl); unsigned = λ is. absurd (cc); unheeded = refl }) refl
-
-abbrev pub told : Situation
-told = once_told (p_20.desk 1) 0 died_out.part.core
-
-pub answers_so : Does (staged comes_out.next.at.moment p_22) (staged comes_out.next.at.moment (answered p_22 1 (Deadlk 1) told))
-    (answers 1 go_on (Deadlk 1))
-unfolding put ℕ_discrete lock_at
-answers_so = answers_does comes_out.next 0 1 died_out (record { here = refl; seated = refl; who = refl; low = omega arith }) refl go_on
-    (Deadlk 1) told (record {
-      done = backs_off (p_20.desk 1) 0 1 Came ToTheEnd died_out.part.core refl (
-        wakes_none (p_20.desk 1) told refl refl,
-        record {
-          context = omega arith;
-          older = omega arith;
-          holds = omega arith;
-          met = record {
-            owner = with_waiters owner;
-            list = younger_waits;
-            noted = refl;
-            shown = record { wounded = λ _. (refl, omega arith); older = λ is. absurd (cc) };
-          };
-          now = refl;
-        },
-      ) (refl, refl);
-      outside = λ _. refl;
-      sees = refl;
-      cancelled = refl;
-    })
-
-pub before : IsPending g_20.at.moment 1
-unfolding put ℕ_discrete lock_at
-before = let g = g_20 in
-    is_pending g.at a_9 b_7 (part_is g 1 0 a_9 (record { here = refl; seated = refl; who = refl; low = omega arith }))
-    (part_is g 0 1 b_7 (record { here = refl; seated = refl; who = refl; low = omega arith }))
-    refl refl refl (λ u. refl) refl refl 1 refl
-
-pub then : IsPending dies.next.at.moment 0
-unfolding put ℕ_discrete lock_at
-then = let g = dies.next in
-    is_pending g.at a_9 died (part_is g 1 0 a_9 (record { here = refl; seated = refl; who = refl; low = omega arith }))
-    (part_is g 0 1 died (record { here = refl; seated = refl; who = refl; low = omega arith }))
-    refl refl refl (λ u. refl) refl refl 0 refl
-
-pub at_last : IsPending comes_out.next.at.moment 0
-unfolding put ℕ_discrete lock_at
-at_last = let g = comes_out.next in
-    is_pending g.at a_9 died_out (part_is g 1 0 a_9 (record { here = refl; seated = refl; who = refl; low = omega arith }))
-    (part_is g 0 1 died_out (record { here = refl; seated = refl; who = refl; low = omega arith }))
-    refl refl refl (λ u. refl) refl refl 0 refl
-
-pub inside : (view g_20.at.moment 1).inside ≡ 1
-unfolding put ℕ_discrete lock_at
-inside = ap (λ (p : Part). p.core.inside)
-    (sym (part_is g_20 0 1 b_7 (record { here = refl; seated = refl; who = refl; low = omega arith })))
+pub deadlocks_are_in_endless_drives : DeadlocksAreInEndlessDrives
+deadlocks_are_in_endless_drives WaitDie = has_deadlock_dying
+deadlocks_are_in_endless_drives WoundWait = has_deadlock_wounding

@@ -18,12 +18,13 @@ use Rattle.ww_model.proofs.Holders.{not_given}
 use Rattle.ww_model.proofs.Options.{some_of}
 use Rattle.ww_model.proofs.Dues.{dies_why}
 use Rattle.ww_model.proofs.Beyond.{stamps_beyond}
-use Rattle.ww_wakes.specs.Scene.{Scene, Step, performs, leaves_to_sleep, finds_no_sign, finds_no_cancel, wakes, falls_asleep, rises, next}
+use Rattle.ww_wakes.specs.Scene.{Scene, Step, performs, next}
 use Rattle.ww_wakes.specs.Theorem.{IsEndlessRun}
 use Rattle.ww_live.specs.Premises.{WaitersGoOn, HoldersRelease, WaitsForEver, RestsOn, IsOldestActive, IsOver, FirstsAsk, BacksOff, TakesContendedFirst, ContextsEndOrDie}
 use Rattle.ww_live.specs.Theorem.{EndsWait, ContextsAreServed, OldestWaitDieIsServed}
 use Rattle.ww_live.proofs.Steps.{taken_next}
-use Rattle.ww_live.proofs.Runs.{holds_at, Ended, ended_from, until_at, orderly_at, lawful_at, kind_at, made_next, known_next, may_be}
+use Rattle.ww_wakes.proofs.Endless.{holds_at}
+use Rattle.ww_live.proofs.Runs.{Ended, ended_from, until_at, orderly_at, lawful_at, kind_at, known_next, may_be, along}
 use Rattle.ww_live.proofs.Links.{Link, link_breaks}
 use Rattle.ww_live.proofs.Climbs.{owner_holds}
 use Rattle.ww_live.proofs.Dues.{handed_takes}
@@ -52,12 +53,7 @@ pub gained_next : (w : Scene) (x : Step) (s n : ℕ) → w.core.owner n ≢ Take
     (x ≡ performs (Fast s n)) ⊎ (x ≡ performs (Take s n))
 gained_next w (performs v) s n not has =
     ⊎_elim (λ is. inl (ap performs is)) (λ is. inr (ap performs is)) (gained_after w.core v s n not has)
-gained_next w (leaves_to_sleep t m heeds) s n not has = absurd (not has)
-gained_next w (finds_no_sign t) s n not has = absurd (not has)
-gained_next w (finds_no_cancel t) s n not has = absurd (not has)
-gained_next w (wakes t v) s n not has = absurd (not has)
-gained_next w (falls_asleep t) s n not has = absurd (not has)
-gained_next w (rises t) s n not has = absurd (not has)
+gained_next w _ s n not has = absurd (not has)
 
 -- ---- which seat has the context with a stamp
 
@@ -88,9 +84,9 @@ module _ (scene : ℕ → Scene) (step : ℕ → Step) (run : IsEndlessRun scene
   -- who waits for ever keeps a lock
   kept : (t n m k : ℕ) → (scene k).core.owner n ≡ Taken t → ((x : ℕ) → k ≤ x → Stands ((scene x).core.queue m) t) →
       (x : ℕ) → k ≤ x → (scene x).core.owner n ≡ Taken t
-  kept t n m k own ever x from = holds_at (λ y. (scene y).core.owner n ≡ Taken t) k x from own
-      (λ y after below has. made_next scene step run (λ w. w.core.owner n ≡ Taken t) y
-      (taken_next (scene y) (step y) t n m (run.may y) (lawful_at scene step run y).base has (ever y after)))
+  kept t n m k own ever x from = along scene step run (λ w. w.core.owner n ≡ Taken t) k x from own
+      (λ y after below has. taken_next (scene y) (step y) t n m (run.may y) (lawful_at scene step run y).base has
+      (ever y after))
 
   -- ---- who died at a lock that another keeps gets none
 
@@ -392,11 +388,9 @@ module _ (scene : ℕ → Scene) (step : ℕ → Step) (run : IsEndlessRun scene
   -- So there are ever more of them: each waits for a younger one.
   no_chain : (fuel k : ℕ) (ws : List Entry) → start ≤ k → Once ws → AllEver k ws → (f : Entry) (m : ℕ) →
       ((x : ℕ) → k ≤ x → Has ((scene x).core.queue m) f) → f.holds ≡ true → 0 < f.stamp →
-      ((y : Entry) → Has ws y → y.stamp ≤ f.stamp) → (scene k).core.seats ≤ length ws + fuel → ⊥
-  no_chain zero k ws from once all f m fs holds some old room = next_of_chain k ws from once all f m fs holds some
-      old (λ p later g o new all' gs holds' some' old'.
-      let full = few scene step run p (g ∷ ws) (new, once) (λ y hy. let z = all' y hy in (z.0, z.1 p (omega arith))) in
-      let same = seats_at scene step run k p later in omega arith)
+      ((y : Entry) → Has ws y → y.stamp ≤ f.stamp) → (scene k).core.seats < length ws + fuel → ⊥
+  no_chain zero k ws from once all f m fs holds some old room =
+      let full = few scene step run k ws once (λ y hy. let z = all y hy in (z.0, z.1 k (omega arith))) in omega arith
   no_chain (suc fuel) k ws from once all f m fs holds some old room =
       next_of_chain k ws from once all f m fs holds some old (λ p later g o new all' gs holds' some' old'.
       let same = seats_at scene step run k p later in
@@ -415,7 +409,7 @@ module _ (scene : ℕ → Scene) (step : ℕ → Step) (run : IsEndlessRun scene
       let gs = ever_has g o p h'.1 (λ x a. subst (Stands ((scene x).core.queue o)) (sym h'.2) (locked.ever.1 x a)) in
       let own = locked.owns p (omega arith) ∙ ap Taken (sym h'.2) in
       let has = owner_holds (scene p).core (lawful_at scene step run p) g n o h'.1 own in
-      absurd (no_chain (scene p).core.seats p (g ∷ []) (omega arith) ((λ y none. absurd none), tt)
+      absurd (no_chain (suc (scene p).core.seats) p (g ∷ []) (omega arith) ((λ y none. absurd none), tt)
       (λ y. ⊎_elim (λ is. (o, λ x a. subst (Has ((scene x).core.queue o)) (sym is) (gs x a))) (λ none. absurd none))
       g o gs has.0 has.1
       (λ y. ⊎_elim (λ is. let same = ap (λ (z : Entry). z.stamp) is in omega arith) (λ none. absurd none))

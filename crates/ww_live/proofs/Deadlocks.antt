@@ -1,9 +1,9 @@
 -- Each deadlock is resolved.
-use Rattle.std.proofs.Common.{◌≡◌, ◌⊎◌, inl, inr, ⊎_elim, ℕ, zero, suc, ◌+◌, ◌-◌, ◌≤◌, List, [], ◌∷◌, refl, sym, ap, ◌∙◌, subst, arith}
+use Rattle.std.proofs.Common.{◌≡◌, ◌⊎◌, inl, inr, ⊎_elim, ℕ, ◌≤◌, List, [], ◌∷◌, refl, sym, ap, ◌∙◌, subst, arith}
 use mathlib.Core.Logic.{dite}
 use native.Mathlib.Decide.{ℕ_discrete}
 use Rattle.ww_queue.specs.declared.entry.Entry.{Entry}
-use Rattle.ww_queue.specs.Queue.{Has}
+use Rattle.ww_queue.specs.Queue.{Has, Stands}
 use Rattle.ww_model.specs.declared.state.Holder.TheVariants.{Taken, Handed}
 use Rattle.ww_model.specs.declared.event.Event.TheVariants.{Take, Die, Leave}
 use Rattle.ww_model.specs.State.{State}
@@ -12,8 +12,9 @@ use Rattle.ww_model.specs.Lawful.{IsLawful}
 use Rattle.ww_model.specs.Waits.{IsOneOf, Leads, WaitsFor}
 use Rattle.ww_wakes.specs.Scene.{Scene, Step, performs, May, next}
 use Rattle.ww_wakes.specs.Theorem.{IsEndlessRun}
-use Rattle.ww_live.specs.Theorem.{GivesUp, IsStuck, IsResolved, NoDeadlockLasts, CyclesAreBroken, EndsWait}
+use Rattle.ww_live.specs.Theorem.{GivesUp, IsStuck, IsResolved, NoDeadlockLasts, CyclesAreBroken, EndsWait, AreDeadlocked}
 use Rattle.ww_live.proofs.Steps.{entry_next, taken_next}
+use Rattle.ww_wakes.proofs.Endless.{unless}
 use Rattle.ww_live.proofs.Runs.{Ended, lawful_at, made_next, may_be}
 use Rattle.ww_live.proofs.Links.{these_break}
 use Rattle.ww_live.proofs.Climbs.{Onward, climb}
@@ -76,21 +77,13 @@ stuck_next w x seats may l none all s one = let a = all s one in let t = a.0 in 
     )
 
 module _ (scene : ℕ → Scene) (step : ℕ → Step) (run : IsEndlessRun scene step) (seats : List ℕ) (i : ℕ) where
-  stuck_until : (gap : ℕ) → AllStuck (scene i).core seats →
-      IsResolved step i seats ⊎ AllStuck (scene (i + gap)).core seats
-  stuck_until zero all = inr (subst (λ k. AllStuck (scene k).core seats) (omega arith) all)
-  stuck_until (suc gap) all = ⊎_elim inl
-      (λ still. ⊎_elim (λ r. inl (i + gap, omega arith, r))
-      (λ none. inr (subst (λ k. AllStuck (scene k).core seats) (omega arith)
-      (made_next scene step run (λ w. AllStuck w.core seats) (i + gap)
-      (stuck_next (scene (i + gap)) (step (i + gap)) seats (run.may (i + gap))
-      (lawful_at scene step run (i + gap)) none still))))
-      (resolves_or_not seats (step (i + gap))))
-      (stuck_until gap all)
-
   stuck_at : (j : ℕ) → i ≤ j → AllStuck (scene i).core seats → IsResolved step i seats ⊎ AllStuck (scene j).core seats
-  stuck_at j later all = let gap : i + (j - i) ≡ j = omega arith in
-      subst (λ k. IsResolved step i seats ⊎ AllStuck (scene k).core seats) gap (stuck_until (j - i) all)
+  stuck_at j later all = ⊎_elim (λ f. inl (f.at, f.from, f.holds)) inr
+      (unless (λ k. Resolves seats (step k)) (λ k. AllStuck (scene k).core seats) i j later all
+      (λ k from below still. ⊎_elim inl
+      (λ none. inr (made_next scene step run (λ w. AllStuck w.core seats) k
+      (stuck_next (scene k) (step k) seats (run.may k) (lawful_at scene step run k) none still)))
+      (resolves_or_not seats (step k))))
 
   -- the wait of one of the seats ends: that it takes the lock can't be
   ends : (e : Entry) (n : ℕ) → AllStuck (scene i).core seats → IsOneOf e.seat seats → Ended scene step e n i →
@@ -169,3 +162,14 @@ cycles_are_broken scene step run i (a ∷ bs) go cycle = no_deadlock_lasts scene
   some = (a, inl refl);
   stuck = stuck_in (scene i).core (lawful_at scene step run i) a bs cycle;
 })
+
+-- ---- two seats
+
+-- each stands in the list of the lock that the other has
+pub are_deadlocked : (c : State) → c.owner 0 ≡ Taken 0 → c.owner 1 ≡ Taken 1 → Stands (c.queue 1) 0 → Stands (c.queue 0) 1 →
+    AreDeadlocked c (0 ∷ 1 ∷ [])
+are_deadlocked c has_0 has_1 waits_0 waits_1 = record {
+  some = (0, inl refl);
+  stuck = λ s. ⊎_elim (λ is. (1, inr (inl refl), (1, subst (Stands (c.queue 1)) (sym is) waits_0, has_1)))
+      (⊎_elim (λ is. (0, inl refl, (0, subst (Stands (c.queue 0)) (sym is) waits_1, has_0))) (λ none. absurd none));
+}

@@ -1,5 +1,5 @@
 -- A lock that is there for a waiter is taken.
-use Rattle.std.proofs.Common.{◌≡◌, ◌⊎◌, inl, inr, ⊎_elim, ℕ, zero, suc, ◌+◌, ◌-◌, ◌≤◌, refl, sym, ap, ◌∙◌, subst, arith}
+use Rattle.std.proofs.Common.{◌≡◌, ◌⊎◌, inl, inr, ⊎_elim, ℕ, suc, ◌≤◌, refl, sym, ap, ◌∙◌, subst, arith}
 use Rattle.ww_queue.specs.declared.entry.Entry.{Entry}
 use Rattle.ww_queue.specs.Queue.{Has}
 use Rattle.ww_model.specs.declared.state.Holder.TheVariants.{Nobody, Handed}
@@ -9,9 +9,10 @@ use Rattle.ww_model.proofs.Cancels.{not_free, kept_there}
 use Rattle.ww_wakes.specs.Scene.{Scene, Step, performs}
 use Rattle.ww_wakes.specs.Theorem.{IsEndlessRun, IsDue}
 use Rattle.ww_live.specs.Premises.{WaitersGoOn}
-use Rattle.ww_live.specs.Theorem.{DueLocksAreTaken}
+use Rattle.ww_live.specs.Theorem.{DueLocksAreTaken, EndsWait}
 use Rattle.ww_live.proofs.Steps.{handed_next, free_next}
-use Rattle.ww_live.proofs.Runs.{holds_at, IsCalled, Stays, Ended, Sleeps, ended_from, orderly_at, lawful_at, made_next, may_be, comes_in, goes_out}
+use Rattle.ww_wakes.proofs.Endless.{unless}
+use Rattle.ww_live.proofs.Runs.{IsCalled, Stays, Ended, Sleeps, ended_from, orderly_at, lawful_at, made_next, may_be, comes_in, goes_out, along}
 
 module _ (scene : ℕ → Scene) (step : ℕ → Step) (run : IsEndlessRun scene step) (go : WaitersGoOn scene step) where
   pub due_called : (i s n : ℕ) → IsDue (scene i).core s n → IsCalled (scene i) s
@@ -21,9 +22,8 @@ module _ (scene : ℕ → Scene) (step : ℕ → Step) (run : IsEndlessRun scene
 
   handed_on : (e : Entry) (n i j : ℕ) → i ≤ j → Stays scene step e n i j → (scene i).core.owner n ≡ Handed e.seat →
       (scene j).core.owner n ≡ Handed e.seat
-  handed_on e n i j later stays own = holds_at (λ k. (scene k).core.owner n ≡ Handed e.seat) i j later own
-      (λ k from below before. made_next scene step run (λ w. w.core.owner n ≡ Handed e.seat) k
-      (handed_next (scene k) (step k) e.seat n (run.may k) before (stays.on k from below)))
+  handed_on e n i j later stays own = along scene step run (λ w. w.core.owner n ≡ Handed e.seat) i j later own
+      (λ k from below before. handed_next (scene k) (step k) e.seat n (run.may k) before (stays.on k from below))
 
   -- the waiter that is inside the guard, with the lock handed to it, can't leave it so
   handed_inside : (e : Entry) (n i : ℕ) → Has ((scene i).core.queue n) e → (scene i).core.owner n ≡ Handed e.seat →
@@ -54,39 +54,30 @@ module _ (scene : ℕ → Scene) (step : ℕ → Step) (run : IsEndlessRun scene
   taken_from n i j later t = let more = t.later in
       record { at = t.at; later = omega arith; seat = t.seat; takes = t.takes }
 
-  free_on : (e : Entry) (n i gap : ℕ) → Stays scene step e n i (i + gap) → (scene i).core.owner n ≡ Nobody →
-      IsTaken n i ⊎ ((scene (i + gap)).core.owner n ≡ Nobody)
-  free_on e n i zero stays free = inr (subst (λ k. (scene k).core.owner n ≡ Nobody) (omega arith) free)
-  free_on e n i (suc gap) stays free = ⊎_elim inl
-      (λ still. let k = i + gap in ⊎_elim
-      (λ t. inl (record { at = k; later = omega arith; seat = t.0; takes = t.1 }))
-      (λ on. inr (subst (λ x. (scene x).core.owner n ≡ Nobody) (omega arith)
-      (made_next scene step run (λ w. w.core.owner n ≡ Nobody) k on)))
-      (free_next (scene k) (step k) n e (run.may k) still (stays.here k (omega arith) (omega arith))))
-      (free_on e n i gap (record {
-        here = λ x a b. stays.here x a (omega arith);
-        on = λ x a b. stays.on x a (omega arith);
-      }) free)
-
   free_at : (e : Entry) (n i j : ℕ) → i ≤ j → Stays scene step e n i j → (scene i).core.owner n ≡ Nobody →
       IsTaken n i ⊎ ((scene j).core.owner n ≡ Nobody)
-  free_at e n i j later stays free = let gap : i + (j - i) ≡ j = omega arith in
-      subst (λ x. IsTaken n i ⊎ ((scene x).core.owner n ≡ Nobody)) gap (free_on e n i (j - i) (subst
-      (λ x. Stays scene step e n i x) (sym gap) stays) free)
+  free_at e n i j later stays free = ⊎_elim
+      (λ f. inl (record { at = f.at; later = f.from; seat = f.holds.0; takes = f.holds.1 })) inr
+      (unless (λ k. (u : ℕ) × (step k ≡ performs (Take u n))) (λ k. (scene k).core.owner n ≡ Nobody) i j later free
+      (λ k from below still. ⊎_elim inl
+      (λ on. inr (made_next scene step run (λ w. w.core.owner n ≡ Nobody) k on))
+      (free_next (scene k) (step k) n e (run.may k) still (stays.here k from (omega arith)))))
 
-  -- a wait that ends while the lock is free ends since the lock is taken
-  free_ends : (e : Entry) (n i : ℕ) → (scene i).core.owner n ≡ Nobody → Ended scene step e n i → IsTaken n i
-  free_ends e n i free end = let j = end.at in let c = (scene j).core in let l = lawful_at scene step run j in
-      ⊎_elim (λ t. t)
-      (λ still. ⊎_elim
-      (λ take. record { at = j; later = end.later; seat = e.seat; takes = take })
+  -- a wait that ends while the lock is there for the waiter, or is free, ends since the waiter takes it
+  takes_it : (e : Entry) (n i : ℕ) → ((scene i).core.owner n ≡ Nobody) ⊎ ((scene i).core.owner n ≡ Handed e.seat) →
+      EndsWait e.seat n (step i) → step i ≡ performs (Take e.seat n)
+  takes_it e n i there ends = let c = (scene i).core in let l = lawful_at scene step run i in ⊎_elim (λ take. take)
       (⊎_elim
-      (λ dies. let can = may_be scene step run j (performs (Die e.seat n)) dies in
-      absurd (not_free (c.owner n) e.seat can.possible.base.other (inl still)))
-      (λ leaves. let can = may_be scene step run j (performs (Leave e.seat n)) leaves in
-      absurd (not_free (c.owner n) e.seat (kept_there c l.base e.seat n can.possible.base) (inl still))))
-      end.ends)
-      (free_at e n i j end.later end.stays free)
+      (λ dies. let can = may_be scene step run i (performs (Die e.seat n)) dies in
+      absurd (not_free (c.owner n) e.seat can.possible.base.other there))
+      (λ leaves. let can = may_be scene step run i (performs (Leave e.seat n)) leaves in
+      absurd (not_free (c.owner n) e.seat (kept_there c l.base e.seat n can.possible.base) there)))
+      ends
+
+  free_ends : (e : Entry) (n i : ℕ) → (scene i).core.owner n ≡ Nobody → Ended scene step e n i → IsTaken n i
+  free_ends e n i free end = ⊎_elim (λ t. t)
+      (λ still. record { at = end.at; later = end.later; seat = e.seat; takes = takes_it e n end.at (inl still) end.ends })
+      (free_at e n i end.at end.later end.stays free)
 
   free_inside : (e : Entry) (n i : ℕ) → Has ((scene i).core.queue n) e → (scene i).core.owner n ≡ Nobody →
       (scene i).core.guard n ≡ suc e.seat → IsTaken n i
@@ -109,28 +100,18 @@ module _ (scene : ℕ → Scene) (step : ℕ → Step) (run : IsEndlessRun scene
   pub held_free : (e : Entry) (n i : ℕ) → (scene i).core.owner n ≡ Nobody → Sleeps scene step e n i → ⊥
   held_free e n i own z = let j = z.at in let other = z.may.possible.base.contended z.may.waits in
       not_free ((scene j).core.owner n) e.seat other
-      (inl (holds_at (λ k. (scene k).core.owner n ≡ Nobody) i j z.later own
-      (λ k from below before. made_next scene step run (λ w. w.core.owner n ≡ Nobody) k (⊎_elim
+      (inl (along scene step run (λ w. w.core.owner n ≡ Nobody) i j z.later own
+      (λ k from below before. ⊎_elim
       (λ t. let can = may_be scene step run k (performs (Take t.0 n)) t.1 in let g = can.possible.base.inside.guard in
       let mine = z.inside k from (omega arith) in let same : t.0 ≡ e.seat = omega arith in
       absurd (z.stays.on k from below (inl (t.1 ∙ ap (λ u. performs (Take u n)) same)))) (λ still. still)
-      (free_next (scene k) (step k) n e (run.may k) before (z.stays.here k from (omega arith)))))))
+      (free_next (scene k) (step k) n e (run.may k) before (z.stays.here k from (omega arith))))))
 
   -- a seat to which a lock was handed takes it
   pub handed_takes : (e : Entry) (n i : ℕ) → Has ((scene i).core.queue n) e → (scene i).core.owner n ≡ Handed e.seat →
       (end : Ended scene step e n i) × (step end.at ≡ performs (Take e.seat n))
-  handed_takes e n i h own = let end = handed_ends e n i h own in let j = end.at in let c = (scene j).core in
-      let still = handed_on e n i j end.later end.stays own in (
-        end,
-        ⊎_elim (λ take. take)
-            (⊎_elim
-            (λ dies. let can = may_be scene step run j (performs (Die e.seat n)) dies in
-            absurd (not_free (c.owner n) e.seat can.possible.base.other (inr still)))
-            (λ leaves. let can = may_be scene step run j (performs (Leave e.seat n)) leaves in
-            absurd (not_free (c.owner n) e.seat (kept_there c
-            (lawful_at scene step run j).base e.seat n can.possible.base) (inr still))))
-            end.ends,
-      )
+  handed_takes e n i h own = let end = handed_ends e n i h own in
+      (end, takes_it e n end.at (inr (handed_on e n i end.at end.later end.stays own)) end.ends)
 
 pub due_locks_are_taken : DueLocksAreTaken
 due_locks_are_taken scene step run go i s n = let l = lawful_at scene step run i in record {

@@ -16,11 +16,10 @@ use Rattle.ww_wakes.specs.Theorem.{IsEndlessRun}
 use Rattle.ww_live.specs.Premises.{IsOldestActive}
 use Rattle.ww_live.specs.Theorem.{OldestNeverGivesWay, OldestEnds}
 use Rattle.ww_live.proofs.Steps.{by_event}
-use Rattle.ww_live.proofs.Runs.{holds_at, lawful_at, kind_at, made_next, may_be}
-use Rattle.ww_live.proofs.Livelock.{search_to}
-use Rattle.ww_live.proofs.Rests.{lives, never_signed, unsigned_next, rests_on, is_up}
+use Rattle.ww_live.proofs.Runs.{lawful_at, kind_at, made_next, may_be, search_to, along}
+use Rattle.ww_live.proofs.Rests.{IsOldestUp, lives, never_signed, unsigned_next, is_up}
 use Rattle.ww_live.proofs.Served.{gone, same_context, drawn_on}
-use Rattle.ww_live.proofs.Oldest.{oldest_is_served}
+use Rattle.ww_live.proofs.Oldest.{oldest_then, oldest_is_served}
 
 ends_or_not : (s : ℕ) (x : Step) → (x ≡ performs (End s)) ⊎ (x ≢ performs (End s))
 ends_or_not s (performs (End t)) = dite (ℕ_discrete t s) (λ is. inl (ap (λ u. performs (End u)) is))
@@ -43,9 +42,8 @@ goes_next w x s may some on = by_event (λ d. d.stamp s ≡ w.core.stamp s) w x 
 pub same_on : (scene : ℕ → Scene) (step : ℕ → Step) → IsEndlessRun scene step → (s i j : ℕ) → i ≤ j →
     0 < (scene i).core.stamp s → ((k : ℕ) → i ≤ k → k < j → step k ≢ performs (End s)) →
     (scene j).core.stamp s ≡ (scene i).core.stamp s
-same_on scene step run s i j later some on = holds_at (λ x. (scene x).core.stamp s ≡ (scene i).core.stamp s) i j later
-    refl (λ x from below same. made_next scene step run (λ w. w.core.stamp s ≡ (scene x).core.stamp s) x
-    (goes_next (scene x) (step x) s (run.may x) (omega arith) (on x from below)) ∙ same)
+same_on scene step run s i j later some on = along scene step run (λ w. w.core.stamp s ≡ (scene i).core.stamp s) i j
+    later refl (λ x from below same. goes_next (scene x) (step x) s (run.may x) (omega arith) (on x from below) ∙ same)
 
 -- in Wound-Wait a seat without a sign doesn't die
 dies_not : (c : State) (s m : ℕ) → c.kind ≡ WoundWait → c.sign s ≡ 0 → Possible c (Die s m) → ⊥
@@ -56,33 +54,24 @@ dies_not c s m kind none can = let cause = some_of (dies c s m) can.signs in let
 
 module _ (scene : ℕ → Scene) (step : ℕ → Step) (run : IsEndlessRun scene step) (s i : ℕ)
     (old : IsOldestActive scene step s i) where
-  -- it is so as long as its context goes on
-  oldest_then : (j : ℕ) → i ≤ j → (scene j).core.stamp s ≡ (scene i).core.stamp s → IsOldestActive scene step s j
-  oldest_then j later mine = let some = old.context in
-      let bound = (lawful_at scene step run i).base.stamps.below s in record {
-        context = omega arith;
-        older = λ t there less.
-            let same = same_context scene step run i j t ((scene i).core.stamp s) later (omega arith) there
-            (omega arith) in
-            rests_on scene step t i j later same (old.older t (omega arith) (omega arith));
-      }
+  -- it is up as long as its context goes on
+  up_then : (j : ℕ) → i ≤ j → (scene j).core.stamp s ≡ (scene i).core.stamp s → IsOldestUp (scene j).core s
+  up_then j later mine = is_up scene step s j (oldest_then scene step run s i j later old mine)
 
   -- and nobody signs it
   unsigned_then : (j : ℕ) → i ≤ j → (scene j).core.stamp s ≡ (scene i).core.stamp s → (scene i).core.sign s ≡ 0 →
       (scene j).core.sign s ≡ 0
   unsigned_then j later mine none = let some = old.context in
       let bound = (lawful_at scene step run i).base.stamps.below s in
-      holds_at (λ x. (scene x).core.sign s ≡ 0) i j later none
-      (λ x from below unsigned. let now = same_context scene step run x j s ((scene i).core.stamp s) (omega arith)
+      along scene step run (λ w. w.core.sign s ≡ 0) i j later none
+      (λ x from below. let now = same_context scene step run x j s ((scene i).core.stamp s) (omega arith)
       (drawn_on scene step run i x ((scene i).core.stamp s) from (omega arith)) (omega arith) (omega arith) in
-      made_next scene step run (λ w. w.core.sign s ≡ 0) x
-      (unsigned_next (scene x) (step x) s (run.may x) (lawful_at scene step run x).base
-      (is_up scene step s x (oldest_then x from (now ∙ mine))) unsigned))
+      unsigned_next (scene x) (step x) s (run.may x) (lawful_at scene step run x).base (up_then x from (now ∙ mine)))
 
   signed_by_none : (j t : ℕ) → i ≤ j → (scene j).core.stamp s ≡ (scene i).core.stamp s →
       step j ≢ performs (Sign t s)
   signed_by_none j t later mine is = never_signed (scene j).core (lawful_at scene step run j).base s
-      (is_up scene step s j (oldest_then j later mine)) t (may_be scene step run j (performs (Sign t s)) is).possible
+      (up_then j later mine) t (may_be scene step run j (performs (Sign t s)) is).possible
 
   dies_nowhere : (j n : ℕ) → i ≤ j → (scene j).core.stamp s ≡ (scene i).core.stamp s →
       ((scene i).core.kind ≡ WoundWait → (scene i).core.sign s ≡ 0) → step j ≢ performs (Die s n)
@@ -90,7 +79,7 @@ module _ (scene : ℕ → Scene) (step : ℕ → Step) (run : IsEndlessRun scene
       let can = (may_be scene step run j (performs (Die s n)) is).possible in by_kind c.kind ⊥
       (λ wounding. dies_not c s n wounding (unsigned_then j later mine (none (sym kind ∙ wounding))) can)
       (λ dying. let cause = some_of (dies c s n) can.signs in
-      lives c (lawful_at scene step run j).base s (is_up scene step s j (oldest_then j later mine)) dying n cause.0
+      lives c (lawful_at scene step run j).base s (up_then j later mine) dying n cause.0
       (dies_why c s n cause.0 cause.1))
 
 pub oldest_never_gives_way : OldestNeverGivesWay
@@ -110,7 +99,7 @@ oldest_ends scene step run go release asks i s kind old unsigned ends owning = l
     (⊎_elim
     (λ waits. let m = waits.0 in let h = waits.1 j (omega arith) in
     let served = oldest_is_served scene step run go release asks j s m kind'
-    (oldest_then scene step run s i old j later mine) now (owning j m later h) h in
+    (oldest_then scene step run s i j later old mine) now (owning j m later h) h in
     let x = served.0 in let after = served.1 in ⊎_elim
     (λ take. let still = waits.1 (suc x) (omega arith) in
     absurd (made_next scene step run (λ w. StandsNot (w.core.queue m) s) x

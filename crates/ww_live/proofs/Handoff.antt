@@ -1,27 +1,27 @@
 -- Whenever somebody waits, some wait ends, if whoever is first in a list asks for its lock.
-use Rattle.std.proofs.Common.{◌≡◌, ◌≢◌, ◌⊎◌, inl, inr, ⊎_elim, ℕ, zero, suc, ◌+◌, ◌-◌, ◌<◌, ◌≤◌, ◌==◌, true, false, List, [], ◌∷◌, length, refl, sym, ap, ◌∙◌, subst, arith, true≢false}
+use Rattle.std.proofs.Common.{◌≡◌, ◌≢◌, ◌⊎◌, inl, inr, ⊎_elim, ℕ, zero, suc, ◌+◌, ◌<◌, ◌≤◌, ◌==◌, true, false, List, [], ◌∷◌, length, refl, sym, ap, ◌∙◌, subst, arith, true≢false}
 use Rattle.std.proofs.lemmas.Bool.{cases_Bool, cases_lt}
 use mathlib.Core.Logic.{dite}
 use native.Mathlib.Decide.{ℕ_discrete}
 use Rattle.ww_queue.specs.declared.entry.Entry.{Entry}
-use Rattle.ww_queue.specs.Queue.{Has, Stands, StandsNot, Once, joined, left}
+use Rattle.ww_queue.specs.Queue.{Has, StandsNot, Once, joined, left}
 use Rattle.ww_queue.proofs.Outcomes.{by_test, same_number}
 use Rattle.ww_queue.proofs.Joins.{joined_new}
 use Rattle.ww_queue.proofs.Rooms.{waiters_fit}
 use Rattle.ww_model.specs.declared.state.Holder.TheVariants.{Nobody, Handed}
-use Rattle.ww_model.specs.declared.event.Event.{Event}
-use Rattle.ww_model.specs.declared.event.Event.TheVariants.{Guard, Join, Take, Ask, Give, Die, Leave}
+use Rattle.ww_model.specs.declared.event.Event.TheVariants.{Guard, Join, Take, Give, Die, Leave}
 use Rattle.ww_model.specs.State.{State, waiter_of, InNoQueue}
 use Rattle.ww_model.specs.Event.{Possible, after, given_to}
 use Rattle.ww_model.specs.Lawful.{IsBase}
 use Rattle.ww_model.specs.Snapshot.{IsFirst}
-use Rattle.ww_model.proofs.Puts.{put_here, put_else, put_cases}
-use Rattle.ww_wakes.specs.Scene.{Scene, Step, performs, leaves_to_sleep, finds_no_sign, finds_no_cancel, wakes, falls_asleep, rises, May, next}
+use Rattle.ww_model.proofs.Puts.{put_here}
+use Rattle.ww_wakes.specs.Scene.{Scene, Step, performs, May, next}
 use Rattle.ww_wakes.specs.Theorem.{IsEndlessRun}
 use Rattle.ww_live.specs.Premises.{WaitersGoOn, HoldersGoOn, FirstsAsk}
 use Rattle.ww_live.specs.Theorem.{EndsWait, EndsSomeWait, WaitsEnd}
-use Rattle.ww_live.proofs.Steps.{entry_next, taken_or_not, locks_next}
-use Rattle.ww_live.proofs.Runs.{holds_at, number_is, Stays, Ended, ended_from, orderly_at, lawful_at, made_next, known_next, may_be, enters, comes_in, goes_out}
+use Rattle.ww_live.proofs.Steps.{entry_next, taken_or_not, locks_next, list_next, asked_next}
+use Rattle.ww_wakes.proofs.Endless.{FoundAt}
+use Rattle.ww_live.proofs.Runs.{number_is, Stays, Ended, ended_from, orderly_at, lawful_at, known_next, may_be, enters, comes_in, goes_out, along, Never, search_to}
 use Rattle.ww_live.proofs.Links.{link_breaks}
 use Rattle.ww_live.proofs.Dues.{due_called, handed_ends, held_free}
 use Rattle.ww_live.proofs.Leaves.{stands_or_not, HasHolder, Leaf, handed, free, holder, link, leaf_of}
@@ -40,33 +40,23 @@ abbrev Stops : State → Step → Type 0
 Stops c x = EndsSomeWait c x ⊎ HandsOver c x
 
 -- which step ends whose wait
-who_takes : (c : State) (t m : ℕ) → EndsSomeWait c (performs (Take t m)) → Stands (c.queue m) t
-who_takes c t m r = ⊎_elim
-    (λ is. let a : r.seat ≡ t = cc in let b : r.lock ≡ m = cc in
-    subst (λ k. Stands (c.queue k) t) b (subst (λ k. Stands (c.queue r.lock) k) a r.stands))
-    (⊎_elim (λ is. absurd (cc)) (λ is. absurd (cc))) r.ends
+one_waiter : (s t n m : ℕ) (x : Step) → EndsWait s n x → EndsWait t m x → (s ≡ t) × (n ≡ m)
+one_waiter s t n m x (inl a) = ⊎_elim (λ b. (cc, cc)) (⊎_elim (λ b. absurd (cc)) (λ b. absurd (cc)))
+one_waiter s t n m x (inr (inl a)) = ⊎_elim (λ b. absurd (cc)) (⊎_elim (λ b. (cc, cc)) (λ b. absurd (cc)))
+one_waiter s t n m x (inr (inr a)) = ⊎_elim (λ b. absurd (cc)) (⊎_elim (λ b. absurd (cc)) (λ b. (cc, cc)))
+
+-- where it is that of somebody who waits there
+by_waiter : (c : State) (t m : ℕ) (x : Step) → EndsWait t m x → Stops c x ⊎ (Stops c x → ⊥)
+by_waiter c t m x ends = ⊎_elim (λ h. inl (inl (record { seat = t; lock = m; stands = h; ends = ends })))
+    (λ none. inr (⊎_elim (λ r. let same = one_waiter r.seat t r.lock m x r.ends ends in let h = r.stands in
+    none h.0 (subst (λ k. Has (c.queue k) h.0) same.1 h.1) (h.2 ∙ same.0))
+    (λ r. let z = r.gives in ⊎_elim (λ is. cc) (⊎_elim (λ is. cc) (λ is. cc)) ends)))
+    (stands_or_not (c.queue m) t)
 
 stops_or_not : (c : State) (x : Step) → Stops c x ⊎ (Stops c x → ⊥)
-stops_or_not c (performs (Take t m)) = ⊎_elim
-    (λ h. inl (inl (record { seat = t; lock = m; stands = h; ends = inl refl })))
-    (λ none. inr (⊎_elim (λ r. let h = who_takes c t m r in none h.0 h.1 h.2) (λ r. let z = r.gives in cc)))
-    (stands_or_not (c.queue m) t)
-stops_or_not c (performs (Die t m)) = ⊎_elim
-    (λ h. inl (inl (record { seat = t; lock = m; stands = h; ends = inr (inl refl) })))
-    (λ none. inr (⊎_elim
-    (λ r. ⊎_elim (λ is. cc) (⊎_elim
-    (λ is. let a : r.seat ≡ t = cc in let b : r.lock ≡ m = cc in let h = r.stands in
-    none h.0 (subst (λ k. Has (c.queue k) h.0) b h.1) (h.2 ∙ a)) (λ is. cc)) r.ends)
-    (λ r. let z = r.gives in cc)))
-    (stands_or_not (c.queue m) t)
-stops_or_not c (performs (Leave t m)) = ⊎_elim
-    (λ h. inl (inl (record { seat = t; lock = m; stands = h; ends = inr (inr refl) })))
-    (λ none. inr (⊎_elim
-    (λ r. ⊎_elim (λ is. cc) (⊎_elim (λ is. cc)
-    (λ is. let a : r.seat ≡ t = cc in let b : r.lock ≡ m = cc in let h = r.stands in
-    none h.0 (subst (λ k. Has (c.queue k) h.0) b h.1) (h.2 ∙ a))) r.ends)
-    (λ r. let z = r.gives in cc)))
-    (stands_or_not (c.queue m) t)
+stops_or_not c (performs (Take t m)) = by_waiter c t m (performs (Take t m)) (inl refl)
+stops_or_not c (performs (Die t m)) = by_waiter c t m (performs (Die t m)) (inr (inl refl))
+stops_or_not c (performs (Leave t m)) = by_waiter c t m (performs (Leave t m)) (inr (inr refl))
 stops_or_not c (performs (Give t m)) = ⊎_elim
     (λ asked. inl (inr (record { seat = t; lock = m; gives = refl; asked = asked })))
     (λ isnt. inr (⊎_elim (λ r. ⊎_elim (λ is. cc) (⊎_elim (λ is. cc) (λ is. cc)) r.ends)
@@ -81,29 +71,17 @@ ends_stops c e n x h ends = inl (record { seat = e.seat; lock = n; stands = (e, 
 -- ---- what stays while nothing stops
 
 -- a lock that was asked for stays so
-asked_after : (c : State) (e : Event) (n : ℕ) → IsBase c → Possible c e → (Stops c (performs e) → ⊥) →
-    c.asked n ≡ true → (after c e).asked n ≡ true
-asked_after c (Take s m) n l can on asked = put_else c.asked m false n
-    (λ is. let t = ((l.owners.at n).asked_taken asked).0 in let own = ap c.owner (sym is) ∙ t.1 in
-    ⊎_elim (λ none. let z : ⊥ = cc in z) (λ other. let z : ⊥ = cc in z) can.base.free) ∙ asked
-asked_after c (Ask s m) n l can on asked = put_cases c.asked m true n (λ b. b ≡ true) (λ _. refl) (λ _. asked)
-asked_after c (Give s m) n l can on asked = put_else c.asked m false n
-    (λ is. on (inr (record { seat = s; lock = m; gives = refl; asked = ap c.asked (sym is) ∙ asked }))) ∙ asked
-asked_after c (Die s m) n l can on asked =
-    absurd (on (inl (record { seat = s; lock = m; stands = can.base.waits; ends = inr (inl refl) })))
-asked_after c (Leave s m) n l can on asked =
-    absurd (on (inl (record { seat = s; lock = m; stands = can.base.waits; ends = inr (inr refl) })))
-asked_after c _ n l can on asked = asked
-
-asked_next : (w : Scene) (x : Step) (n : ℕ) → IsBase w.core → May w x → (Stops w.core x → ⊥) → w.core.asked n ≡ true →
-    (next w x).core.asked n ≡ true
-asked_next w (performs e) n l may on asked = asked_after w.core e n l may.possible on asked
-asked_next w (leaves_to_sleep s m heeds) n l may on asked = asked
-asked_next w (finds_no_sign s) n l may on asked = asked
-asked_next w (finds_no_cancel s) n l may on asked = asked
-asked_next w (wakes s v) n l may on asked = asked
-asked_next w (falls_asleep s) n l may on asked = asked
-asked_next w (rises s) n l may on asked = asked
+asked_on_next : (w : Scene) (x : Step) (n : ℕ) → IsBase w.core → May w x → (Stops w.core x → ⊥) →
+    w.core.asked n ≡ true → (next w x).core.asked n ≡ true
+asked_on_next w x n l may on asked = let own = (l.owners.at n).asked_taken asked in
+    let e = some_there (w.core.queue n) own.1 in
+    asked_next w x n e.0 may own.0
+    (entry_next w x e.0 n (λ ends. on (ends_stops w.core e.0 n x e.1 ends)) e.1) asked
+    (λ s gives. on (inr (record { seat = s; lock = n; gives = gives; asked = asked })))
+  where
+    some_there : (q : List Entry) → q ≢ [] → (e : Entry) × Has q e
+    some_there [] some = absurd (some refl)
+    some_there (e ∷ es) some = (e, inl refl)
 
 -- so does the list, but for who joins it
 abbrev Joins : ℕ → Step → Type 0
@@ -120,32 +98,12 @@ left_absent (e ∷ es) s none = by_test (e.seat == s) es (e ∷ left es s) (λ q
     (λ is. absurd (none e (inl refl) (same_number e.seat s is)))
     (λ _. ap (λ xs. e ∷ xs) (left_absent es s (λ x h. none x (inr h))))
 
-list_after : (c : State) (e : Event) (n : ℕ) → Possible c e → (Stops c (performs e) → ⊥) → (Joins n (performs e) → ⊥) →
-    (after c e).queue n ≡ c.queue n
-list_after c (Join t m) n can on none = put_else c.queue m (joined (c.queue m) (waiter_of c t)) n (λ is. none (
-  t,
-  ap
-      (λ k. performs (Join t k)) (sym is),
-))
-list_after c (Take t m) n can on none = put_cases c.queue m (left (c.queue m) t) n (λ q. q ≡ c.queue n)
-    (λ is. left_absent (c.queue m) t
-    (λ e h own. on (inl (record { seat = t; lock = m; stands = (e, h, own); ends = inl refl }))) ∙ ap c.queue (sym is))
-    (λ _. refl)
-list_after c (Die s m) n can on none =
-    absurd (on (inl (record { seat = s; lock = m; stands = can.base.waits; ends = inr (inl refl) })))
-list_after c (Leave s m) n can on none =
-    absurd (on (inl (record { seat = s; lock = m; stands = can.base.waits; ends = inr (inr refl) })))
-list_after c _ n can on none = refl
-
-list_next : (w : Scene) (x : Step) (n : ℕ) → May w x → (Stops w.core x → ⊥) → (Joins n x → ⊥) →
+list_stays : (w : Scene) (x : Step) (n : ℕ) → (Stops w.core x → ⊥) → (Joins n x → ⊥) →
     (next w x).core.queue n ≡ w.core.queue n
-list_next w (performs e) n may on none = list_after w.core e n may.possible on none
-list_next w (leaves_to_sleep s m heeds) n may on none = refl
-list_next w (finds_no_sign s) n may on none = refl
-list_next w (finds_no_cancel s) n may on none = refl
-list_next w (wakes s v) n may on none = refl
-list_next w (falls_asleep s) n may on none = refl
-list_next w (rises s) n may on none = refl
+list_stays w x n on none = let q = w.core.queue n in list_next (λ p. p ≡ q) w x n refl
+    (λ t joins. absurd (none (t, joins)))
+    (λ t ends. left_absent q t
+    (λ e h own. on (ends_stops w.core e n x h (subst (λ y. EndsWait y n x) (sym own) ends))))
 
 -- who joins a list stood in none, and stands there then
 joins_new : (c : State) → IsBase c → (t n : ℕ) → Possible c (Join t n) → InNoQueue c t
@@ -165,9 +123,8 @@ module _ (scene : ℕ → Scene) (step : ℕ → Step) (run : IsEndlessRun scene
   AllAsked i ls = (a : Entry) → Has ls a → (scene i).core.asked a.seat ≡ true
 
   pub locks_at : (i j : ℕ) → i ≤ j → (scene j).core.locks ≡ (scene i).core.locks
-  locks_at i j later = holds_at (λ k. (scene k).core.locks ≡ (scene i).core.locks) i j later refl
-      (λ k _ _ same. made_next scene step run (λ w. w.core.locks ≡ (scene k).core.locks) k
-      (locks_next (scene k) (step k) (run.may k)) ∙ same)
+  locks_at i j later = along scene step run (λ w. w.core.locks ≡ (scene i).core.locks) i j later refl
+      (λ k _ _ same. locks_next (scene k) (step k) (run.may k) ∙ same)
 
   few_asked : (i : ℕ) (ls : List Entry) → Once ls → AllAsked i ls → length ls ≤ (scene i).core.locks
   few_asked i ls once all = let l = lawful_at scene step run i in waiters_fit (scene i).core.locks ls once
@@ -218,33 +175,23 @@ module _ (scene : ℕ → Scene) (step : ℕ → Step) (run : IsEndlessRun scene
   abbrev Calm : ℕ → ℕ → Type 0
   Calm i j = (k : ℕ) → i ≤ k → k < j → Stops (scene k).core (step k) → ⊥
 
-  quiet : (i gap : ℕ) → Goal i ⊎ Calm i (i + gap)
-  quiet i zero = inr (λ k a b. absurd (omega arith))
-  quiet i (suc gap) = ⊎_elim inl
-      (λ calm. ⊎_elim (λ s. inl (goal_from i (i + gap) (omega arith) (by_stop (i + gap) s)))
-      (λ none. inr (λ k a b. ⊎_elim (λ low. calm k a low)
-      (λ high. let is : i + gap ≡ k = omega arith in subst (λ x. Stops (scene x).core (step x) → ⊥) is none)
-      (cases_lt k (i + gap))))
-      (stops_or_not (scene (i + gap)).core (step (i + gap))))
-      (quiet i gap)
-
   quiet_to : (i j : ℕ) → i ≤ j → Goal i ⊎ Calm i j
-  quiet_to i j later = let gap : i + (j - i) ≡ j = omega arith in subst (λ x. Goal i ⊎ Calm i x) gap (quiet i (j - i))
+  quiet_to i j later = ⊎_elim (λ f. inl (goal_from i f.at f.from (by_stop f.at f.holds))) inr
+      (search_to (λ k. Stops (scene k).core (step k)) (λ k. stops_or_not (scene k).core (step k)) i j later)
 
   calm_to : (i j k : ℕ) → k ≤ j → Calm i j → Calm i k
   calm_to i j k below calm x a b = calm x a (omega arith)
 
   stay : (i j : ℕ) → i ≤ j → Calm i j → (e : Entry) (n : ℕ) → Has ((scene i).core.queue n) e →
       Has ((scene j).core.queue n) e
-  stay i j later calm e n h = holds_at (λ k. Has ((scene k).core.queue n) e) i j later h
-      (λ k from below before. made_next scene step run (λ w. Has (w.core.queue n) e) k
-      (entry_next (scene k) (step k) e n (λ ends. calm k from below
-      (ends_stops (scene k).core e n (step k) before ends)) before))
+  stay i j later calm e n h = along scene step run (λ w. Has (w.core.queue n) e) i j later h
+      (λ k from below before. entry_next (scene k) (step k) e n
+      (λ ends. calm k from below (ends_stops (scene k).core e n (step k) before ends)) before)
 
   asked_on : (i j : ℕ) → i ≤ j → Calm i j → (n : ℕ) → (scene i).core.asked n ≡ true → (scene j).core.asked n ≡ true
-  asked_on i j later calm n asked = holds_at (λ k. (scene k).core.asked n ≡ true) i j later asked
-      (λ k from below before. made_next scene step run (λ w. w.core.asked n ≡ true) k
-      (asked_next (scene k) (step k) n (lawful_at scene step run k).base (run.may k) (calm k from below) before))
+  asked_on i j later calm n asked = along scene step run (λ w. w.core.asked n ≡ true) i j later asked
+      (λ k from below. asked_on_next (scene k) (step k) n (lawful_at scene step run k).base (run.may k)
+      (calm k from below))
 
   wait_on : (i j : ℕ) → i ≤ j → Calm i j → (ws : List Entry) → AllWait scene step run i ws → AllWait scene step run j ws
   wait_on i j later calm ws all e h = let w = all e h in (w.0, stay i j later calm e w.0 w.1)
@@ -300,36 +247,15 @@ module _ (scene : ℕ → Scene) (step : ℕ → Step) (run : IsEndlessRun scene
     more = λ k after. known.more k (omega arith);
   }
 
-  -- somebody joins the list at some time before j
-  record JoinAt (n i j : ℕ) : Type 0 where
-    at : ℕ
-    from : i ≤ at
-    before : at < j
-    seat : ℕ
-    joins : step at ≡ performs (Join seat n)
-
-  join_within : (i gap n : ℕ) → JoinAt n i (i + gap) ⊎ ((k : ℕ) → i ≤ k → k < i + gap → Joins n (step k) → ⊥)
-  join_within i zero n = inr (λ k a b. absurd (omega arith))
-  join_within i (suc gap) n = ⊎_elim
-      (λ j. let a = j.from in let b = j.before in
-      inl (record { at = j.at; from = a; before = omega arith; seat = j.seat; joins = j.joins }))
-      (λ none. ⊎_elim
-      (λ j. inl (record { at = i + gap; from = omega arith; before = omega arith; seat = j.0; joins = j.1 }))
-      (λ not. inr (λ k a b. ⊎_elim (λ low. none k a low)
-      (λ high. let is : i + gap ≡ k = omega arith in subst (λ x. Joins n (step x) → ⊥) is not) (cases_lt k (i + gap))))
-      (joins_or_not n (step (i + gap))))
-      (join_within i gap n)
-
-  join_or_none : (i j n : ℕ) → i ≤ j → JoinAt n i j ⊎ ((k : ℕ) → i ≤ k → k < j → Joins n (step k) → ⊥)
-  join_or_none i j n later = let gap : i + (j - i) ≡ j = omega arith in
-      subst (λ x. JoinAt n i x ⊎ ((k : ℕ) → i ≤ k → k < x → Joins n (step k) → ⊥)) gap (join_within i (j - i) n)
+  -- somebody joins the list at some time before j, or nobody does
+  join_or_none : (i j n : ℕ) → i ≤ j → FoundAt (λ k. Joins n (step k)) i j ⊎ Never (λ k. Joins n (step k)) i j
+  join_or_none i j n later = search_to (λ k. Joins n (step k)) (λ k. joins_or_not n (step k)) i j later
 
   -- while nobody joins the list it stays
   list_on : (i j n : ℕ) → i ≤ j → Calm i j → ((k : ℕ) → i ≤ k → k < j → Joins n (step k) → ⊥) →
       (scene j).core.queue n ≡ (scene i).core.queue n
-  list_on i j n later calm none = holds_at (λ k. (scene k).core.queue n ≡ (scene i).core.queue n) i j later refl
-      (λ k from below same. made_next scene step run (λ w. w.core.queue n ≡ (scene k).core.queue n) k
-      (list_next (scene k) (step k) n (run.may k) (calm k from below) (none k from below)) ∙ same)
+  list_on i j n later calm none = along scene step run (λ w. w.core.queue n ≡ (scene i).core.queue n) i j later refl
+      (λ k from below same. list_stays (scene k) (step k) n (calm k from below) (none k from below) ∙ same)
 
   -- the first waiter has come inside, and found the lock as it is
   looked : (i k : ℕ) (ws ls : List Entry) → Known i ws ls → i ≤ k → (e : Entry) (n : ℕ) →
@@ -342,7 +268,7 @@ module _ (scene : ℕ → Scene) (step : ℕ → Step) (run : IsEndlessRun scene
       (λ z. let j = z.at in let from = z.later in ⊎_elim (λ g. g)
       (λ calm. ⊎_elim
       (λ join. let b = join.before in let a = join.from in
-      by_join i join.at ws ls known a (calm_to i j join.at (omega arith) calm) join.seat n join.joins e n h)
+      by_join i join.at ws ls known a (calm_to i j join.at (omega arith) calm) join.holds.0 n join.holds.1 e n h)
       (λ none. let same = list_on i j n (omega arith) calm none in
       ⊎_elim
       (λ asked. let a : Entry = record { seat = n; stamp = 0; holds = false } in
@@ -410,18 +336,10 @@ module _ (scene : ℕ → Scene) (step : ℕ → Step) (run : IsEndlessRun scene
 
   on : (fuel i : ℕ) (ws ls : List Entry) → Once ws → Once ls → AllWait scene step run i ws →
       AllAsked scene step run i ls →
-      (scene i).core.seats + (scene i).core.locks ≤ length ws + length ls + fuel → (e : Entry) (n : ℕ) →
+      (scene i).core.seats + (scene i).core.locks < length ws + length ls + fuel → (e : Entry) (n : ℕ) →
       Has ((scene i).core.queue n) e → Goal i
-  on zero i ws ls once each wait asked room e n h = by_leaf i ws ls (record {
-    once = once;
-    each = each;
-    wait = wait;
-    asked = asked;
-    more = λ j later ws' ls' once' each' wait' asked' grown x m there.
-        let a = few scene step run j ws' once' wait' in let b = few_asked scene step run j ls' each' asked' in
-        let same = seats_at scene step run i j later in let same' = locks_at scene step run i j later in
-        absurd (omega arith);
-  }) (leaf_of (scene i).core (orderly_at scene step run i).reached (lawful_at scene step run i) e n h)
+  on zero i ws ls once each wait asked room e n h = let a = few scene step run i ws once wait in
+      let b = few_asked scene step run i ls each asked in absurd (omega arith)
   on (suc fuel) i ws ls once each wait asked room e n h = by_leaf i ws ls (record {
     once = once;
     each = each;
@@ -434,6 +352,6 @@ module _ (scene : ℕ → Scene) (step : ℕ → Step) (run : IsEndlessRun scene
 
 pub waits_end : WaitsEnd
 waits_end scene step run go holders asks i s n h =
-    on scene step run go holders asks ((scene i).core.seats + (scene i).core.locks) i [] [] tt tt
+    on scene step run go holders asks (suc ((scene i).core.seats + (scene i).core.locks)) i [] [] tt tt
     (λ e none. absurd none) (λ a none. absurd none)
     (omega arith) h.0 n h.1

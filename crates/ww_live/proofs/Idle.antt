@@ -5,7 +5,8 @@ use Rattle.ww_model.specs.declared.state.Holder.TheVariants.{Taken}
 use Rattle.ww_model.specs.State.{OwnsNone, InNoQueue}
 use Rattle.ww_wakes.specs.Scene.{Scene}
 use Rattle.ww_live.specs.Theorem.{WhoWantsNoneRests}
-use Rattle.ww_live.proofs.Runs.{holds_at, lawful_at}
+use Rattle.ww_wakes.proofs.Endless.{holds_at}
+use Rattle.ww_live.proofs.Runs.{lawful_at}
 use Rattle.ww_live.proofs.Served.{same_context, drawn_on}
 use Rattle.ww_live.proofs.Livelock.{stood_next}
 use Rattle.ww_live.proofs.Contexts.{gained_next}

@@ -20,7 +20,7 @@ use Rattle.ww_wakes.proofs.Keeping.{IsTold}
 use Rattle.ww_live.specs.Premises.{WaiterGoesOn, WaitersGoOn}
 use Rattle.ww_live.specs.Theorem.{EndsWait, WoundedWaitNoMore}
 use Rattle.ww_live.proofs.Steps.{not_found, signed_next, taken_next}
-use Rattle.ww_live.proofs.Runs.{holds_at, phase_is, IsCalled, number_is, Stays, Ended, ended_from, until_at, enters, orderly_at, lawful_at, made_next, known_next, kind_at, seat_comes_in, seat_goes_out}
+use Rattle.ww_live.proofs.Runs.{phase_is, IsCalled, number_is, Stays, Ended, ended_from, until_at, enters, orderly_at, lawful_at, known_next, kind_at, seat_comes_in, seat_goes_out, along}
 
 -- it acts, or was told where it doesn't
 pub called_if : (w : Scene) (s : ℕ) → (w.phase s ≢ acting → IsTold w s) → IsCalled w s
@@ -76,14 +76,9 @@ module _ (scene : ℕ → Scene) (step : ℕ → Step) (run : IsEndlessRun scene
   signed_on : (e : Entry) (n i j : ℕ) → i ≤ j → Stays scene step e n i j → (scene i).core.kind ≡ WoundWait →
       0 < (scene i).core.sign e.seat →
       0 < (scene j).core.sign e.seat
-  signed_on e n i j later stays wounding signed = holds_at (λ k. 0 < (scene k).core.sign e.seat) i j later signed
-      (λ k from below before. made_next scene step run (λ w. 0 < w.core.sign e.seat) k
-      (signed_next (scene k) (step k) e.seat n (run.may k) (kind_at scene step run i k from ∙ wounding) (
-        e,
-        stays.here k from
-            (omega arith),
-        refl,
-      ) before))
+  signed_on e n i j later stays wounding signed = along scene step run (λ w. 0 < w.core.sign e.seat) i j later signed
+      (λ k from below. signed_next (scene k) (step k) e.seat n (run.may k) (kind_at scene step run i k from ∙ wounding)
+      (e, stays.here k from (omega arith), refl))
 
   -- ---- a waiter that is signed in Wound-Wait stops waiting
 
@@ -96,9 +91,8 @@ module _ (scene : ℕ → Scene) (step : ℕ → Step) (run : IsEndlessRun scene
       let still = λ (k : ℕ) (from : i ≤ k) (to : k ≤ j). signed_on e n i k from
       (record { here = λ x a b. z.stays.here x a (omega arith); on = λ x a b. z.stays.on x a (omega arith) }) wounding
       signed in
-      let unfound = holds_at (λ k. (scene k).found_no_sign e.seat ≡ false) i j later none
-      (λ k from below before. made_next scene step run (λ w. w.found_no_sign e.seat ≡ false) k
-      (not_found (scene k) (step k) e.seat (run.may k) (still k from (omega arith)) before)) in
+      let unfound = along scene step run (λ w. w.found_no_sign e.seat ≡ false) i j later none
+      (λ k from below. not_found (scene k) (step k) e.seat (run.may k) (still k from (omega arith))) in
       absurd (true≢false (sym (z.may.unsigned (can_be (scene j).core (lawful_at scene step run j)
       (kind_at scene step run i j later ∙ wounding)
       e n (z.stays.here j later (omega arith)) (still j later (omega arith)))) ∙ unfound)))
@@ -139,13 +133,9 @@ module _ (scene : ℕ → Scene) (step : ℕ → Step) (run : IsEndlessRun scene
 
   taken_on : (f : Entry) (n m i j : ℕ) → i ≤ j → Stays scene step f m i j → (scene i).core.owner n ≡ Taken f.seat →
       (scene j).core.owner n ≡ Taken f.seat
-  taken_on f n m i j later stays own = holds_at (λ k. (scene k).core.owner n ≡ Taken f.seat) i j later own
-      (λ k from below before. made_next scene step run (λ w. w.core.owner n ≡ Taken f.seat) k
-      (taken_next (scene k) (step k) f.seat n m (run.may k) (lawful_at scene step run k).base before (
-        f,
-        stays.here k from (omega arith),
-        refl,
-      )))
+  taken_on f n m i j later stays own = along scene step run (λ w. w.core.owner n ≡ Taken f.seat) i j later own
+      (λ k from below before. taken_next (scene k) (step k) f.seat n m (run.may k) (lawful_at scene step run k).base
+      before (f, stays.here k from (omega arith), refl))
 
   wounds : (i : ℕ) → (scene i).core.kind ≡ WoundWait → (k : Link (scene i).core) →
       WaiterGoesOn scene step k.waiter.seat →

@@ -1,26 +1,25 @@
 -- Nobody waits while others do nothing but die and try again.
-use Rattle.std.proofs.Common.{◌≡◌, ◌≢◌, ◌⊎◌, inl, inr, ⊎_elim, ℕ, zero, suc, ◌+◌, ◌-◌, ◌<◌, ◌≤◌, Bool, true, false, List, [], ◌∷◌, length, refl, sym, ap, ◌∙◌, subst, arith}
+use Rattle.std.proofs.Common.{◌≡◌, ◌≢◌, ◌⊎◌, inl, inr, ⊎_elim, ℕ, zero, suc, ◌+◌, ◌<◌, ◌≤◌, Bool, true, false, List, [], ◌∷◌, length, refl, sym, ap, ◌∙◌, subst, arith}
 use Rattle.std.proofs.lemmas.Bool.{cases_lt}
 use Rattle.ww_queue.specs.declared.entry.Entry.{Entry}
-use Rattle.ww_queue.specs.Queue.{Has, Stands, StandsNot, Once, joined, left}
+use Rattle.ww_queue.specs.Queue.{Has, Stands, StandsNot, Once}
 use Rattle.ww_queue.proofs.Joins.{joined_has}
 use Rattle.ww_queue.proofs.Leaves.{left_has}
 use Rattle.ww_queue.proofs.Rooms.{waiters_fit}
 use Rattle.ww_model.specs.declared.state.Holder.{Holder}
 use Rattle.ww_model.specs.declared.state.Holder.TheVariants.{Nobody, Taken}
-use Rattle.ww_model.specs.declared.event.Event.{Event}
 use Rattle.ww_model.specs.declared.event.Event.TheVariants.{Fast, FastGive, Join, Take, Give, Die, Leave}
-use Rattle.ww_model.specs.State.{State, InNoQueue, waiter_of, dies}
-use Rattle.ww_model.specs.Event.{Possible, after, given_to}
-use Rattle.ww_model.proofs.Puts.{put_here, put_else, put_cases}
+use Rattle.ww_model.specs.State.{InNoQueue, waiter_of, dies}
+use Rattle.ww_model.specs.Event.{given_to}
+use Rattle.ww_model.proofs.Puts.{put_here}
 use Rattle.ww_model.proofs.Options.{some_of}
 use Rattle.ww_model.proofs.Dues.{dies_why}
-use Rattle.ww_wakes.specs.Scene.{Scene, Step, performs, leaves_to_sleep, finds_no_sign, finds_no_cancel, wakes, falls_asleep, rises, May, next}
+use Rattle.ww_wakes.specs.Scene.{Scene, Step, performs, May, next}
 use Rattle.ww_wakes.specs.Theorem.{IsEndlessRun}
 use Rattle.ww_live.specs.Premises.{WaitersGoOn, HoldersGoOn, BacksOff}
 use Rattle.ww_live.specs.Theorem.{EndsWait, TakesOrIsCalledOff, NoLivelock}
-use Rattle.ww_live.proofs.Steps.{ends_or_not, entry_next}
-use Rattle.ww_live.proofs.Runs.{holds_at, changes, orderly_at, lawful_at, made_next, known_next, may_be, release_between}
+use Rattle.ww_live.proofs.Steps.{ends_or_not, entry_next, list_next, taken_or_free}
+use Rattle.ww_live.proofs.Runs.{changes, orderly_at, lawful_at, made_next, known_next, may_be, release_between, along, search_to}
 use Rattle.ww_live.proofs.Dues.{handed_takes, free_taken}
 use Rattle.ww_live.proofs.Leaves.{waits_or_not}
 use Rattle.ww_live.proofs.Progress.{GivenTo, to_first, to_none, given, somebody_goes_on}
@@ -36,79 +35,19 @@ takes_or_not (performs (Leave t m)) = inl (t, m, inr (inr refl))
 takes_or_not _ = inr (λ r. ⊎_elim (λ is. cc) (⊎_elim (λ is. cc) (λ is. cc)) r.2)
 
 -- a free lock stays free while nobody takes one
-free_after : (c : State) (v : Event) (k : ℕ) → Possible c v → (TakesOrIsCalledOff (performs v) → ⊥) →
-    c.owner k ≡ Nobody →
-    (after c v).owner k ≡ Nobody
-free_after c (Fast t m) k can on free = absurd (on (t, m, inl refl))
-free_after c (Take t m) k can on free = absurd (on (t, m, inr (inl refl)))
-free_after c (FastGive t m) k can on free = put_cases c.owner m Nobody k (λ o. o ≡ Nobody) (λ _. refl) (λ _. free)
-free_after c (Give t m) k can on free = put_else c.owner m (given_to (c.asked m) (c.queue m)) k
-    (λ is. let z = ap c.owner is in let y = can.base.owns in cc) ∙ free
-free_after c _ k can on free = free
-
 free_next : (w : Scene) (x : Step) (k : ℕ) → May w x → (TakesOrIsCalledOff x → ⊥) → w.core.owner k ≡ Nobody →
     (next w x).core.owner k ≡ Nobody
-free_next w (performs v) k may on free = free_after w.core v k may.possible on free
-free_next w (leaves_to_sleep s m heeds) k may on free = free
-free_next w (finds_no_sign s) k may on free = free
-free_next w (finds_no_cancel s) k may on free = free
-free_next w (wakes s v) k may on free = free
-free_next w (falls_asleep s) k may on free = free
-free_next w (rises s) k may on free = free
+free_next w x k may on free = ⊎_elim (λ taken. absurd (on (taken.0, k, ⊎_elim inl (λ take. inr (inl take)) taken.1)))
+    (λ still. still) (taken_or_free w x k may free)
 
 -- who stands in a list after a step joined it by it, or stood there
-stood_after : (c : State) (v : Event) (t m : ℕ) → Stands ((after c v).queue m) t → Stands (c.queue m) t ⊎ (v ≡ Join t m)
-stood_after c (Join u k) t m h = put_cases c.queue k (joined (c.queue k) (waiter_of c u)) m (λ q. Stands q t →
-    Stands (c.queue m) t ⊎ (Join u k ≡ Join t m))
-    (λ is a. ⊎_elim (λ new. let own : u ≡ t = (sym (ap (λ (y : Entry). y.seat) new) ∙ a.2) in inr (cc))
-    (λ old. inl (a.0, subst (λ y. Has (c.queue y) a.0) (sym is) old, a.2))
-    (joined_has (c.queue k) (waiter_of c u) a.0 a.1))
-    (λ _. inl) h
-stood_after c (Take u k) t m h = inl (put_cases c.queue k (left (c.queue k) u) m (λ q. Stands q t →
-    Stands (c.queue m) t)
-    (λ is a. (a.0, subst (λ y. Has (c.queue y) a.0) (sym is) (left_has (c.queue k) u a.0 a.1), a.2)) (λ _ a. a) h)
-stood_after c (Die u k) t m h = inl (put_cases c.queue k (left (c.queue k) u) m (λ q. Stands q t → Stands (c.queue m) t)
-    (λ is a. (a.0, subst (λ y. Has (c.queue y) a.0) (sym is) (left_has (c.queue k) u a.0 a.1), a.2)) (λ _ a. a) h)
-stood_after c (Leave u k) t m h = inl (put_cases c.queue k (left (c.queue k) u) m (λ q. Stands q t →
-    Stands (c.queue m) t)
-    (λ is a. (a.0, subst (λ y. Has (c.queue y) a.0) (sym is) (left_has (c.queue k) u a.0 a.1), a.2)) (λ _ a. a) h)
-stood_after c _ t m h = inl h
-
 pub stood_next : (w : Scene) (x : Step) (t m : ℕ) → Stands ((next w x).core.queue m) t →
     Stands (w.core.queue m) t ⊎ (x ≡ performs (Join t m))
-stood_next w (performs v) t m h = ⊎_elim inl (λ is. inr (ap performs is)) (stood_after w.core v t m h)
-stood_next w (leaves_to_sleep s k heeds) t m h = inl h
-stood_next w (finds_no_sign s) t m h = inl h
-stood_next w (finds_no_cancel s) t m h = inl h
-stood_next w (wakes s v) t m h = inl h
-stood_next w (falls_asleep s) t m h = inl h
-stood_next w (rises s) t m h = inl h
-
--- ---- a search
-
-pub record FoundAt (P : ℕ → Type 0) (i j : ℕ) : Type 0 where
-  pub at : ℕ
-  pub from : i ≤ at
-  pub before : at < j
-  pub holds : P at
-
-search_within : (P : ℕ → Type 0) → ((k : ℕ) → P k ⊎ (P k → ⊥)) → (i gap : ℕ) →
-    FoundAt P i (i + gap) ⊎ ((k : ℕ) → i ≤ k → k < i + gap → P k → ⊥)
-search_within P dec i zero = inr (λ k a b. absurd (omega arith))
-search_within P dec i (suc gap) = ⊎_elim
-    (λ f. let a = f.from in let b = f.before in
-    inl (record { at = f.at; from = a; before = omega arith; holds = f.holds }))
-    (λ none. ⊎_elim
-    (λ here. inl (record { at = i + gap; from = omega arith; before = omega arith; holds = here }))
-    (λ not. inr (λ k a b. ⊎_elim (λ low. none k a low)
-    (λ high. let is : i + gap ≡ k = omega arith in subst (λ x. P x → ⊥) is not) (cases_lt k (i + gap))))
-    (dec (i + gap)))
-    (search_within P dec i gap)
-
-pub search_to : (P : ℕ → Type 0) → ((k : ℕ) → P k ⊎ (P k → ⊥)) → (i j : ℕ) → i ≤ j →
-    FoundAt P i j ⊎ ((k : ℕ) → i ≤ k → k < j → P k → ⊥)
-search_to P dec i j later = let gap : i + (j - i) ≡ j = omega arith in
-    subst (λ x. FoundAt P i x ⊎ ((k : ℕ) → i ≤ k → k < x → P k → ⊥)) gap (search_within P dec i (j - i))
+stood_next w x t m = let q = w.core.queue m in
+    list_next (λ p. Stands p t → Stands q t ⊎ (x ≡ performs (Join t m))) w x m inl
+    (λ u joins h. ⊎_elim (λ new. inr (joins ∙ ap (λ s. performs (Join s m)) (sym (ap (λ (y : Entry). y.seat) new) ∙ h.2)))
+    (λ old. inl (h.0, old, h.2)) (joined_has q (waiter_of w.core u) h.0 h.1))
+    (λ u _ h. inl (h.0, left_has q u h.0 h.1, h.2))
 
 -- ---- who dies stands in no list
 
@@ -233,14 +172,12 @@ module _ (scene : ℕ → Scene) (step : ℕ → Step) (run : IsEndlessRun scene
   Calm i j = (k : ℕ) → i ≤ k → k < j → Stop k → ⊥
 
   free_on : (i j k : ℕ) → i ≤ j → Calm i j → (scene i).core.owner k ≡ Nobody → (scene j).core.owner k ≡ Nobody
-  free_on i j k later calm own = holds_at (λ x. (scene x).core.owner k ≡ Nobody) i j later own
-      (λ x a b free. made_next scene step run (λ w. w.core.owner k ≡ Nobody) x
-      (free_next (scene x) (step x) k (run.may x) (λ takes. calm x a b (inr takes)) free))
+  free_on i j k later calm own = along scene step run (λ w. w.core.owner k ≡ Nobody) i j later own
+      (λ x a b. free_next (scene x) (step x) k (run.may x) (λ takes. calm x a b (inr takes)))
 
   stay : (i j : ℕ) → i ≤ j → Calm i j → Has ((scene i).core.queue n) e → Has ((scene j).core.queue n) e
-  stay i j later calm h = holds_at (λ x. Has ((scene x).core.queue n) e) i j later h
-      (λ x a b there. made_next scene step run (λ w. Has (w.core.queue n) e) x
-      (entry_next (scene x) (step x) e n (λ ends. calm x a b (inl ends)) there))
+  stay i j later calm h = along scene step run (λ w. Has (w.core.queue n) e) i j later h
+      (λ x a b. entry_next (scene x) (step x) e n (λ ends. calm x a b (inl ends)))
 
   -- a lock that somebody had is free at a later time
   freed : (i j y t k : ℕ) (ls : List Entry) → Once ls → AllFree i ls → Has ((scene i).core.queue n) e → i ≤ j → j ≤ y →
@@ -281,17 +218,9 @@ module _ (scene : ℕ → Scene) (step : ℕ → Step) (run : IsEndlessRun scene
       (λ f. let y = f.0 in let after = f.1 in freed i j y t k ls once all h later after has f.2 (next y (omega arith)))
       (dead j t m k die has)
 
-  on : (fuel i : ℕ) (ls : List Entry) → Once ls → AllFree i ls → (scene i).core.locks ≤ length ls + fuel →
+  on : (fuel i : ℕ) (ls : List Entry) → Once ls → AllFree i ls → (scene i).core.locks < length ls + fuel →
       Has ((scene i).core.queue n) e → Goal i
-  on zero i ls once all room h = let g = somebody_goes_on scene step run go holders i e.seat n (e, h, refl) in
-      let j = g.0 in
-      let later = g.1 in ⊎_elim
-      (λ take. (j, later, inr (g.2.0, take.0, inr (inl take.1))))
-      (λ up. ⊎_elim
-      (λ die. died i j g.2.0 up.0 ls once all h later die (λ y after ls' once' all' grown there.
-      let a = few_free y ls' once' all' in let same = locks_at scene step run i y after in absurd (omega arith)))
-      (λ leave. (j, later, inr (g.2.0, up.0, inr (inr leave)))) up.1)
-      g.2.1
+  on zero i ls once all room h = let full = few_free i ls once all in absurd (omega arith)
   on (suc fuel) i ls once all room h = let g = somebody_goes_on scene step run go holders i e.seat n (e, h, refl) in
       let j = g.0 in let later = g.1 in ⊎_elim
       (λ take. (j, later, inr (g.2.0, take.0, inr (inl take.1))))
@@ -303,7 +232,7 @@ module _ (scene : ℕ → Scene) (step : ℕ → Step) (run : IsEndlessRun scene
 
   pub ends_or_taken : (i : ℕ) → Has ((scene i).core.queue n) e → Goal i
   unfolding AllFree
-  ends_or_taken i h = on (scene i).core.locks i [] tt (λ a none. absurd none) (omega arith) h
+  ends_or_taken i h = on (suc (scene i).core.locks) i [] tt (λ a none. absurd none) (omega arith) h
 
 pub no_livelock : NoLivelock
 no_livelock scene step run go holders backs i s n h = let g =

@@ -15,27 +15,35 @@ use Rattle.ww_wakes.specs.Scene.{Scene, Step, performs}
 use Rattle.ww_wakes.specs.Theorem.{IsEndlessRun}
 use Rattle.ww_live.specs.Premises.{WaitersGoOn, HoldersRelease, WaitsForEver, IsOldestActive, FirstsAsk}
 use Rattle.ww_live.specs.Theorem.{OldestIsServed}
-use Rattle.ww_live.proofs.Runs.{holds_at, Stays, Ended, stays_less, ended_from, until_at, lawful_at, kind_at, made_next, may_be}
+use Rattle.ww_live.proofs.Runs.{Stays, Ended, stays_less, ended_from, until_at, lawful_at, kind_at, may_be, along}
 use Rattle.ww_live.proofs.Links.{Link, link_breaks}
 use Rattle.ww_live.proofs.Rests.{unsigned_next, rests_on, rests_stands_not, is_up}
 use Rattle.ww_live.proofs.Served.{same_context, never_ends, wait_ends}
 
 -- ---- along a run
 
+module _ (scene : ℕ → Scene) (step : ℕ → Step) (run : IsEndlessRun scene step) where
+  -- it is so as long as its context goes on
+  pub oldest_then : (s i j : ℕ) → i ≤ j → IsOldestActive scene step s i →
+      (scene j).core.stamp s ≡ (scene i).core.stamp s → IsOldestActive scene step s j
+  oldest_then s i j later old mine = let some = old.context in
+      let bound = (lawful_at scene step run i).base.stamps.below s in record {
+        context = omega arith;
+        older = λ t there less.
+            let same = same_context scene step run i j t ((scene i).core.stamp s) later (omega arith) there
+            (omega arith) in
+            rests_on scene step t i j later same (old.older t (omega arith) (omega arith));
+      }
+
 module _ (scene : ℕ → Scene) (step : ℕ → Step) (run : IsEndlessRun scene step) (go : WaitersGoOn scene step)
     (e : Entry) (n : ℕ) where
   -- who waits stays so
   pub oldest_on : (k j : ℕ) → k ≤ j → Stays scene step e n k j → IsOldestActive scene step e.seat k →
       IsOldestActive scene step e.seat j
-  oldest_on k j later stays old = let l = (lawful_at scene step run k).base in
-      let then = ((lawful_at scene step run j).base.queues.at n).stamps e (stays.here j later (omega arith)) in
-      let now = (l.queues.at n).stamps e (stays.here k (omega arith) later) in
-      let bound = l.stamps.below e.seat in let some = old.context in record {
-        context = omega arith;
-        older = λ t there less.
-            let same = same_context scene step run k j t e.stamp later (omega arith) there (omega arith) in
-            rests_on scene step t k j later same (old.older t (omega arith) (omega arith));
-      }
+  oldest_on k j later stays old = let stamp = λ (x : ℕ) (from : k ≤ x) (to : x ≤ j).
+      ((lawful_at scene step run x).base.queues.at n).stamps e (stays.here x from to) in
+      oldest_then scene step run e.seat k j later old
+      (sym (stamp j later (omega arith)) ∙ stamp k (omega arith) later)
 
   -- an owner that waited for ever would be wounded, and wait no more
   no_wait : (k t : ℕ) → (scene k).core.kind ≡ WoundWait → Has ((scene k).core.queue n) e → e.holds ≡ true →
@@ -90,11 +98,9 @@ module _ (scene : ℕ → Scene) (step : ℕ → Step) (run : IsEndlessRun scene
   -- it is never signed
   unsigned_on : (k j : ℕ) → k ≤ j → Stays scene step e n k j → IsOldestActive scene step e.seat k →
       (scene k).core.sign e.seat ≡ 0 → (scene j).core.sign e.seat ≡ 0
-  unsigned_on k j later stays old none = holds_at (λ x. (scene x).core.sign e.seat ≡ 0) k j later none
-      (λ x from below unsigned. made_next scene step run (λ w. w.core.sign e.seat ≡ 0) x
-      (unsigned_next (scene x) (step x) e.seat (run.may x) (lawful_at scene step run x).base
-      (is_up scene step e.seat x
-      (oldest_on k x from (stays_less scene step e n k x j (omega arith) stays) old)) unsigned))
+  unsigned_on k j later stays old none = along scene step run (λ w. w.core.sign e.seat ≡ 0) k j later none
+      (λ x from below. unsigned_next (scene x) (step x) e.seat (run.may x) (lawful_at scene step run x).base
+      (is_up scene step e.seat x (oldest_on k x from (stays_less scene step e n k x j (omega arith) stays) old)))
 
 pub oldest_is_served : OldestIsServed
 oldest_is_served scene step run go release asks i s n kind old unsigned owns h = let e = h.0 in

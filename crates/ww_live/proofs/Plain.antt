@@ -8,10 +8,10 @@ use Rattle.ww_queue.specs.Queue.{Has, Stands, StandsNot}
 use Rattle.ww_queue.proofs.Outcomes.{both_true, same_number}
 use Rattle.ww_model.specs.declared.state.Holder.TheVariants.{Taken}
 use Rattle.ww_model.specs.declared.event.Event.{Event}
-use Rattle.ww_model.specs.declared.event.Event.TheVariants.{Begin, Fast, Join, Take, Die, Leave, Unguard, End}
+use Rattle.ww_model.specs.declared.event.Event.TheVariants.{Begin, Fast, Join, Take, Die, Unguard, End}
 use Rattle.ww_model.specs.State.{State, put, is_taken_by, OwnsSome}
-use Rattle.ww_model.specs.Event.{Possible, actor, after}
-use Rattle.ww_model.specs.Lawful.{IsBase, IsLawful}
+use Rattle.ww_model.specs.Event.{actor, after}
+use Rattle.ww_model.specs.Lawful.{IsLawful}
 use Rattle.ww_model.specs.Run.{Reached}
 use Rattle.ww_model.proofs.Outcomes.{or_true, taken_true}
 use Rattle.ww_model.proofs.Beyond.{queues_beyond}
@@ -23,8 +23,8 @@ use Rattle.ww_wakes.specs.Scene.{Phase, acting, going_to_sleep, asleep, Scene, S
 use Rattle.ww_wakes.specs.Theorem.{IsEndlessRun}
 use Rattle.ww_wakes.proofs.Woken.{owing_more, debt_else}
 use Rattle.ww_wakes.proofs.Keeping.{reached_is_orderly}
-use Rattle.ww_live.specs.Premises.{WaitersGoOn, HoldersGoOn, HoldersRelease, RestsOn, IsOver, ContextsEnd, WaitsOwning, FirstsAsk, Wants, BacksOff, TakesContendedFirst, ContextsEndOrDie}
-use Rattle.ww_live.proofs.Steps.{entry_after, taken_or_not}
+use Rattle.ww_live.specs.Premises.{WaitersGoOn, HoldersGoOn, HoldersRelease, RestsOn, IsOver, ContextsEnd, WaitsOwning, FirstsAsk, Wants, BacksOff, TakesContendedFirst, ContextsEndOrDie, InTheEnd}
+use Rattle.ww_live.proofs.Steps.{taken_or_not, entry_next, ends_inside}
 use Rattle.ww_live.proofs.Runs.{phase_is, number_is}
 use Rattle.ww_live.proofs.Leaves.{stands_or_not, waits_or_not}
 
@@ -191,6 +191,10 @@ abbrev pub with_first : {A : Type 0} → A → (ℕ → A) → ℕ → A
 with_first a f zero = a
 with_first a f (suc i) = f i
 
+-- what comes later in the rest comes later with the step in front
+later_first : (P : ℕ → Type 0) (k i : ℕ) → k ≤ suc i → InTheEnd i (λ j. P (suc j)) → InTheEnd k P
+later_first P k i from later = let a = later.1 in (suc later.0, omega arith, later.2)
+
 -- a debt is paid, or stays
 debt_next : (w : Scene) (x : Step) (s v : ℕ) → w.owes s v ≡ true → (x ≡ wakes s v) ⊎ ((next w x).owes s v ≡ true)
 debt_next w (performs e) s v owed = inr (owing_more w.owes (actor e) (woken_by w.core e) s v owed)
@@ -199,56 +203,34 @@ debt_next w (wakes t u) s v owed = dite (ℕ_discrete v u)
     (λ isnt. inr (put_cases w.owes t (put (w.owes t) u false) s (λ f. f v ≡ true) (λ same. absurd (isnt same))
     (λ _. owed))))
     (λ isnt. inr (debt_else w.owes t u false s v isnt owed))
-debt_next w (leaves_to_sleep t n heeds) s v owed = inr owed
-debt_next w (finds_no_sign t) s v owed = inr owed
-debt_next w (finds_no_cancel t) s v owed = inr owed
-debt_next w (falls_asleep t) s v owed = inr owed
-debt_next w (rises t) s v owed = inr owed
+debt_next w _ s v owed = inr owed
 
 -- a sleeper with a token rises, or goes on so
 token_next : (w : Scene) (x : Step) (s : ℕ) → May w x → w.token s ≡ true → w.phase s ≡ asleep →
     (x ≡ rises s) ⊎ (((next w x).token s ≡ true) × ((next w x).phase s ≡ asleep))
-token_next w (performs e) s may token sleeps = inr (token, sleeps)
 token_next w (leaves_to_sleep t n heeds) s may token sleeps = inr (
   token,
   put_else w.phase t going_to_sleep s
       (λ is. let a = ap w.phase is in let b = may.acts in let z : ⊥ = cc in z) ∙ sleeps,
 )
-token_next w (finds_no_sign t) s may token sleeps = inr (token, sleeps)
-token_next w (finds_no_cancel t) s may token sleeps = inr (token, sleeps)
 token_next w (wakes t u) s may token sleeps =
     inr (put_cases w.token u true s (λ b. b ≡ true) (λ _. refl) (λ _. token), sleeps)
 token_next w (falls_asleep t) s may token sleeps =
     inr (token, put_cases w.phase t asleep s (λ p. p ≡ asleep) (λ _. refl) (λ _. sleeps))
 token_next w (rises t) s may token sleeps = dite (ℕ_discrete s t) (λ is. inl (ap rises (sym is)))
     (λ isnt. inr (put_else w.token t false s isnt ∙ token, put_else w.phase t acting s isnt ∙ sleeps))
-
--- nobody outside of the guard leaves the list
-outside_stays : (c : State) (e : Event) (x : Entry) (n : ℕ) → IsBase c → Possible c e → c.guard n ≢ suc x.seat →
-    Has (c.queue n) x → Has ((after c e).queue n) x
-outside_stays c (Take t m) x n l can out h = entry_after c (Take t m) x n
-    (⊎_elim (λ is. out (let z = can.base.inside.guard in let a : t ≡ x.seat = cc in let b : m ≡ n = cc in
-    ap c.guard (sym b) ∙ z ∙ ap suc a))
-    (⊎_elim (λ is. absurd (cc)) (λ is. absurd (cc)))) h
-outside_stays c (Die t m) x n l can out h = entry_after c (Die t m) x n
-    (⊎_elim (λ is. absurd (cc)) (⊎_elim
-    (λ is. out (let z = can.base.inside.guard in let a : t ≡ x.seat = cc in let b : m ≡ n = cc in
-    ap c.guard (sym b) ∙ z ∙ ap suc a))
-    (λ is. absurd (cc)))) h
-outside_stays c (Leave t m) x n l can out h = entry_after c (Leave t m) x n
-    (⊎_elim (λ is. absurd (cc)) (⊎_elim (λ is. absurd (cc))
-    (λ is. out (let z = can.base.inside.guard in let a : t ≡ x.seat = cc in let b : m ≡ n = cc in
-    ap c.guard (sym b) ∙ z ∙ ap suc a)))) h
-outside_stays c (Join t m) x n l can out h = entry_after c (Join t m) x n
-    (⊎_elim (λ is. absurd (cc)) (⊎_elim (λ is. absurd (cc)) (λ is. absurd (cc)))) h
-outside_stays c _ x n l can out h = h
+token_next w _ s may token sleeps = inr (token, sleeps)
 
 -- a waiter that acts outside the guard goes on so, or goes inside
 looks_next : (w : Scene) (x : Step) (s n : ℕ) → May w x → IsLawful w.core → Stands (w.core.queue n) s →
     w.phase s ≡ acting →
     w.core.guard n ≢ suc s → Stands ((next w x).core.queue n) s × ((next w x).phase s ≡ acting)
 looks_next w (performs e) s n may l h acts out = (
-  (h.0, outside_stays w.core e h.0 n l.base may.possible (λ is. out (is ∙ ap suc h.2)) h.1, h.2),
+  (
+    h.0,
+    entry_next w (performs e) h.0 n (λ ends. out (ends_inside w (performs e) h.0.seat n may ends ∙ ap suc h.2)) h.1,
+    h.2,
+  ),
   acts,
 )
 looks_next w (leaves_to_sleep t m heeds) s n may l h acts out = (
@@ -257,9 +239,6 @@ looks_next w (leaves_to_sleep t m heeds) s n may l h acts out = (
       (λ is. let k = may.waits in let at : n ≡ m = l.base.queues.one_queue n m h.0 k.0 h.1 k.1 (h.2 ∙ is ∙ sym k.2) in
       out (ap w.core.guard at ∙ may.possible.base.inside.guard ∙ ap suc (sym is))) ∙ acts,
 )
-looks_next w (finds_no_sign t) s n may l h acts out = (h, acts)
-looks_next w (finds_no_cancel t) s n may l h acts out = (h, acts)
-looks_next w (wakes t u) s n may l h acts out = (h, acts)
 looks_next w (falls_asleep t) s n may l h acts out = (
   h,
   put_else w.phase t asleep s
@@ -269,6 +248,7 @@ looks_next w (rises t) s n may l h acts out = (
   h,
   put_cases w.phase t acting s (λ p. p ≡ acting) (λ _. refl) (λ _. acts),
 )
+looks_next w _ s n may l h acts out = (h, acts)
 
 stamp_after : (c : State) (e : Event) (t : ℕ) → 0 < c.stamp t →
     (performs e ≡ performs (End t)) ⊎ (0 < (after c e).stamp t)
@@ -301,29 +281,24 @@ module _ (w : Scene) (x : Step) (reached : IsReached w) (plain : is_plain w x �
   made_first : (i s v : ℕ) → (with_first w scene i).owes s v ≡ true →
       (j : ℕ) × (i ≤ j) × (with_first x step j ≡ wakes s v)
   made_first zero s v owed = ⊎_elim (λ is. (0, omega arith, is))
-      (λ still. let later = (g.go v).scheduled.made 0 s (at_first (λ y. y.owes s v ≡ true) still) in
-      (suc later.0, omega arith, later.2))
+      (λ still. later_first _ 0 0 (omega arith) ((g.go v).scheduled.made 0 s (at_first (λ y. y.owes s v ≡ true) still)))
       (debt_next w x s v owed)
-  made_first (suc i) s v owed = let later = (g.go v).scheduled.made i s owed in let a = later.1 in
-      (suc later.0, omega arith, later.2)
+  made_first (suc i) s v owed = later_first _ (suc i) i (omega arith) ((g.go v).scheduled.made i s owed)
 
   heard_first : (i s : ℕ) → (with_first w scene i).token s ≡ true → (with_first w scene i).phase s ≡ asleep →
       (j : ℕ) × (i ≤ j) × (with_first x step j ≡ rises s)
   heard_first zero s token sleeps = ⊎_elim (λ is. (0, omega arith, is))
-      (λ still. let later = (g.go s).scheduled.heard 0 (at_first (λ y. y.token s ≡ true) still.0)
-      (at_first (λ y. y.phase s ≡ asleep) still.1) in
-      (suc later.0, omega arith, later.2))
+      (λ still. later_first _ 0 0 (omega arith) ((g.go s).scheduled.heard 0 (at_first (λ y. y.token s ≡ true) still.0)
+      (at_first (λ y. y.phase s ≡ asleep) still.1)))
       (token_next w x s may_first token sleeps)
-  heard_first (suc i) s token sleeps = let later = (g.go s).scheduled.heard i token sleeps in let a = later.1 in
-      (suc later.0, omega arith, later.2)
+  heard_first (suc i) s token sleeps = later_first _ (suc i) i (omega arith) ((g.go s).scheduled.heard i token sleeps)
 
   settled_first : (i s : ℕ) → (with_first w scene i).phase s ≡ going_to_sleep →
       (j : ℕ) × (i ≤ j) × ((with_first w scene j).phase s ≢ going_to_sleep)
   settled_first zero s goes = ⊎_elim (λ acts. (1, omega arith, λ z. let y : ⊥ = cc in y)) (⊎_elim
-      (λ still. let later = (g.go s).scheduled.settled 0 still in (suc later.0, omega arith, later.2))
+      (λ still. later_first _ 0 0 (omega arith) ((g.go s).scheduled.settled 0 still))
       (λ sleeps. (1, omega arith, λ z. let y : ⊥ = cc in y))) (phase_is ((scene 0).phase s))
-  settled_first (suc i) s goes = let later = (g.go s).scheduled.settled i goes in let a = later.1 in
-      (suc later.0, omega arith, later.2)
+  settled_first (suc i) s goes = later_first _ (suc i) i (omega arith) ((g.go s).scheduled.settled i goes)
 
   leaves_first : (i s n : ℕ) → Stands ((with_first w scene i).core.queue n) s →
       (with_first w scene i).core.guard n ≡ suc s →
@@ -331,23 +306,20 @@ module _ (w : Scene) (x : Step) (reached : IsReached w) (plain : is_plain w x �
       StandsNot ((with_first w scene j).core.queue n) s)
   leaves_first zero s n h inside = ⊎_elim
       (λ still. ⊎_elim
-      (λ there. let later = (g.go s).scheduled.leaves 0 n there still in (suc later.0, omega arith, later.2))
+      (λ there. later_first _ 0 0 (omega arith) ((g.go s).scheduled.leaves 0 n there still))
       (λ none. (1, omega arith, inr none))
       (stands_or_not ((scene 0).core.queue n) s))
       (λ out. (1, omega arith, inl out)) (number_is ((scene 0).core.guard n) (suc s))
-  leaves_first (suc i) s n h inside = let later = (g.go s).scheduled.leaves i n h inside in let a = later.1 in
-      (suc later.0, omega arith, later.2)
+  leaves_first (suc i) s n h inside = later_first _ (suc i) i (omega arith) ((g.go s).scheduled.leaves i n h inside)
 
   looks_first : (i s n : ℕ) → Stands ((with_first w scene i).core.queue n) s → (with_first w scene i).phase s ≡ acting →
       (j : ℕ) × (i ≤ j) × ((with_first w scene j).core.guard n ≡ suc s)
   looks_first zero s n h acts = ⊎_elim (λ inside. (0, omega arith, inside))
       (λ out. let still = looks_next w x s n may_first
       (reached_is_lawful w.core (reached_is_orderly w reached).reached) h acts out in
-      let later = (g.go s).scheduled.looks 0 n (at_first (λ y. Stands (y.core.queue n) s) still.0)
-      (at_first (λ y. y.phase s ≡ acting) still.1) in
-      (suc later.0, omega arith, later.2)) (number_is (w.core.guard n) (suc s))
-  looks_first (suc i) s n h acts = let later = (g.go s).scheduled.looks i n h acts in let a = later.1 in
-      (suc later.0, omega arith, later.2)
+      later_first _ 0 0 (omega arith) ((g.go s).scheduled.looks 0 n (at_first (λ y. Stands (y.core.queue n) s) still.0)
+      (at_first (λ y. y.phase s ≡ acting) still.1))) (number_is (w.core.guard n) (suc s))
+  looks_first (suc i) s n h acts = later_first _ (suc i) i (omega arith) ((g.go s).scheduled.looks i n h acts)
 
   sleeps_first : (i s n : ℕ) → with_first x step i ≡ performs (Unguard s n) →
       StandsNot ((with_first w scene i).core.queue n) s
@@ -358,11 +330,10 @@ module _ (w : Scene) (x : Step) (reached : IsReached w) (plain : is_plain w x �
   holders_first zero s n own idle = ⊎_elim
       (λ still. ⊎_elim
       (λ waits. (1, omega arith, inr waits))
-      (λ none. let later = g.holders 0 s n still none in (suc later.0, omega arith, later.2))
+      (λ none. later_first _ 0 0 (omega arith) (g.holders 0 s n still none))
       (waits_or_not (scene 0).core (reached_is_orderly (scene 0) g.run.begins).reached s))
       (λ gone. (1, omega arith, inl gone)) (taken_or_not ((scene 0).core.owner n) s)
-  holders_first (suc i) s n own idle = let later = g.holders i s n own idle in let a = later.1 in
-      (suc later.0, omega arith, later.2)
+  holders_first (suc i) s n own idle = later_first _ (suc i) i (omega arith) (g.holders i s n own idle)
 
   shifted : (j s m : ℕ) → ((k : ℕ) → j ≤ k → Stands ((scene k).core.queue m) s) →
       (k : ℕ) → suc j ≤ k → Stands ((with_first w scene k).core.queue m) s
@@ -392,12 +363,7 @@ module _ (w : Scene) (x : Step) (reached : IsReached w) (plain : is_plain w x �
   -- a context goes on, or ends
   stamp_next : (x : Step) (s : ℕ) → 0 < w.core.stamp s → (x ≡ performs (End s)) ⊎ (0 < (next w x).core.stamp s)
   stamp_next (performs e) s some = stamp_after w.core e s some
-  stamp_next (leaves_to_sleep t n heeds) s some = inr some
-  stamp_next (finds_no_sign t) s some = inr some
-  stamp_next (finds_no_cancel t) s some = inr some
-  stamp_next (wakes t v) s some = inr some
-  stamp_next (falls_asleep t) s some = inr some
-  stamp_next (rises t) s some = inr some
+  stamp_next _ s some = inr some
 
   rests_first : (s j : ℕ) → RestsOn scene step s j → RestsOn (with_first w scene) (with_first x step) s (suc j)
   rests_first s j rests zero after = absurd (omega arith)

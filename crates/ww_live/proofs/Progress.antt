@@ -1,6 +1,5 @@
 -- Whenever somebody waits, somebody takes a lock or gives up.
-use Rattle.std.proofs.Common.{◌≡◌, ◌≢◌, ◌⊎◌, inl, inr, ⊎_elim, ℕ, zero, suc, ◌+◌, ◌-◌, ◌<◌, ◌≤◌, Bool, true, false, List, [], ◌∷◌, length, refl, sym, ◌∙◌, subst, arith}
-use Rattle.std.proofs.lemmas.Bool.{cases_lt}
+use Rattle.std.proofs.Common.{◌≡◌, ◌≢◌, ◌⊎◌, inl, inr, ⊎_elim, ℕ, zero, suc, ◌+◌, ◌<◌, ◌≤◌, Bool, true, false, List, [], ◌∷◌, length, refl, sym, ◌∙◌, subst, arith}
 use Rattle.ww_queue.specs.declared.entry.Entry.{Entry}
 use Rattle.ww_queue.specs.Queue.{Has, StandsNot, Once}
 use Rattle.ww_queue.proofs.Rooms.{waiters_fit}
@@ -16,7 +15,7 @@ use Rattle.ww_wakes.specs.Theorem.{IsEndlessRun}
 use Rattle.ww_live.specs.Premises.{WaitersGoOn, HoldersGoOn}
 use Rattle.ww_live.specs.Theorem.{TakesOrGivesUp, SomebodyGoesOn, EndsWait}
 use Rattle.ww_live.proofs.Steps.{entry_next, taken_or_not, seats_next}
-use Rattle.ww_live.proofs.Runs.{holds_at, Ended, orderly_at, lawful_at, made_next, known_next, may_be, release_between}
+use Rattle.ww_live.proofs.Runs.{Ended, orderly_at, lawful_at, known_next, may_be, release_between, along, Never, search_to}
 use Rattle.ww_live.proofs.Links.{link_breaks}
 use Rattle.ww_live.proofs.Dues.{IsTaken, handed_ends, free_taken}
 use Rattle.ww_live.proofs.Leaves.{HasHolder, Leaf, handed, free, holder, link, leaf_of}
@@ -51,9 +50,8 @@ module _ (scene : ℕ → Scene) (step : ℕ → Step) (run : IsEndlessRun scene
   AllWait i ws = (e : Entry) → Has ws e → (n : ℕ) × Has ((scene i).core.queue n) e
 
   pub seats_at : (i j : ℕ) → i ≤ j → (scene j).core.seats ≡ (scene i).core.seats
-  seats_at i j later = holds_at (λ k. (scene k).core.seats ≡ (scene i).core.seats) i j later refl
-      (λ k _ _ same. made_next scene step run (λ w. w.core.seats ≡ (scene k).core.seats) k
-      (seats_next (scene k) (step k) (run.may k)) ∙ same)
+  seats_at i j later = along scene step run (λ w. w.core.seats ≡ (scene i).core.seats) i j later refl
+      (λ k _ _ same. seats_next (scene k) (step k) (run.may k) ∙ same)
 
   -- there are no more of them than seats
   pub few : (i : ℕ) (ws : List Entry) → Once ws → AllWait i ws → length ws ≤ (scene i).core.seats
@@ -93,26 +91,15 @@ module _ (scene : ℕ → Scene) (step : ℕ → Step) (run : IsEndlessRun scene
   by_given n i (to_none e h first own) = by_take n i (free_taken scene step run go e n i h first own)
 
   -- nobody takes a lock or gives up before
-  quiet : (i gap : ℕ) → Goal i ⊎ ((k : ℕ) → i ≤ k → k < i + gap → TakesOrGivesUp (step k) → ⊥)
-  quiet i zero = inr (λ k a b. absurd (omega arith))
-  quiet i (suc gap) = ⊎_elim inl
-      (λ calm. ⊎_elim (λ t. inl (i + gap, omega arith, t))
-      (λ none. inr (λ k a b. ⊎_elim (λ low. calm k a low)
-      (λ high. let is : i + gap ≡ k = omega arith in subst (λ x. TakesOrGivesUp (step x) → ⊥) is none)
-      (cases_lt k (i + gap))))
-      (takes_or_not (step (i + gap))))
-      (quiet i gap)
+  quiet_to : (i j : ℕ) → i ≤ j → Goal i ⊎ Never (λ k. TakesOrGivesUp (step k)) i j
+  quiet_to i j later = ⊎_elim (λ f. inl (f.at, f.from, f.holds)) inr
+      (search_to (λ k. TakesOrGivesUp (step k)) (λ k. takes_or_not (step k)) i j later)
 
-  quiet_to : (i j : ℕ) → i ≤ j → Goal i ⊎ ((k : ℕ) → i ≤ k → k < j → TakesOrGivesUp (step k) → ⊥)
-  quiet_to i j later = let gap : i + (j - i) ≡ j = omega arith in
-      subst (λ x. Goal i ⊎ ((k : ℕ) → i ≤ k → k < x → TakesOrGivesUp (step k) → ⊥)) gap (quiet i (j - i))
-
-  stay : (i j : ℕ) → i ≤ j → ((k : ℕ) → i ≤ k → k < j → TakesOrGivesUp (step k) → ⊥) → (e : Entry) (n : ℕ) →
-      Has ((scene i).core.queue n) e →
-      Has ((scene j).core.queue n) e
-  stay i j later calm e n h = holds_at (λ k. Has ((scene k).core.queue n) e) i j later h
-      (λ k from below before. made_next scene step run (λ w. Has (w.core.queue n) e) k
-      (entry_next (scene k) (step k) e n (λ ends. calm k from below (ends_takes e.seat n (step k) ends)) before))
+  stay : (i j : ℕ) → i ≤ j → Never (λ k. TakesOrGivesUp (step k)) i j → (e : Entry) (n : ℕ) →
+      Has ((scene i).core.queue n) e → Has ((scene j).core.queue n) e
+  stay i j later calm e n h = along scene step run (λ w. Has (w.core.queue n) e) i j later h
+      (λ k from below. entry_next (scene k) (step k) e n
+      (λ ends. calm k from below (ends_takes e.seat n (step k) ends)))
 
   -- once the holder waits too, there is one waiter more
   abbrev Joined : ℕ → List Entry → Type 0
@@ -147,12 +134,8 @@ module _ (scene : ℕ → Scene) (step : ℕ → Step) (run : IsEndlessRun scene
 
   -- there are only as many waiters as seats
   on : (fuel i : ℕ) (ws : List Entry) → Once ws → AllWait scene step run i ws →
-      (scene i).core.seats ≤ length ws + fuel →
-      (e : Entry) (n : ℕ) → Has ((scene i).core.queue n) e → Goal i
-  on zero i ws once all room e n h = by_leaf i
-      (by_holder i ws all (λ j later x new wait y m there. let full = few scene step run j (x ∷ ws) (new, once) wait in
-      let same = seats_at scene step run i j later in absurd (omega arith)))
-      (leaf_of (scene i).core (orderly_at scene step run i).reached (lawful_at scene step run i) e n h)
+      (scene i).core.seats < length ws + fuel → (e : Entry) (n : ℕ) → Has ((scene i).core.queue n) e → Goal i
+  on zero i ws once all room e n h = let full = few scene step run i ws once all in absurd (omega arith)
   on (suc fuel) i ws once all room e n h = by_leaf i
       (by_holder i ws all (λ j later x new wait y m there. let same = seats_at scene step run i j later in
       on fuel j (x ∷ ws) (new, once) wait (omega arith) y m there))
@@ -160,4 +143,4 @@ module _ (scene : ℕ → Scene) (step : ℕ → Step) (run : IsEndlessRun scene
 
 pub somebody_goes_on : SomebodyGoesOn
 somebody_goes_on scene step run go holders i s n h =
-    on scene step run go holders (scene i).core.seats i [] tt (λ e none. absurd none) (omega arith) h.0 n h.1
+    on scene step run go holders (suc (scene i).core.seats) i [] tt (λ e none. absurd none) (omega arith) h.0 n h.1

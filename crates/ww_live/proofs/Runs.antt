@@ -1,5 +1,5 @@
 -- Endless runs: a waiter that is woken comes inside its guard, and what it can do there.
-use Rattle.std.proofs.Common.{◌≡◌, ◌≢◌, ◌⊎◌, inl, inr, ⊎_elim, ℕ, zero, suc, ◌+◌, ◌-◌, ◌<◌, ◌≤◌, Bool, true, refl, sym, ◌∙◌, subst, arith, true≢false}
+use Rattle.std.proofs.Common.{◌≡◌, ◌≢◌, ◌⊎◌, inl, inr, ⊎_elim, ℕ, suc, ◌<◌, ◌≤◌, Bool, true, refl, sym, ◌∙◌, subst, arith, true≢false}
 use Rattle.std.proofs.lemmas.Bool.{cases_Bool, cases_lt}
 use mathlib.Core.Logic.{dite}
 use native.Mathlib.Decide.{ℕ_discrete}
@@ -10,24 +10,26 @@ use Rattle.ww_model.specs.declared.event.Event.TheVariants.{FastGive, Guard, Giv
 use Rattle.ww_model.specs.Lawful.{IsLawful}
 use Rattle.ww_model.proofs.Puts.{put_here}
 use Rattle.ww_model.proofs.Kept.{reached_is_lawful}
-use Rattle.ww_wakes.specs.Scene.{Phase, acting, going_to_sleep, asleep, Scene, Step, performs, leaves_to_sleep, wakes, rises, MayLeaveToSleep, May, next, IsReached, goes_on}
+use Rattle.ww_wakes.specs.Scene.{Phase, acting, going_to_sleep, asleep, Scene, Step, performs, leaves_to_sleep, wakes, rises, MayLeaveToSleep, May, next}
 use Rattle.ww_wakes.specs.Theorem.{IsEndlessRun}
 use Rattle.ww_wakes.proofs.Keeping.{IsTold, IsOrderly, reached_is_orderly}
 use Rattle.ww_live.specs.Premises.{WaiterGoesOn, WaitersGoOn}
 use Rattle.ww_live.specs.Theorem.{EndsWait}
 use Rattle.ww_live.proofs.Steps.{ends_or_not, entry_next, kind_next, leaves_by, enters_by, token_lost_by, taken_or_not, given_by}
+use Rattle.ww_wakes.proofs.Endless.{FoundAt, unless, holds_at, reached_at}
 
 -- ---- along the numbers
 
--- what holds at i, and after each step from there if before it, holds at j
-pub holds_on : (P : ℕ → Type 0) (i gap : ℕ) → P i → ((k : ℕ) → i ≤ k → k < i + gap → P k → P (suc k)) → P (i + gap)
-holds_on P i zero h on = subst P (omega arith) h
-holds_on P i (suc gap) h on = subst P (omega arith)
-    (on (i + gap) (omega arith) (omega arith) (holds_on P i gap h (λ k later below. on k later (omega arith))))
+-- it holds at no time from i on, and before j
+abbrev pub Never : (ℕ → Type 0) → ℕ → ℕ → Type 0
+Never P i j = (k : ℕ) → i ≤ k → k < j → P k → ⊥
 
-pub holds_at : (P : ℕ → Type 0) (i j : ℕ) → i ≤ j → P i → ((k : ℕ) → i ≤ k → k < j → P k → P (suc k)) → P j
-holds_at P i j later h on = let gap : i + (j - i) ≡ j = omega arith in
-    subst P gap (holds_on P i (j - i) h (λ k from below. on k from (omega arith)))
+pub search_to : (P : ℕ → Type 0) → ((k : ℕ) → P k ⊎ (P k → ⊥)) → (i j : ℕ) → i ≤ j →
+    FoundAt P i j ⊎ Never P i j
+search_to P dec i j later = unless P (Never P i) i j later (λ k a b. absurd (omega arith))
+    (λ k from below none. ⊎_elim inl
+    (λ isnt. inr (λ x a b. ⊎_elim (λ low. none x a low)
+    (λ high. let is : k ≡ x = omega arith in subst (λ y. P y → ⊥) is isnt) (cases_lt x k))) (dec k))
 
 -- the first time from i on after which it doesn't hold
 pub record Change (P : ℕ → Type 0) (i j : ℕ) : Type 0 where
@@ -37,31 +39,19 @@ pub record Change (P : ℕ → Type 0) (i j : ℕ) : Type 0 where
   pub held : (k : ℕ) → i ≤ k → k ≤ at → P k
   pub gone : P (suc at) → ⊥
 
-pub changes_within : (P : ℕ → Type 0) → ((k : ℕ) → P k ⊎ (P k → ⊥)) → (i gap : ℕ) → P i → (P (i + gap) → ⊥) →
-    Change P i (i + gap)
-changes_within P dec i zero h gone = absurd (gone (subst P (omega arith) h))
-changes_within P dec i (suc gap) h gone = ⊎_elim
-    (λ still. let rest = changes_within P dec (suc i) gap still (λ x. gone (subst P (omega arith) x)) in
-    let from = rest.from in let before = rest.before in record {
-      at = rest.at;
-      from = omega arith;
-      before = omega arith;
-      held = λ k later below. dite (ℕ_discrete k i) (λ is. subst P (sym is) h)
-          (λ isnt. rest.held k (omega arith) below);
-      gone = rest.gone;
-    })
-    (λ isnt. record {
-      at = i;
-      from = omega arith;
-      before = omega arith;
-      held = λ k later below. let is : i ≡ k = omega arith in subst P is h;
-      gone = isnt;
-    })
-    (dec (suc i))
+abbrev Held : (ℕ → Type 0) → ℕ → ℕ → Type 0
+Held P i j = (k : ℕ) → i ≤ k → k ≤ j → P k
 
 pub changes : (P : ℕ → Type 0) → ((k : ℕ) → P k ⊎ (P k → ⊥)) → (i j : ℕ) → i ≤ j → P i → (P j → ⊥) → Change P i j
-changes P dec i j later h gone = let gap : i + (j - i) ≡ j = omega arith in
-    subst (Change P i) gap (changes_within P dec i (j - i) h (λ x. gone (subst P gap x)))
+changes P dec i j later h gone = ⊎_elim
+    (λ f. record { at = f.at; from = f.from; before = f.before; held = f.holds.0; gone = f.holds.1 })
+    (λ all. absurd (gone (all j later (omega arith))))
+    (unless (λ k. Held P i k × (P (suc k) → ⊥)) (Held P i) i j later
+    (λ k a b. let is : i ≡ k = omega arith in subst P is h)
+    (λ k from below held. ⊎_elim
+    (λ still. inr (λ x a b. ⊎_elim (λ low. held x a (omega arith))
+    (λ high. let is : suc k ≡ x = omega arith in subst P is still) (cases_lt x (suc k))))
+    (λ isnt. inl (held, isnt)) (dec (suc k))))
 
 -- ---- of one scene
 
@@ -129,40 +119,30 @@ module _ (scene : ℕ → Scene) (step : ℕ → Step) where
       record { at = b.at; later = omega arith; stays = stays_more e n i j b.at later a b.stays; ends = b.ends }
 
   -- where the wait doesn't end before, the waiter stays
-  pub until : (e : Entry) (n i gap : ℕ) → IsEndlessRun scene step → Has ((scene i).core.queue n) e →
-      Ended e n i ⊎ Stays e n i (i + gap)
-  until e n i zero run h = inr (record {
-    here = λ k from to. let is : i ≡ k = omega arith in subst (λ x. Has ((scene x).core.queue n) e) is h;
-    on = λ k from to. absurd (omega arith);
-  })
-  until e n i (suc gap) run h = ⊎_elim inl
-      (λ stays. let last = stays.here (i + gap) (omega arith) (omega arith) in ⊎_elim
-      (λ ends. inl (record { at = i + gap; later = omega arith; stays = stays; ends = ends }))
-      (λ on. inr (record {
-        here = λ k from to. ⊎_elim
-            (λ low. stays.here k from (omega arith))
-            (λ high. let is : suc (i + gap) ≡ k = omega arith in subst (λ x. Has ((scene x).core.queue n) e) is
-            (subst (λ (w : Scene). Has (w.core.queue n) e) (sym (run.goes_on (i + gap)))
-            (entry_next (scene (i + gap)) (step (i + gap)) e n on last)))
-            (cases_lt k (suc (i + gap)));
-        on = λ k from to. ⊎_elim (λ is. subst (λ x. EndsWait e.seat n (step x) → ⊥) (sym is) on)
-            (λ isnt. stays.on k from (omega arith)) (number_is k (i + gap));
-      }))
-      (ends_or_not e.seat n (step (i + gap))))
-      (until e n i gap run h)
-
   pub until_at : (e : Entry) (n i j : ℕ) → i ≤ j → IsEndlessRun scene step → Has ((scene i).core.queue n) e →
       Ended e n i ⊎ Stays e n i j
-  until_at e n i j later run h = let gap : i + (j - i) ≡ j = omega arith in
-      subst (λ x. Ended e n i ⊎ Stays e n i x) gap (until e n i (j - i) run h)
+  until_at e n i j later run h = ⊎_elim
+      (λ f. inl (record { at = f.at; later = f.from; stays = f.holds.0; ends = f.holds.1 })) inr
+      (unless (λ k. Stays e n i k × EndsWait e.seat n (step k)) (Stays e n i) i j later
+      (record {
+        here = λ k a b. let is : i ≡ k = omega arith in subst (λ x. Has ((scene x).core.queue n) e) is h;
+        on = λ k a b. absurd (omega arith);
+      })
+      (λ k from below stays. ⊎_elim (λ ends. inl (stays, ends))
+      (λ on. inr (record {
+        here = λ x a b. ⊎_elim (λ low. stays.here x a (omega arith))
+            (λ high. let is : suc k ≡ x = omega arith in subst (λ y. Has ((scene y).core.queue n) e) is
+            (subst (λ (w : Scene). Has (w.core.queue n) e) (sym (run.goes_on k))
+            (entry_next (scene k) (step k) e n on (stays.here k from (omega arith))))) (cases_lt x (suc k));
+        on = λ x a b. ⊎_elim (λ low. stays.on x a low)
+            (λ high. let is : k ≡ x = omega arith in subst (λ y. EndsWait e.seat n (step y) → ⊥) is on)
+            (cases_lt x k);
+      }))
+      (ends_or_not e.seat n (step k))))
 
 module _ (scene : ℕ → Scene) (step : ℕ → Step) (run : IsEndlessRun scene step) where
-  pub reached_at : (i : ℕ) → IsReached (scene i)
-  reached_at zero = run.begins
-  reached_at (suc i) = subst IsReached (sym (run.goes_on i)) (goes_on (scene i) (step i) (reached_at i) (run.may i))
-
   pub orderly_at : (i : ℕ) → IsOrderly (scene i)
-  orderly_at i = reached_is_orderly (scene i) (reached_at i)
+  orderly_at i = reached_is_orderly (scene i) (reached_at scene step run i)
 
   pub lawful_at : (i : ℕ) → IsLawful (scene i).core
   lawful_at i = reached_is_lawful (scene i).core (orderly_at i).reached
@@ -177,6 +157,12 @@ module _ (scene : ℕ → Scene) (step : ℕ → Step) (run : IsEndlessRun scene
 
   pub may_be : (i : ℕ) (x : Step) → step i ≡ x → May (scene i) x
   may_be i x is = subst (May (scene i)) is (run.may i)
+
+  -- what holds at i, and after each step from there if before it, holds at j
+  pub along : (P : Scene → Type 0) (i j : ℕ) → i ≤ j → P (scene i) →
+      ((k : ℕ) → i ≤ k → k < j → P (scene k) → P (next (scene k) (step k))) → P (scene j)
+  along P i j later h on = holds_at (λ k. P (scene k)) i j later h
+      (λ k from below before. made_next P k (on k from below before))
 
   -- ---- what happens between two times
 
@@ -228,9 +214,8 @@ module _ (scene : ℕ → Scene) (step : ℕ → Step) (run : IsEndlessRun scene
       }
 
   pub kind_at : (i j : ℕ) → i ≤ j → (scene j).core.kind ≡ (scene i).core.kind
-  kind_at i j later = holds_at (λ k. (scene k).core.kind ≡ (scene i).core.kind) i j later refl
-      (λ k _ _ same. made_next (λ w. w.core.kind ≡ (scene k).core.kind) k (kind_next (scene k) (step k) (run.may k)) ∙
-      same)
+  kind_at i j later = along (λ w. w.core.kind ≡ (scene i).core.kind) i j later refl
+      (λ k _ _ same. kind_next (scene k) (step k) (run.may k) ∙ same)
 
 module _ (scene : ℕ → Scene) (step : ℕ → Step) (run : IsEndlessRun scene step) (s : ℕ)
     (go : WaiterGoesOn scene step s) where

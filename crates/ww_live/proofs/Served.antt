@@ -5,25 +5,25 @@ use mathlib.Core.Logic.{dite}
 use native.Mathlib.Decide.{ℕ_discrete}
 use Rattle.ww_queue.specs.declared.entry.Entry.{Entry}
 use Rattle.ww_queue.specs.Entry.{is_older}
-use Rattle.ww_queue.specs.Queue.{Has, Before, Stands, StandsNot, Ascends, joined, left}
+use Rattle.ww_queue.specs.Queue.{Has, Before, Stands, StandsNot, Ascends, left}
 use Rattle.ww_queue.proofs.Outcomes.{older_true}
-use Rattle.ww_queue.proofs.Leaves.{left_gone, left_others}
+use Rattle.ww_queue.proofs.Leaves.{left_gone}
 use Rattle.ww_model.specs.declared.state.Holder.{Holder}
 use Rattle.ww_model.specs.declared.state.Holder.TheVariants.{Nobody, Taken, Handed}
 use Rattle.ww_model.specs.declared.event.Event.{Event}
-use Rattle.ww_model.specs.declared.event.Event.TheVariants.{Begin, End, Fast, FastGive, Guard, Join, Take, Ask, Give, Die, Leave}
-use Rattle.ww_model.specs.State.{State, put, HasOther, waiter_of}
-use Rattle.ww_model.specs.Event.{Possible, after, given_to, still_asked}
+use Rattle.ww_model.specs.declared.event.Event.TheVariants.{Begin, End, Fast, FastGive, Guard, Join, Take, Give}
+use Rattle.ww_model.specs.State.{State, HasOther, waiter_of}
+use Rattle.ww_model.specs.Event.{after, given_to}
 use Rattle.ww_model.specs.Lawful.{IsBase}
-use Rattle.ww_model.proofs.Puts.{put_here, put_else, put_cases, put_was}
+use Rattle.ww_model.proofs.Puts.{put_here, put_cases, put_was}
 use Rattle.ww_model.proofs.Cancels.{not_free}
 use Rattle.ww_model.proofs.Holders.{not_given}
-use Rattle.ww_wakes.specs.Scene.{Scene, Step, performs, leaves_to_sleep, finds_no_sign, finds_no_cancel, wakes, falls_asleep, rises, May, next}
+use Rattle.ww_wakes.specs.Scene.{Scene, Step, performs, May, next}
 use Rattle.ww_wakes.specs.Theorem.{IsEndlessRun}
 use Rattle.ww_live.specs.Premises.{WaitersGoOn, HoldersRelease, WaitsForEver, RestsOn, FirstsAsk}
 use Rattle.ww_live.specs.Theorem.{EndsWait}
-use Rattle.ww_live.proofs.Steps.{by_event, taken_or_not, taken_next}
-use Rattle.ww_live.proofs.Runs.{holds_at, number_is, Stays, Ended, Comes, Sleeps, stays_more, stays_less, ended_from, until_at, lawful_at, made_next, known_next, may_be, enters, release_between, comes_in, goes_out}
+use Rattle.ww_live.proofs.Steps.{by_event, taken_or_not, taken_next, list_next, not_whose, asked_next}
+use Rattle.ww_live.proofs.Runs.{number_is, Stays, Ended, Comes, Sleeps, stays_more, stays_less, ended_from, until_at, lawful_at, made_next, known_next, may_be, enters, release_between, comes_in, goes_out, along}
 use Rattle.ww_live.proofs.Dues.{due_called, handed_ends, handed_takes, held_free}
 use Rattle.ww_live.proofs.Rests.{rests_on, rests_stands_not, rests_joins_none}
 use Rattle.ww_live.proofs.Ahead.{ahead, Leads, ahead_left, ahead_less, before_left, leads_left, ahead_joined, before_joined, leads_joined, none_older}
@@ -71,10 +71,9 @@ context_next w x t b may drawn = by_event (IsSameContext w.core t b) w x may (dr
 module _ (scene : ℕ → Scene) (step : ℕ → Step) (run : IsEndlessRun scene step) where
   same_contexts : (k j t b : ℕ) → k ≤ j → b ≤ (scene k).core.drawn →
       IsSameContext (scene k).core t b (scene j).core
-  same_contexts k j t b later drawn = holds_at (λ x. IsSameContext (scene k).core t b (scene x).core) k j later
+  same_contexts k j t b later drawn = along scene step run (λ w. IsSameContext (scene k).core t b w.core) k j later
       (drawn, λ _ _. refl)
-      (λ x _ _ so. let one = made_next scene step run (λ w. IsSameContext (scene x).core t b w.core) x
-      (context_next (scene x) (step x) t b (run.may x) so.0) in
+      (λ x _ _ so. let one = context_next (scene x) (step x) t b (run.may x) so.0 in
       (one.0, λ some old. let same = one.1 some old in so.1 (omega arith) (omega arith) ∙ same))
 
   pub same_context : (k j t b : ℕ) → k ≤ j → b ≤ (scene k).core.drawn → 0 < (scene j).core.stamp t →
@@ -103,92 +102,28 @@ module _ (scene : ℕ → Scene) (step : ℕ → Step) (run : IsEndlessRun scene
       can.possible.base.not_waiting h.0 (subst (λ m. Has ((scene k).core.queue m) h.0) at h.1) h.2
 
 -- nobody comes to stand ahead of it
-ahead_after : (c : State) (v : Event) (n : ℕ) (e : Entry) → IsBase c → Has (c.queue n) e → 0 < e.stamp →
-    ((t : ℕ) → v ≡ Join t n → is_older (c.stamp t) e.stamp ≡ false) → (EndsWait e.seat n (performs v) → ⊥) →
-    ahead ((after c v).queue n) e.seat ≤ ahead (c.queue n) e.seat
-ahead_after c (Join t m) n e l h some not on =
-    put_cases c.queue m (joined (c.queue m) (waiter_of c t)) n (λ q. ahead q e.seat ≤ ahead (c.queue n) e.seat)
-    (λ is. subst (λ k. ahead (joined (c.queue k) (waiter_of c t)) e.seat ≤ ahead (c.queue n) e.seat) is
-    (ahead_joined (c.queue n) (waiter_of c t) e (l.queues.at n).ascends some h (not t (ap (Join t) (sym is)))))
-    (λ _. omega arith)
-ahead_after c (Take t m) n e l h some not on =
-    put_cases c.queue m (left (c.queue m) t) n (λ q. ahead q e.seat ≤ ahead (c.queue n) e.seat)
-    (λ is. subst (λ k. ahead (left (c.queue k) t) e.seat ≤ ahead (c.queue n) e.seat) is
-    (ahead_left (c.queue n) t e.seat (λ own. on (inl (cc))))) (λ _. omega arith)
-ahead_after c (Die t m) n e l h some not on =
-    put_cases c.queue m (left (c.queue m) t) n (λ q. ahead q e.seat ≤ ahead (c.queue n) e.seat)
-    (λ is. subst (λ k. ahead (left (c.queue k) t) e.seat ≤ ahead (c.queue n) e.seat) is
-    (ahead_left (c.queue n) t e.seat (λ own. on (inr (inl (cc)))))) (λ _. omega arith)
-ahead_after c (Leave t m) n e l h some not on =
-    put_cases c.queue m (left (c.queue m) t) n (λ q. ahead q e.seat ≤ ahead (c.queue n) e.seat)
-    (λ is. subst (λ k. ahead (left (c.queue k) t) e.seat ≤ ahead (c.queue n) e.seat) is
-    (ahead_left (c.queue n) t e.seat (λ own. on (inr (inr (cc)))))) (λ _. omega arith)
-ahead_after c _ n e l h some not on = omega arith
-
 ahead_next : (w : Scene) (x : Step) (n : ℕ) (e : Entry) → IsBase w.core → Has (w.core.queue n) e → 0 < e.stamp →
     ((t : ℕ) → x ≡ performs (Join t n) → is_older (w.core.stamp t) e.stamp ≡ false) → (EndsWait e.seat n x → ⊥) →
     ahead ((next w x).core.queue n) e.seat ≤ ahead (w.core.queue n) e.seat
-ahead_next w (performs v) n e l h some not on =
-    ahead_after w.core v n e l h some (λ t is. not t (ap performs is)) on
-ahead_next w (leaves_to_sleep s m heeds) n e l h some not on = omega arith
-ahead_next w (finds_no_sign s) n e l h some not on = omega arith
-ahead_next w (finds_no_cancel s) n e l h some not on = omega arith
-ahead_next w (wakes s v) n e l h some not on = omega arith
-ahead_next w (falls_asleep s) n e l h some not on = omega arith
-ahead_next w (rises s) n e l h some not on = omega arith
+ahead_next w x n e l h some not on = let q = w.core.queue n in
+    list_next (λ p. ahead p e.seat ≤ ahead q e.seat) w x n (omega arith)
+    (λ t joins. ahead_joined q (waiter_of w.core t) e (l.queues.at n).ascends some h (not t joins))
+    (λ t ends. ahead_left q t e.seat (λ own. not_whose e.seat t n x on ends (sym own)))
 
 -- two waiters keep their order
-before_after : (c : State) (v : Event) (n : ℕ) (f e : Entry) → (EndsWait f.seat n (performs v) → ⊥) →
-    (EndsWait e.seat n (performs v) → ⊥) →
-    Before (c.queue n) f e → Before ((after c v).queue n) f e
-before_after c (Join t m) n f e a b h = put_cases c.queue m (joined (c.queue m) (waiter_of c t)) n (λ q. Before q f e)
-    (λ is. before_joined (c.queue m) (waiter_of c t) f e (subst (λ k. Before (c.queue k) f e) is h)) (λ _. h)
-before_after c (Take t m) n f e a b h = put_cases c.queue m (left (c.queue m) t) n (λ q. Before q f e)
-    (λ is. before_left (c.queue m) t f e (λ own. a (inl (cc))) (λ own. b (inl (cc)))
-    (subst (λ k. Before (c.queue k) f e) is h)) (λ _. h)
-before_after c (Die t m) n f e a b h = put_cases c.queue m (left (c.queue m) t) n (λ q. Before q f e)
-    (λ is. before_left (c.queue m) t f e (λ own. a (inr (inl (cc)))) (λ own. b (inr (inl (cc))))
-    (subst (λ k. Before (c.queue k) f e) is h)) (λ _. h)
-before_after c (Leave t m) n f e a b h = put_cases c.queue m (left (c.queue m) t) n (λ q. Before q f e)
-    (λ is. before_left (c.queue m) t f e (λ own. a (inr (inr (cc)))) (λ own. b (inr (inr (cc))))
-    (subst (λ k. Before (c.queue k) f e) is h)) (λ _. h)
-before_after c _ n f e a b h = h
-
 before_next : (w : Scene) (x : Step) (n : ℕ) (f e : Entry) → (EndsWait f.seat n x → ⊥) → (EndsWait e.seat n x → ⊥) →
     Before (w.core.queue n) f e → Before ((next w x).core.queue n) f e
-before_next w (performs v) n f e a b h = before_after w.core v n f e a b h
-before_next w (leaves_to_sleep s m heeds) n f e a b h = h
-before_next w (finds_no_sign s) n f e a b h = h
-before_next w (finds_no_cancel s) n f e a b h = h
-before_next w (wakes s v) n f e a b h = h
-before_next w (falls_asleep s) n f e a b h = h
-before_next w (rises s) n f e a b h = h
+before_next w x n f e a b h = let q = w.core.queue n in list_next (λ p. Before p f e) w x n h
+    (λ t _. before_joined q (waiter_of w.core t) f e h)
+    (λ t ends. before_left q t f e (not_whose f.seat t n x a ends) (not_whose e.seat t n x b ends) h)
 
 -- the first stays the first, if no older context joins the list
-leads_after : (c : State) (v : Event) (n : ℕ) (f : Entry) → (EndsWait f.seat n (performs v) → ⊥) →
-    ((t : ℕ) → v ≡ Join t n → is_older (c.stamp t) f.stamp ≡ false) →
-    Leads (c.queue n) f → Leads ((after c v).queue n) f
-leads_after c (Join t m) n f on not h = put_cases c.queue m (joined (c.queue m) (waiter_of c t)) n (λ q. Leads q f)
-    (λ is. leads_joined (c.queue m) (waiter_of c t) f (not t (ap (Join t) (sym is)))
-    (subst (λ k. Leads (c.queue k) f) is h)) (λ _. h)
-leads_after c (Take t m) n f on not h = put_cases c.queue m (left (c.queue m) t) n (λ q. Leads q f)
-    (λ is. leads_left (c.queue m) t f (λ own. on (inl (cc))) (subst (λ k. Leads (c.queue k) f) is h)) (λ _. h)
-leads_after c (Die t m) n f on not h = put_cases c.queue m (left (c.queue m) t) n (λ q. Leads q f)
-    (λ is. leads_left (c.queue m) t f (λ own. on (inr (inl (cc)))) (subst (λ k. Leads (c.queue k) f) is h)) (λ _. h)
-leads_after c (Leave t m) n f on not h = put_cases c.queue m (left (c.queue m) t) n (λ q. Leads q f)
-    (λ is. leads_left (c.queue m) t f (λ own. on (inr (inr (cc)))) (subst (λ k. Leads (c.queue k) f) is h)) (λ _. h)
-leads_after c _ n f on not h = h
-
 leads_next : (w : Scene) (x : Step) (n : ℕ) (f : Entry) → (EndsWait f.seat n x → ⊥) →
     ((t : ℕ) → x ≡ performs (Join t n) → is_older (w.core.stamp t) f.stamp ≡ false) →
     Leads (w.core.queue n) f → Leads ((next w x).core.queue n) f
-leads_next w (performs v) n f on not h = leads_after w.core v n f on (λ t is. not t (ap performs is)) h
-leads_next w (leaves_to_sleep s m heeds) n f on not h = h
-leads_next w (finds_no_sign s) n f on not h = h
-leads_next w (finds_no_cancel s) n f on not h = h
-leads_next w (wakes s v) n f on not h = h
-leads_next w (falls_asleep s) n f on not h = h
-leads_next w (rises s) n f on not h = h
+leads_next w x n f on not h = let q = w.core.queue n in list_next (λ p. Leads p f) w x n h
+    (λ t joins. leads_joined q (waiter_of w.core t) f (not t joins) h)
+    (λ t ends. leads_left q t f (not_whose f.seat t n x on ends) h)
 
 -- a lock is handed only to the first
 handed_is : (asked : Bool) (q : List Entry) (f : Entry) (g : ℕ) → Leads q f → given_to asked q ≡ Handed g → g ≡ f.seat
@@ -226,44 +161,12 @@ not_both : (o : Holder) (g : ℕ) → o ≡ Nobody → o ≡ Handed g → ⊥
 not_both o g a b = cc
 
 -- a lock that was asked for stays so while its owner has it and a waiter stands in the list
-still : (q : List Entry) (b : Bool) (x : Entry) → Has q x → still_asked q b ≡ b
-still [] b x h = absurd h
-still (y ∷ ys) b x h = refl
-
-asked_after : (c : State) (v : Event) (n b : ℕ) (e : Entry) → Possible c v → c.owner n ≡ Taken b →
-    (after c v).owner n ≡ Taken b →
-    Has (c.queue n) e → (EndsWait e.seat n (performs v) → ⊥) → c.asked n ≡ true → (after c v).asked n ≡ true
-asked_after c (Take s m) n b e can own kept h on asked = put_else c.asked m false n
-    (λ is. let o = ap c.owner is in ⊎_elim (λ none. let z : ⊥ = cc in z) (λ other. let z : ⊥ = cc in z) can.base.free) ∙
-    asked
-asked_after c (Ask s m) n b e can own kept h on asked =
-    put_cases c.asked m true n (λ y. y ≡ true) (λ _. refl) (λ _. asked)
-asked_after c (Give s m) n b e can own kept h on asked = put_else c.asked m false n
-    (λ is. not_given (c.asked m) (c.queue m) b
-    (sym (ap (put c.owner m (given_to (c.asked m) (c.queue m))) is ∙
-    put_here c.owner m (given_to (c.asked m) (c.queue m))) ∙ kept)) ∙ asked
-asked_after c (Die s m) n b e can own kept h on asked =
-    put_cases c.asked m (still_asked (left (c.queue m) s) (c.asked m)) n (λ y. y ≡ true)
-    (λ is. still (left (c.queue m) s) (c.asked m) e
-    (left_others (c.queue m) s e (λ own. on (inr (inl (cc)))) (subst (λ k. Has (c.queue k) e) is h))
-    ∙ ap c.asked (sym is) ∙ asked) (λ _. asked)
-asked_after c (Leave s m) n b e can own kept h on asked =
-    put_cases c.asked m (still_asked (left (c.queue m) s) (c.asked m)) n (λ y. y ≡ true)
-    (λ is. still (left (c.queue m) s) (c.asked m) e
-    (left_others (c.queue m) s e (λ own. on (inr (inr (cc)))) (subst (λ k. Has (c.queue k) e) is h))
-    ∙ ap c.asked (sym is) ∙ asked) (λ _. asked)
-asked_after c _ n b e can own kept h on asked = asked
-
-asked_next : (w : Scene) (x : Step) (n b : ℕ) (e : Entry) → May w x → w.core.owner n ≡ Taken b →
-    (next w x).core.owner n ≡ Taken b →
-    Has (w.core.queue n) e → (EndsWait e.seat n x → ⊥) → w.core.asked n ≡ true → (next w x).core.asked n ≡ true
-asked_next w (performs v) n b e may own kept h on asked = asked_after w.core v n b e may.possible own kept h on asked
-asked_next w (leaves_to_sleep s m heeds) n b e may own kept h on asked = asked
-asked_next w (finds_no_sign s) n b e may own kept h on asked = asked
-asked_next w (finds_no_cancel s) n b e may own kept h on asked = asked
-asked_next w (wakes s v) n b e may own kept h on asked = asked
-asked_next w (falls_asleep s) n b e may own kept h on asked = asked
-asked_next w (rises s) n b e may own kept h on asked = asked
+asked_stays : (w : Scene) (x : Step) (n b : ℕ) (e : Entry) → May w x →
+    (w.core.owner n ≡ Taken b) × ((next w x).core.owner n ≡ Taken b) → Has ((next w x).core.queue n) e →
+    w.core.asked n ≡ true → (next w x).core.asked n ≡ true
+asked_stays w x n b e may own there asked = asked_next w x n e may (b, own.0) there asked
+    (λ s gives. let c = w.core in not_given (c.asked n) (c.queue n) b
+    (sym (ap (λ y. (next w y).core.owner n) gives ∙ put_here c.owner n (given_to (c.asked n) (c.queue n))) ∙ own.1))
 
 -- ---- along a run
 
@@ -329,11 +232,10 @@ module _ (scene : ℕ → Scene) (step : ℕ → Step) (run : IsEndlessRun scene
   still_at : (k j : ℕ) → k ≤ j → Waits k → Stays scene step e n k j → Still k j
   still_at k j later w stays = record {
     waits = waits_at j later (omega arith);
-    few = holds_at (λ x. ahead_at x ≤ ahead_at k) k j later (omega arith)
-        (λ x from below less. made_next scene step run (λ y. ahead (y.core.queue n) e.seat ≤ ahead_at k) x
-        (let v = waits_at x from (omega arith) in
+    few = along scene step run (λ y. ahead (y.core.queue n) e.seat ≤ ahead_at k) k j later (omega arith)
+        (λ x from below less. let v = waits_at x from (omega arith) in
         let one = ahead_next (scene x) (step x) n e (lawful_at scene step run x).base v.here w.context
-        (joins_younger x e v (omega arith)) (stays.on x from below) in omega arith));
+        (joins_younger x e v (omega arith)) (stays.on x from below) in omega arith);
   }
     where
       waits_at : (x : ℕ) → k ≤ x → x ≤ j → Waits x
@@ -421,9 +323,8 @@ module _ (scene : ℕ → Scene) (step : ℕ → Step) (run : IsEndlessRun scene
   leads_on : (k j : ℕ) (f : Entry) → k ≤ j → ((x : ℕ) → k ≤ x → x < j → Waits x) → IsNotYounger f →
       Stays scene step f n k j →
       Leads ((scene k).core.queue n) f → Leads ((scene j).core.queue n) f
-  leads_on k j f later w who stays first = holds_at (λ x. Leads ((scene x).core.queue n) f) k j later first
-      (λ x from below l. made_next scene step run (λ y. Leads (y.core.queue n) f) x
-      (leads_next (scene x) (step x) n f (stays.on x from below) (not_passed x f (w x from below) who) l))
+  leads_on k j f later w who stays first = along scene step run (λ y. Leads (y.core.queue n) f) k j later first
+      (λ x from below. leads_next (scene x) (step x) n f (stays.on x from below) (not_passed x f (w x from below) who))
 
   -- ---- where the wait of the first ends
 
@@ -432,9 +333,8 @@ module _ (scene : ℕ → Scene) (step : ℕ → Step) (run : IsEndlessRun scene
       (λ is. inl (inl (subst (λ (x : Entry). Ended scene step x n k) (sym is) end)))
       (⊎_elim (λ a. let j = end.at in let later = end.later in ⊎_elim inl
       (λ s. let es = s.0 in let c = (scene j).core in let l = (lawful_at scene step run j).base in
-      let before : Before (c.queue n) f e = holds_at (λ x. Before ((scene x).core.queue n) f e) k j later a.1
-      (λ x from below b. made_next scene step run (λ y. Before (y.core.queue n) f e) x
-      (before_next (scene x) (step x) n f e (end.stays.on x from below) (es.on x from (omega arith)) b)) in
+      let before : Before (c.queue n) f e = along scene step run (λ y. Before (y.core.queue n) f e) k j later a.1
+      (λ x from below. before_next (scene x) (step x) n f e (end.stays.on x from below) (es.on x from (omega arith))) in
       let less = ahead_less (c.queue n) f e (l.queues.at n).once before in
       let list : (scene (suc j)).core.queue n ≡ left (c.queue n) f.seat =
       made_next scene step run (λ y. y.core.queue n ≡ left (c.queue n) f.seat) j
@@ -480,10 +380,9 @@ module _ (scene : ℕ → Scene) (step : ℕ → Step) (run : IsEndlessRun scene
     at = k;
     later = omega arith;
     owner = t;
-    owns = λ x from. holds_at (λ y. (scene y).core.owner n ≡ Taken t) k x from own
-        (λ y after below has. made_next scene step run (λ w. w.core.owner n ≡ Taken t) y
-        (taken_next (scene y) (step y) t n ever.0 (run.may y) (lawful_at scene step run y).base has
-        (ever.1 y after)));
+    owns = λ x from. along scene step run (λ w. w.core.owner n ≡ Taken t) k x from own
+        (λ y after below has. taken_next (scene y) (step y) t n ever.0 (run.may y) (lawful_at scene step run y).base
+        has (ever.1 y after));
     ever = ever;
   }
 
@@ -525,21 +424,21 @@ module _ (scene : ℕ → Scene) (step : ℕ → Step) (run : IsEndlessRun scene
   by_asked k t w own asked = ⊎_elim inl
       (λ r. let j = r.at in let later = r.later in ⊎_elim inl
       (λ s. goal_from k j later s.0 s.1 (gives_asked j t s.1.waits r.gives
-      (holds_at (λ x. (scene x).core.asked n ≡ true) k j later asked
-      (λ x from below yes. made_next scene step run (λ v. v.core.asked n ≡ true) x
-      (asked_next (scene x) (step x) n t e (run.may x) (r.held x from (omega arith))
-      (subst (λ (v : Scene). v.core.owner n ≡ Taken t) (run.goes_on x) (r.held (suc x) (omega arith) (omega arith)))
-      (s.0.here x from (omega arith)) (s.0.on x from below) yes)))))
+      (along scene step run (λ v. v.core.asked n ≡ true) k j later asked
+      (λ x from below. asked_stays (scene x) (step x) n t e (run.may x) (
+        r.held x from (omega arith),
+        subst (λ (v : Scene). v.core.owner n ≡ Taken t) (run.goes_on x) (r.held (suc x) (omega arith) (omega arith)),
+      )
+      (subst (λ (v : Scene). Has (v.core.queue n) e) (run.goes_on x) (s.0.here (suc x) (omega arith) (omega arith)))))))
       (stay k j later w))
       (released k t w own)
 
   -- while the first waits for a lock that was free, it is handed to nobody else
   only_on : (k j : ℕ) (f : Entry) → k ≤ j → (scene k).core.owner n ≡ Nobody →
       ((x : ℕ) → k ≤ x → x ≤ j → Leads ((scene x).core.queue n) f) → OnlyFor (scene j).core n f
-  only_on k j f later own leads = holds_at (λ x. OnlyFor (scene x).core n f) k j later
+  only_on k j f later own leads = along scene step run (λ y. OnlyFor y.core n f) k j later
       (λ g is. absurd (not_both ((scene k).core.owner n) g own is))
-      (λ x a b o. made_next scene step run (λ y. OnlyFor y.core n f) x
-      (only_next (scene x) (step x) n f (run.may x) (leads x a (omega arith)) o))
+      (λ x a b. only_next (scene x) (step x) n f (run.may x) (leads x a (omega arith)))
 
   -- the first has gone inside, and goes to sleep again: it has asked
   slept : (k i : ℕ) (f : Entry) → Waits k → Head k f → k ≤ i → (scene k).core.owner n ≡ Nobody →

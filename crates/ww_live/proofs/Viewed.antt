@@ -20,12 +20,12 @@ use Rattle.ww_view.proofs.Inside.{mine_look, mine_lost_sign, mine_read, mine_mis
 use Rattle.ww_wakes.specs.Scene.{Phase, Scene, first_scene, acting, going_to_sleep, asleep, Step, performs, leaves_to_sleep, finds_no_sign, finds_no_cancel, wakes, falls_asleep, rises, May, next, woken_by, IsReached, begins, goes_on}
 use Rattle.ww_wakes.specs.Ties.{IsInCall, IsResting, also, mover}
 use Rattle.ww_wakes.proofs.Woken.{debt_was}
-use Rattle.ww_wakes.proofs.Calls.{shown_is_a_step, leaving_is_a_step, sign_look_is_a_step, cancel_look_is_a_step, others_leave_calls_alone}
+use Rattle.ww_wakes.proofs.Calls.{shown_is_a_step, leaving_is_a_step, sign_look_is_a_step, cancel_look_is_a_step, others_leave_calls_alone, call_stays}
 use Rattle.ww_wakes.proofs.Rests.{start_is_in_call, leaving_comes_to_rest, rest_stays, rising_is_in_call}
 use Rattle.ww_live.specs.Views.{Finds, looks, notes, reads, keeps, misses, glances, pends, is_shut_out, steps, FindsOn, no_more, more, MayByView, MadeBy, IsViewedRun, ViewedRunsAreRuns, ViewedWaitersSleep, ViewedDeadlocksEnd, ViewedRunsAreThere, LooksAgainStill, LaterStays, ViewedRunsAsk}
 use Rattle.ww_live.proofs.Deadlocks.{no_deadlock_lasts}
 use Rattle.ww_live.proofs.Asked.{who_leaves_has_asked}
-use Rattle.ww_live.proofs.Runs.{holds_at}
+use Rattle.ww_wakes.proofs.Endless.{holds_at}
 
 -- ---- who looks again
 
@@ -37,15 +37,8 @@ record FoundKeeps (v w : View) : Type 0 where
   uncancelled : w.uncancelled ≡ v.uncancelled
 
 found_keeps : (c : State) (v w : View) → Finds c v w → FoundKeeps v w
-found_keeps c v w (looks n at) = record { who = refl; inside = refl; later = refl; uncancelled = refl }
-found_keeps c v w (notes u signed) = record { who = refl; inside = refl; later = refl; uncancelled = refl }
-found_keeps c v w (reads signed) = record { who = refl; inside = refl; later = refl; uncancelled = refl }
 found_keeps c v w keeps = record { who = refl; inside = refl; later = refl; uncancelled = refl }
-found_keeps c v w misses = record { who = refl; inside = refl; later = refl; uncancelled = refl }
-found_keeps c v w glances = record { who = refl; inside = refl; later = refl; uncancelled = refl }
-found_keeps c v w pends = record { who = refl; inside = refl; later = refl; uncancelled = refl }
-found_keeps c v w is_shut_out = record { who = refl; inside = refl; later = refl; uncancelled = refl }
-found_keeps c v w steps = record { who = refl; inside = refl; later = refl; uncancelled = refl }
+found_keeps c v w _ = record { who = refl; inside = refl; later = refl; uncancelled = refl }
 
 made_still : (c : State) (v : View) (e : Event) → ((s n : ℕ) → e ≢ Guard s n) → ((s n : ℕ) → e ≢ Unguard s n) →
     LooksAgainStill v (view_after c e v)
@@ -74,15 +67,10 @@ knows_found c v w k is_shut_out = mine_shut_out c v k
 knows_found c v w k steps = mine_stepped c v k
 
 fresh_before : (c : State) (v w : View) → Finds c v w → w.fresh ≡ true → v.fresh ≡ true
-fresh_before c v w (looks n at) fresh = absurd (true≢false (sym fresh))
-fresh_before c v w (notes u signed) fresh = absurd (true≢false (sym fresh))
 fresh_before c v w (reads signed) fresh = absurd (signed (same_number (c.sign v.who) 0 fresh))
-fresh_before c v w keeps fresh = absurd (true≢false (sym fresh))
-fresh_before c v w misses fresh = absurd (true≢false (sym fresh))
 fresh_before c v w glances fresh = fresh
 fresh_before c v w pends fresh = fresh
-fresh_before c v w is_shut_out fresh = absurd (true≢false (sym fresh))
-fresh_before c v w steps fresh = absurd (true≢false (sym fresh))
+fresh_before c v w _ fresh = absurd (true≢false (sym fresh))
 
 -- the seat is in its call or at rest, whomever it has to wake
 abbrev pub IsPlaced : Scene → View → Type 0
@@ -135,14 +123,9 @@ pub record GoesOn (w : Scene) (x : Step) (made : View) : Type 0 where
   pub placed : IsPlaced (next w x) made
 
 woke_in_call : (w : Scene) (v : View) (us : List ℕ) (u : ℕ) → IsInCall w v us → IsInCall (next w (wakes v.who u)) v us
-woke_in_call w v us u i = record {
-  knows = i.knows;
-  acts = i.acts;
-  fresh = i.fresh;
-  uncancelled = i.uncancelled;
-  debts = λ x owed. ⊎_elim (λ paid. absurd (true≢false (sym paid.2))) (i.debts x)
-      (debt_was w.owes v.who u false v.who x owed);
-}
+woke_in_call w v us u i = call_stays w v us i (next w (wakes v.who u)) i.knows refl refl refl
+    (λ x owed. ⊎_elim (λ paid. absurd (true≢false (sym paid.2))) (λ old. old)
+    (debt_was w.owes v.who u false v.who x owed))
 
 in_call : (w : Scene) (v : View) → w.phase v.who ≡ acting → IsPlaced w v → (us : List ℕ) × IsInCall w v us
 in_call w v acts p = (p.0, ⊎_elim (λ i. i) (λ i. absurd (i.rests acts)) p.1)
@@ -224,12 +207,8 @@ same_who c _ v = refl
 -- a step keeps which seat it is
 made_who : (w : Scene) (x : Step) (v made : View) → MadeBy w x v made → made.who ≡ v.who
 made_who w (performs e) v made is = ap (λ (y : View). y.who) is ∙ same_who w.core e v
-made_who w (leaves_to_sleep s n heeds) v made is = ap (λ (y : View). y.who) is
 made_who w (finds_no_sign s) v made is = ⊎_elim (λ a. ap (λ (y : View). y.who) a) (λ a. ap (λ (y : View). y.who) a.1) is
-made_who w (finds_no_cancel s) v made is = ap (λ (y : View). y.who) is
-made_who w (wakes s u) v made is = ap (λ (y : View). y.who) is
-made_who w (falls_asleep s) v made is = ap (λ (y : View). y.who) is
-made_who w (rises s) v made is = ap (λ (y : View). y.who) is
+made_who w _ v made is = ap (λ (y : View). y.who) is
 
 -- ---- along a run
 
@@ -364,10 +343,7 @@ made_later w (leaves_to_sleep s m heeds) v made n k own may is inside still =
     ap (put w.core.guard m 0) same ∙ put_here w.core.guard m 0 in absurd (omega arith)
 made_later w (finds_no_sign s) v made n k own may is inside still =
     ⊎_elim (λ a. ap (λ (y : View). y.later) a) (λ a. ap (λ (y : View). y.later) a.1) is
-made_later w (finds_no_cancel s) v made n k own may is inside still = ap (λ (y : View). y.later) is
-made_later w (wakes s u) v made n k own may is inside still = ap (λ (y : View). y.later) is
-made_later w (falls_asleep s) v made n k own may is inside still = ap (λ (y : View). y.later) is
-made_later w (rises s) v made n k own may is inside still = ap (λ (y : View). y.later) is
+made_later w _ v made n k own may is inside still = ap (λ (y : View). y.later) is
 
 pub viewed_runs_ask : ViewedRunsAsk
 viewed_runs_ask kind locks seats scene step view run i j s n heeds before enters stands inside leaves first =

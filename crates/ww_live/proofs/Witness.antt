@@ -1,5 +1,5 @@
 -- In each kind a run that comes to a deadlock, and from there one that keeps all that is asked.
-use Rattle.std.proofs.Common.{◌≡◌, ◌≢◌, inl, inr, ⊎_elim, ℕ, suc, ◌<◌, ◌==◌, Bool, true, false, not, List, [], ◌∷◌, refl, sym, ap, ◌∙◌, subst, arith, true≢false}
+use Rattle.std.proofs.Common.{◌≡◌, ◌≢◌, inl, ⊎_elim, ℕ, suc, ◌<◌, ◌==◌, Bool, true, false, not, List, [], ◌∷◌, refl, sym, ap, ◌∙◌, subst, arith, true≢false}
 use Rattle.std.proofs.lemmas.Bool.{cases_Bool, cases_lt}
 use native.Mathlib.Decide.{ℕ_discrete}
 use Rattle.ww_queue.specs.declared.kind.Kind.{Kind}
@@ -25,6 +25,8 @@ use Rattle.ww_live.proofs.Runs.{phase_is}
 use Rattle.ww_live.proofs.Ending.{same_on}
 use Rattle.ww_live.proofs.Idle.{who_wants_none_rests}
 use Rattle.ww_live.proofs.Plain.{all_plain, all_owning, each_of_two, lead, reached_by, fits, fits_event, Goes, AtRest, goes_from, asks, backs, contended, ends_of}
+use Rattle.ww_model.specs.declared.state.Holder.{Holder}
+use Rattle.ww_live.proofs.Deadlocks.{are_deadlocked}
 
 -- The third seat begins, takes a lock and releases it, and then rests. The first and the second take a lock each. The first joins the list of the second's lock, wounds it in
 -- Wound-Wait, and falls asleep. Then the second joins the list of the first's lock: the two are deadlocked.
@@ -60,6 +62,13 @@ deadlocked kind = lead (sleeping kind) joins
 
 abbrev over : Kind → Scene
 over kind = lead (deadlocked kind) resolves
+
+-- the two as waiters
+abbrev older : Entry
+older = record { seat = 0; stamp = 2; holds = true }
+
+abbrev younger : Entry
+younger = record { seat = 1; stamp = 3; holds = true }
 
 -- ---- the steps may be made
 
@@ -98,7 +107,7 @@ may_leave WoundWait = record {
   possible = may (looked WoundWait).core (reached_is_orderly (looked WoundWait) (reached_looked WoundWait)).reached
       (Unguard 0 1)
       (passes_out WoundWait);
-  waits = (record { seat = 0; stamp = 2; holds = true }, inl refl, refl);
+  waits = (older, inl refl, refl);
   unsigned = λ _. refl;
   uncancelled = λ heeds. absurd (true≢false (sym heeds));
 }
@@ -106,7 +115,7 @@ may_leave WaitDie = record {
   acts = refl;
   possible = may (looked WaitDie).core (reached_is_orderly (looked WaitDie) (reached_looked WaitDie)).reached
       (Unguard 0 1) (passes_out WaitDie);
-  waits = (record { seat = 0; stamp = 2; holds = true }, inl refl, refl);
+  waits = (older, inl refl, refl);
   unsigned = λ _. refl;
   uncancelled = λ heeds. absurd (true≢false (sym heeds));
 }
@@ -146,22 +155,28 @@ reached_over kind = reached_by (deadlocked kind) (reached_deadlocked kind) resol
 
 -- ---- the deadlock
 
-are_deadlocked : (kind : Kind) → AreDeadlocked (deadlocked kind).core (0 ∷ 1 ∷ [])
+-- who owns the two locks and waits for them, where the first has no sign
+record IsLike (w : Scene) (owner_0 owner_1 : Holder) (list_0 list_1 : List Entry) : Type 0 where
+  first : w.core.owner 0 ≡ owner_0
+  second : w.core.owner 1 ≡ owner_1
+  list_first : w.core.queue 0 ≡ list_0
+  list_second : w.core.queue 1 ≡ list_1
+  locks : w.core.locks ≡ 2
+  sign : w.core.sign 0 ≡ 0
+
+is_dead : (kind : Kind) → IsLike (deadlocked kind) (Taken 0) (Taken 1) (younger ∷ []) (older ∷ [])
 unfolding put ℕ_discrete
-are_deadlocked WoundWait = record {
-  some = (0, inl refl);
-  stuck = λ s. ⊎_elim
-      (λ is. (1, inr (inl refl), (1, (record { seat = 0; stamp = 2; holds = true }, inl refl, sym is), refl)))
-      (⊎_elim (λ is. (0, inl refl, (0, (record { seat = 1; stamp = 3; holds = true }, inl refl, sym is), refl)))
-      (λ none. absurd none));
-}
-are_deadlocked WaitDie = record {
-  some = (0, inl refl);
-  stuck = λ s. ⊎_elim
-      (λ is. (1, inr (inl refl), (1, (record { seat = 0; stamp = 2; holds = true }, inl refl, sym is), refl)))
-      (⊎_elim (λ is. (0, inl refl, (0, (record { seat = 1; stamp = 3; holds = true }, inl refl, sym is), refl)))
-      (λ none. absurd none));
-}
+is_dead WoundWait =
+    record { first = refl; second = refl; list_first = refl; list_second = refl; locks = refl; sign = refl }
+is_dead WaitDie =
+    record { first = refl; second = refl; list_first = refl; list_second = refl; locks = refl; sign = refl }
+
+older_waits : (kind : Kind) → Stands ((deadlocked kind).core.queue 1) 0
+older_waits kind = (older, subst (λ q. Has q older) (sym (is_dead kind).list_second) (inl refl), refl)
+
+are_dead : (kind : Kind) → AreDeadlocked (deadlocked kind).core (0 ∷ 1 ∷ [])
+are_dead kind = let l = is_dead kind in are_deadlocked (deadlocked kind).core l.first l.second (older_waits kind)
+    (younger, subst (λ q. Has q younger) (sym l.list_first) (inl refl), refl)
 
 sleeps : (kind : Kind) → (deadlocked kind).phase 0 ≡ asleep
 unfolding put ℕ_discrete
@@ -188,31 +203,11 @@ older_is t = put_cases (put (put (λ _. 0) 2 1) 0 2) 1 3 t (λ k. 0 < k → k < 
     put_cases (put (λ _. 0) 2 1) 0 2 t (λ k. 0 < k → k < 2 → t ≡ 2) (λ _ some less. absurd (omega arith)) (λ _.
     put_cases (λ _. 0) 2 1 t (λ k. 0 < k → k < 2 → t ≡ 2) (λ is _ _. is) (λ _ some. absurd (omega arith))))
 
-owners_of : (kind : Kind) → ((deadlocked kind).core.owner 0 ≡ Taken 0) × ((deadlocked kind).core.owner 1 ≡ Taken 1)
-unfolding put ℕ_discrete
-owners_of WoundWait = (refl, refl)
-owners_of WaitDie = (refl, refl)
-
-lists_of : (kind : Kind) → ((deadlocked kind).core.queue 0 ≡ record { seat = 1; stamp = 3; holds = true } ∷ [])
-    × ((deadlocked kind).core.queue 1 ≡ record { seat = 0; stamp = 2; holds = true } ∷ [])
-unfolding put ℕ_discrete
-lists_of WoundWait = (refl, refl)
-lists_of WaitDie = (refl, refl)
-
-locks_of : (kind : Kind) → (deadlocked kind).core.locks ≡ 2
-locks_of WoundWait = refl
-locks_of WaitDie = refl
-
-sign_of : (kind : Kind) → (deadlocked kind).core.sign 0 ≡ 0
-unfolding put ℕ_discrete
-sign_of WoundWait = refl
-sign_of WaitDie = refl
-
 third_owns_none : (kind : Kind) → OwnsNone (deadlocked kind).core 2
 third_owns_none kind n own = let c = (deadlocked kind).core in
-    let o = reached_is_orderly (deadlocked kind) (reached_deadlocked kind) in let two = locks_of kind in ⊎_elim
-    (λ below. each_of_two (λ m. c.owner m ≢ Taken 2) (λ z. let y = (owners_of kind).0 in cc)
-    (λ z. let y = (owners_of kind).1 in cc) n below own)
+    let o = reached_is_orderly (deadlocked kind) (reached_deadlocked kind) in let two = (is_dead kind).locks in ⊎_elim
+    (λ below. each_of_two (λ m. c.owner m ≢ Taken 2) (λ z. let y = (is_dead kind).first in cc)
+    (λ z. let y = (is_dead kind).second in cc) n below own)
     (λ beyond. let none = (reached_is_lawful c o.reached).base.owners.beyond n (omega arith) in cc) (cases_lt n 2)
 
 alone : (q : List Entry) (x e : Entry) → q ≡ x ∷ [] → Has q e → e.seat ≡ x.seat
@@ -221,11 +216,11 @@ alone q x e is h = ⊎_elim (λ same. ap (λ (y : Entry). y.seat) same) (λ none
 
 third_waits_not : (kind : Kind) → InNoQueue (deadlocked kind).core 2
 third_waits_not kind n e h is = let c = (deadlocked kind).core in
-    let o = reached_is_orderly (deadlocked kind) (reached_deadlocked kind) in let two = locks_of kind in ⊎_elim
+    let o = reached_is_orderly (deadlocked kind) (reached_deadlocked kind) in let two = (is_dead kind).locks in ⊎_elim
     (λ below. each_of_two (λ m. Has (c.queue m) e → ⊥)
-    (λ a. let own = alone (c.queue 0) (record { seat = 1; stamp = 3; holds = true }) e (lists_of kind).0 a in
+    (λ a. let own = alone (c.queue 0) younger e (is_dead kind).list_first a in
     omega arith)
-    (λ a. let own = alone (c.queue 1) (record { seat = 0; stamp = 2; holds = true }) e (lists_of kind).1 a in
+    (λ a. let own = alone (c.queue 1) older e (is_dead kind).list_second a in
     omega arith) n below h)
     (λ beyond. subst (λ q. Has q e) (queues_beyond c o.reached n (omega arith)) h) (cases_lt n 2)
 
@@ -264,40 +259,24 @@ module _ (kind : Kind) (scene : ℕ → Scene) (step : ℕ → Step) (from : sce
       older = λ t some less. let its = stamp_is t in
           subst (λ u. RestsOn scene step u 0) (sym (older_is t (omega arith) (omega arith))) third_rests;
     };
-    unsigned = ap (λ (w : Scene). w.core.sign 0) from ∙ sign_of kind;
-    owns = (0, ap (λ (w : Scene). w.core.owner 0) from ∙ (owners_of kind).0);
-    waits = subst (λ (w : Scene). Stands (w.core.queue 1) 0) (sym from) (
-      record { seat = 0; stamp = 2; holds = true },
-      subst (λ q. Has q (record { seat = 0; stamp = 2; holds = true })) (sym (lists_of kind).1) (inl refl),
-      refl,
-    );
+    unsigned = ap (λ (w : Scene). w.core.sign 0) from ∙ (is_dead kind).sign;
+    owns = (0, ap (λ (w : Scene). w.core.owner 0) from ∙ (is_dead kind).first);
+    waits = subst (λ (w : Scene). Stands (w.core.queue 1) 0) (sym from) (older_waits kind);
   }
 
 -- ---- the rest
 
-owners_over : (kind : Kind) → ((over kind).core.owner 0 ≡ Nobody) × ((over kind).core.owner 1 ≡ Nobody)
+is_over : (kind : Kind) → IsLike (over kind) Nobody Nobody [] []
 unfolding put ℕ_discrete
-owners_over WoundWait = (refl, refl)
-owners_over WaitDie = (refl, refl)
-
-lists_over : (kind : Kind) → ((over kind).core.queue 0 ≡ []) × ((over kind).core.queue 1 ≡ [])
-unfolding put ℕ_discrete
-lists_over WoundWait = (refl, refl)
-lists_over WaitDie = (refl, refl)
+is_over WoundWait =
+    record { first = refl; second = refl; list_first = refl; list_second = refl; locks = refl; sign = refl }
+is_over WaitDie =
+    record { first = refl; second = refl; list_first = refl; list_second = refl; locks = refl; sign = refl }
 
 guards_over : (kind : Kind) → ((over kind).core.guard 0 ≡ 0) × ((over kind).core.guard 1 ≡ 0)
 unfolding put ℕ_discrete
 guards_over WoundWait = (refl, refl)
 guards_over WaitDie = (refl, refl)
-
-locks_over : (kind : Kind) → (over kind).core.locks ≡ 2
-locks_over WoundWait = refl
-locks_over WaitDie = refl
-
-sign_over : (kind : Kind) → (over kind).core.sign 0 ≡ 0
-unfolding put ℕ_discrete
-sign_over WoundWait = refl
-sign_over WaitDie = refl
 
 none_at_first : (a b : ℕ) → no_debts a b ≢ true
 none_at_first a b is = true≢false (sym is)
@@ -310,10 +289,10 @@ debts_over WaitDie s v is = none_left no_debts 1 0 none_at_first s v is
 at_rest : (kind : Kind) → AtRest (over kind)
 at_rest kind = let w = over kind in let c = w.core in let o = reached_is_orderly w (reached_over kind) in
     let l = reached_is_lawful c o.reached in
-    let two = locks_over kind in record {
+    let two = (is_over kind).locks in record {
       owner = λ n s own. ⊎_elim
-          (λ below. each_of_two (λ m. c.owner m ≢ Taken s) (λ z. let y = (owners_over kind).0 in cc)
-          (λ z. let y = (owners_over kind).1 in cc) n below own)
+          (λ below. each_of_two (λ m. c.owner m ≢ Taken s) (λ z. let y = (is_over kind).first in cc)
+          (λ z. let y = (is_over kind).second in cc) n below own)
           (λ beyond. let none = l.base.owners.beyond n (omega arith) in cc) (cases_lt n 2);
       queue = empty kind;
       guard = λ n s inside. let at = (guards_are c o.reached s n inside).lock in
@@ -324,13 +303,13 @@ at_rest kind = let w = over kind in let c = w.core in let o = reached_is_orderly
           (no_rest kind s (⊎_elim (λ z y. let q : ⊥ = cc in q) (λ z y. let q : ⊥ = cc in q) other)))
           (phase_is (w.phase s));
       debts = debts_over kind;
-      sign = sign_over kind;
+      sign = (is_over kind).sign;
     }
   where
     empty : (kind : Kind) (n : ℕ) → (over kind).core.queue n ≡ []
     empty kind n = let c = (over kind).core in let o = reached_is_orderly (over kind) (reached_over kind) in
-        let two = locks_over kind in ⊎_elim
-        (λ below. each_of_two (λ m. c.queue m ≡ []) (lists_over kind).0 (lists_over kind).1 n below)
+        let two = (is_over kind).locks in ⊎_elim
+        (λ below. each_of_two (λ m. c.queue m ≡ []) (is_over kind).list_first (is_over kind).list_second n below)
         (λ beyond. queues_beyond c o.reached n (omega arith)) (cases_lt n 2)
 
     no_rest : (kind : Kind) (s : ℕ) → (over kind).phase s ≢ acting → ⊥
@@ -351,7 +330,7 @@ deadlocks_are_reached kind = let g = goes_from (deadlocked kind) (reached_deadlo
       backs = backs g.scene g.step g.goes;
       asks = asks g.scene g.step g.goes;
       seats = 0 ∷ 1 ∷ [];
-      deadlocked = subst (λ (w : Scene). AreDeadlocked w.core (0 ∷ 1 ∷ [])) (sym g.from) (are_deadlocked kind);
+      deadlocked = subst (λ (w : Scene). AreDeadlocked w.core (0 ∷ 1 ∷ [])) (sym g.from) (are_dead kind);
       sleeper = (0, inl refl, ap (λ (w : Scene). w.phase 0) g.from ∙ sleeps kind);
       oldest = is_oldest kind g.scene g.step g.from g.goes;
       rester = rests_for_ever kind g.scene g.step g.from g.goes;

@@ -9,7 +9,7 @@ use Rattle.ww_queue.proofs.Joins.{joined_has, joined_old}
 use Rattle.ww_queue.proofs.Leaves.{left_has, left_others}
 use Rattle.ww_model.specs.declared.state.Holder.TheVariants.{Nobody, Taken, Handed}
 use Rattle.ww_model.specs.declared.event.Event.{Event}
-use Rattle.ww_model.specs.declared.event.Event.TheVariants.{Begin, Clear, Fast, FastGive, Guard, Join, Sign, Take, Ask, Give, Die, Unguard, Commit, End, Leave, Cancel, Heed}
+use Rattle.ww_model.specs.declared.event.Event.TheVariants.{Begin, Clear, Fast, FastGive, Guard, Join, Sign, Take, Ask, Give, Die, Unguard, End, Leave, Cancel, Heed}
 use Rattle.ww_model.specs.State.{State, waiter_of, word_of, owes, place_of}
 use Rattle.ww_model.specs.Event.{BasePossible, Possible, after, actor, given_to, still_asked}
 use Rattle.ww_model.specs.Lawful.{IsBase, IsLawful}
@@ -139,13 +139,7 @@ word_stays c (Leave s n) t m can l other in_m some = let d = after c (Leave s n)
     let far = apart c.guard s t n m other can.inside.guard in_m in
     same_word c d (c.owner m) (c.owner m) (d.asked m) (c.asked m) (d.queue m) (c.queue m)
     refl refl (put_else c.asked n (still_asked (left (c.queue n) s) (c.asked n)) m far) (put_else c.queue n (left (c.queue n) s) m far)
-word_stays c (Clear s) t m can l other in_m some = refl
-word_stays c (Guard s n) t m can l other in_m some = refl
-word_stays c (Sign s u) t m can l other in_m some = refl
-word_stays c (Unguard s n) t m can l other in_m some = refl
-word_stays c (Commit s) t m can l other in_m some = refl
-word_stays c (Cancel s v) t m can l other in_m some = refl
-word_stays c (Heed s n) t m can l other in_m some = refl
+word_stays c _ t m can l other in_m some = refl
 
 -- a seat that is owed a sign after the event was owed one before
 pub owes_stays : (c : State) (e : Event) (t m u k : ℕ) → Possible c e → IsLawful c → actor e ≢ t → c.guard m ≡ suc t

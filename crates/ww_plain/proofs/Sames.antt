@@ -8,7 +8,7 @@ use Rattle.std.proofs.lemmas.Slice.Eq.{slice_eq-Decides}
 use Rattle.ww_plain.specs.declared.node.Node.{Node}
 use Rattle.ww_plain.specs.declared.transaction.By.TheVariants.{List as AlongList, Order}
 use Rattle.ww_plain.specs.declared.transaction.Txn.{Txn}
-use Rattle.ww_plain.specs.declared.transaction.Txn.TheVariants.{Get, Add, Move, Link, Sum, Reverse, Peek}
+use Rattle.ww_plain.specs.declared.transaction.Txn.TheVariants.{Add}
 use Rattle.ww_plain.specs.declared.reply.Reply.{Reply}
 use Rattle.ww_plain.specs.declared.history.Record.{Record}
 use Rattle.ww_plain.specs.contracts.node.NodePartialEq.TheImpl as of_node
@@ -45,27 +45,13 @@ amounts_in (add by amounts) = amounts
 amounts_in txn = []
 
 txn_alike : (a b : Txn) → Decides (of_txn.ghosts.eq a b) (transaction_of a ≡ transaction_of b)
-txn_alike (Get AlongList ns) b = search rules
-txn_alike (Get Order ns) b = search rules
 txn_alike (Add AlongList ps) (Add AlongList qs) =
     Decides-like _ (λ same. ap (add AlongList) same) (λ e. ap amounts_in e)
     (slice_eq-Decides pair_alike ps.items qs.items _ refl)
 txn_alike (Add Order ps) (Add Order qs) =
     Decides-like _ (λ same. ap (add Order) same) (λ e. ap amounts_in e)
     (slice_eq-Decides pair_alike ps.items qs.items _ refl)
-txn_alike (Add AlongList ps) (Add Order qs) = search rules
-txn_alike (Add Order ps) (Add AlongList qs) = search rules
-txn_alike (Add by ps) (Get way ns) = search rules
-txn_alike (Add by ps) (Move from to amount) = search rules
-txn_alike (Add by ps) (Link node port target) = search rules
-txn_alike (Add by ps) (Sum start port most) = search rules
-txn_alike (Add by ps) (Reverse start port most) = search rules
-txn_alike (Add by ps) (Peek node) = search rules
-txn_alike (Move from to amount) b = search rules
-txn_alike (Link node port target) b = search rules
-txn_alike (Sum start port most) b = search rules
-txn_alike (Reverse start port most) b = search rules
-txn_alike (Peek node) b = search rules
+txn_alike a b = search rules
 
 pub txn_same : (a b : Txn) (r : Bool) → r ≡ of_txn.ghosts.eq a b → Decides r (transaction_of a ≡ transaction_of b)
 txn_same a b r is = Decides-at _ _ is (txn_alike a b)

@@ -6,8 +6,6 @@ use Rattle.ww_word.specs.Owner.{with_waiters}
 use Rattle.ww_word.specs.AnySeats.{IsValid, packed}
 use Rattle.ww_queue.specs.declared.kind.Kind.{Kind}
 use Rattle.ww_queue.specs.declared.kind.Kind.TheVariants.{WoundWait, WaitDie}
-use Rattle.ww_queue.specs.Queue.{Stands}
-use Rattle.ww_model.specs.declared.state.Holder.TheVariants.{Taken}
 use Rattle.ww_model.specs.declared.event.Event.TheVariants.{Die}
 use Rattle.ww_model.specs.State.{State, put}
 use Rattle.ww_view.specs.Word.{rest_word}
@@ -27,7 +25,8 @@ use Rattle.ww_runs.specs.Plays.{Moved}
 use Rattle.ww_runs.specs.Deadlocks.{IsScheduledThere, HasDeadlockThere, DeadlocksAreInEndlessRuns}
 use Rattle.ww_runs.proofs.Standstill.{idles}
 use Rattle.ww_runs.proofs.Small.{least, small, owner, AtWith, after_event, moves_there, part_there, word_there}
-use Rattle.ww_runs.proofs.Deadlocked.{first_not_second, younger_waits, out, aged_out, wounded_out, b_4, b_5, dying_12, wound_15, core_wound, core_dying, core_dead, at_dying_12, at_wound_15, sleeping, heeding}
+use Rattle.ww_runs.proofs.Deadlocked.{first_not_second, younger_waits, out, aged_out, wounded_out, b_4, b_5, dying_12, wound_15, core_wound, core_dying, core_dead, at_dying_12, at_wound_15, heeding}
+use Rattle.ww_live.proofs.Deadlocks.{are_deadlocked}
 
 -- ---- what holds as long as nothing more happens
 
@@ -41,9 +40,9 @@ pub record IsPending {kind : Kind} (m : Moment (small kind)) (waits : ℕ) : Typ
   pub naps : (view m 1).naps ≡ 0
   pub stands : (view m 1).waits ≡ waits
 
-module _ {kind : Kind} {table : St} {core : State} {given : ℕ → ℕ → ℕ} {has : ℕ → Bool}
-    (a : AtWith (small kind) table core given has sleeping heeding) (v w : Sight)
-    (first : v.part ≡ a.moment.part 0) (second : w.part ≡ a.moment.part 1) (no_token : has 0 ≡ false)
+module _ {kind : Kind} {table : St} {core : State} {given : ℕ → ℕ → ℕ} {has sleeps heeds : ℕ → Bool}
+    (a : AtWith (small kind) table core given has sleeps heeds) (v w : Sight) (first : v.part ≡ a.moment.part 0)
+    (second : w.part ≡ a.moment.part 1) (sleeper : sleeps 0 ≡ true) (awake : sleeps 1 ≡ false) (no_token : has 0 ≡ false)
     (paid_0 : given 0 0 ≡ wakes_owed v.part 0) (paid_1 : given 0 1 ≡ wakes_owed v.part 1)
     (owes_none : (u : ℕ) → wakes_owed w.part u ≡ 0)
     (outside : v.part.core.inside ≡ 0) (naps : w.part.core.naps ≡ 0) where
@@ -58,10 +57,9 @@ module _ {kind : Kind} {table : St} {core : State} {given : ℕ → ℕ → ℕ}
   nothing_owed (suc (suc s)) u h = let low = h.waker in omega arith
 
   pub is_pending : (waits : ℕ) → w.part.core.waits ≡ waits → IsPending a.moment waits
-  unfolding put ℕ_discrete
   is_pending waits stands = record {
-    sleeps = ap (λ (f : ℕ → Bool). f 0) a.asleep;
-    awake = ap (λ (f : ℕ → Bool). f 1) a.asleep;
+    sleeps = ap (λ (f : ℕ → Bool). f 0) a.asleep ∙ sleeper;
+    awake = ap (λ (f : ℕ → Bool). f 1) a.asleep ∙ awake;
     no_token = ap (λ (f : ℕ → Bool). f 0) a.token ∙ no_token;
     unowed = nothing_owed;
     outside = ap (λ (p : Part). p.core.inside) (sym first) ∙ outside;
@@ -147,15 +145,6 @@ module _ {kind : Kind} {m m' m'' : Moment (small kind)} {x : Option Step} (d : I
 pub is_valid : IsValid (with_waiters owner)
 is_valid = record { seating = inl (omega arith, omega arith); flags = inr (inl refl) }
 
--- each stands in the list of the lock that the other has
-pub are_deadlocked : (c : State) → c.owner 0 ≡ Taken 0 → c.owner 1 ≡ Taken 1 → Stands (c.queue 1) 0 → Stands (c.queue 0) 1 →
-    AreDeadlocked c (0 ∷ 1 ∷ [])
-are_deadlocked c has_0 has_1 waits_0 waits_1 = record {
-  some = (0, inl refl);
-  stuck = λ s. ⊎_elim (λ is. (1, inr (inl refl), (1, subst (Stands (c.queue 1)) (sym is) waits_0, has_1)))
-      (⊎_elim (λ is. (0, inl refl, (0, subst (Stands (c.queue 0)) (sym is) waits_1, has_0))) (λ none. absurd none));
-}
-
 -- in Wait-Die
 abbrev dying_me : Sat
 dying_me = (b_4 WaitDie, out 0 younger_waits)
@@ -215,13 +204,13 @@ deadlocks_are_in_endless_runs WaitDie = let a = at_dying_12 in let moved = dying
     (λ i. stepped (a.is_table i) (owner_at least 0) (packed (rest_word [] (with_waiters owner))) 0 (out 0 younger_waits) died
     keeps) moved.follows.makes heeding (moved.follows.heeds ∙ a.heeding) in
     let then = is_pending after aged_out died (part_there after 1 (aged_out, []) refl refl (omega arith))
-    (part_there after 0 (died, []) refl refl (omega arith)) refl refl refl (λ u. refl) refl refl 0 refl in
+    (part_there after 0 (died, []) refl refl (omega arith)) refl refl refl refl refl (λ u. refl) refl refl 0 refl in
     has_deadlock {m = a.moment} {m' = moved.moment} {m'' = moved.moment} {x = None} (record {
       run = a.run;
       dies = moved.follows;
       goes_on = idles moved.moment;
       before = is_pending a aged_out (b_4 WaitDie) (part_there a 1 (aged_out, []) refl refl (omega arith))
-          (part_there a 0 dying_me refl refl (omega arith)) refl refl refl (λ u. refl) refl refl 1 refl;
+          (part_there a 0 dying_me refl refl (omega arith)) refl refl refl refl refl (λ u. refl) refl refl 1 refl;
       then = then;
       at_last = then;
       inside = ap (λ (p : Part). p.core.inside) (sym (part_there a 0 dying_me refl refl (omega arith)));
@@ -233,13 +222,13 @@ deadlocks_are_in_endless_runs WoundWait = let a = at_wound_15 in let moved = wou
     (λ i. stepped (a.is_table i) (owner_at least 0) (packed (rest_word [] (with_waiters owner))) 0 (out 0 younger_waits) fell
     keeps) moved.follows.makes heeding (moved.follows.heeds ∙ a.heeding) in
     let then = is_pending after wounded_out fell (part_there after 1 (wounded_out, []) refl refl (omega arith))
-    (part_there after 0 (fell, []) refl refl (omega arith)) refl refl refl (λ u. refl) refl refl 0 refl in
+    (part_there after 0 (fell, []) refl refl (omega arith)) refl refl refl refl refl (λ u. refl) refl refl 0 refl in
     has_deadlock {m = a.moment} {m' = moved.moment} {m'' = moved.moment} {x = None} (record {
       run = a.run;
       dies = moved.follows;
       goes_on = idles moved.moment;
       before = is_pending a wounded_out b_5 (part_there a 1 (wounded_out, []) refl refl (omega arith))
-          (part_there a 0 wounded_me refl refl (omega arith)) refl refl refl (λ u. refl) refl refl 1 refl;
+          (part_there a 0 wounded_me refl refl (omega arith)) refl refl refl refl refl (λ u. refl) refl refl 1 refl;
       then = then;
       at_last = then;
       inside = ap (λ (p : Part). p.core.inside) (sym (part_there a 0 wounded_me refl refl (omega arith)));

@@ -48,15 +48,7 @@ module _ {key : Start} (m : Moment key) (id : ℕ) (me : Sat) (here : get_elem? 
   -- it only read a word
   found : (u : View) (i : ℕ) → IsFound m id me i u → (u.inside ≡ v.inside) × (u.waits ≡ v.waits) × (u.naps ≡ v.naps)
   found _ _ (play.looks n o is valid hit) = (refl, refl, refl)
-  found _ _ (play.glances i) = (refl, refl, refl)
-  found _ _ (play.tells_nothing i) = (refl, refl, refl)
-  found _ _ (play.is_signed isnt) = (refl, refl, refl)
-  found _ _ (play.signed_already x low isnt) = (refl, refl, refl)
-  found _ _ (play.pending_already i) = (refl, refl, refl)
-  found _ _ (play.misses i) = (refl, refl, refl)
-  found _ _ (play.keeps_it i) = (refl, refl, refl)
-  found _ _ (play.is_shut_out i) = (refl, refl, refl)
-  found _ _ (play.loses i) = (refl, refl, refl)
+  found _ _ _ = (refl, refl, refl)
 
   -- an event but an exit in order to sleep
   event : (x : Option Step) (w : Sight) → is_to_sleep x ≡ false → is_event x ≡ true → w.part.core.naps ≡ v.naps

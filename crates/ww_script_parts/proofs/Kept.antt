@@ -76,15 +76,12 @@ module _ (ranges : Ranges) (few : ranges.ports ≤ PORTS) where
   add_kept (a ∷ b ∷ c ∷ ds) t e = absurd cc
 
   move_kept : (ds : List Data) (t : Transaction) → move_of ranges.nodes ds ≡ Ok t → IsLocking t
-  move_kept [] t e = absurd cc
-  move_kept (a ∷ []) t e = absurd cc
-  move_kept (a ∷ b ∷ []) t e = absurd cc
   move_kept (a ∷ b ∷ c ∷ []) t e =
       let m = bind_ok (below ranges.nodes a) _ t e in
       let n = bind_ok (below ranges.nodes b) _ t m.2 in
       let k = bind_ok (number c) (λ k. let r : Result Transaction InputFault = Ok (move m.0 n.0 k) in r) t n.2 in
       subst IsLocking (ok_is (move m.0 n.0 k.0) t k.2) (((below_kept ranges.nodes a m.0 m.1, below_kept ranges.nodes b n.0 n.1), tt), tt)
-  move_kept (a ∷ b ∷ c ∷ d ∷ ds) t e = absurd cc
+  move_kept _ t e = absurd cc
 
   target_kept : (d : Data) (p : Option ℕ) → target_in ranges.nodes d ≡ Ok p → IsPort ranges.nodes p
   unfolding target_in
@@ -96,9 +93,6 @@ module _ (ranges : Ranges) (few : ranges.ports ≤ PORTS) where
       subst (IsPort ranges.nodes) (ok_is (Some a.0) p a.2) (below_kept ranges.nodes d a.0 a.1)) e
 
   link_kept : (ds : List Data) (t : Transaction) → link_of ranges ds ≡ Ok t → IsLocking t
-  link_kept [] t e = absurd cc
-  link_kept (a ∷ []) t e = absurd cc
-  link_kept (a ∷ b ∷ []) t e = absurd cc
   link_kept (a ∷ b ∷ c ∷ []) t e =
       let n = bind_ok (below ranges.nodes a) _ t e in
       let p = bind_ok (below ranges.ports b) _ t n.2 in
@@ -106,16 +100,13 @@ module _ (ranges : Ranges) (few : ranges.ports ≤ PORTS) where
       let port = below_kept ranges.ports b p.0 p.1 in
       subst IsLocking (ok_is (link n.0 p.0 k.0) t k.2)
       (((below_kept ranges.nodes a n.0 n.1, omega (arith, few, port), target_kept c k.0 k.1), port), tt)
-  link_kept (a ∷ b ∷ c ∷ d ∷ ds) t e = absurd cc
+  link_kept _ t e = absurd cc
 
   -- a walk's start, port and length are those of a course, and the port is in range
   abbrev IsCourseWithin : ℕ × ℕ × ℕ → Type 0
   IsCourseWithin c = IsCourse ranges.nodes c.0 c.1 c.2 × (c.1 < ranges.ports)
 
   course_kept : (ds : List Data) (c : ℕ × ℕ × ℕ) → course_of ranges ds ≡ Ok c → IsCourseWithin c
-  course_kept [] k e = absurd cc
-  course_kept (a ∷ []) k e = absurd cc
-  course_kept (a ∷ b ∷ []) k e = absurd cc
   course_kept (a ∷ b ∷ c ∷ []) k e =
       let s = bind_ok (below ranges.nodes a) _ k e in
       let p = bind_ok (below ranges.ports b) _ k s.2 in
@@ -125,7 +116,7 @@ module _ (ranges : Ranges) (few : ranges.ports ≤ PORTS) where
       let port = below_kept ranges.ports b p.0 p.1 in
       subst IsCourseWithin (ok_is made k n.2)
       (record { starts = below_kept ranges.nodes a s.0 s.1; port = omega (arith, few, port); some = w.0; few = w.1 }, port)
-  course_kept (a ∷ b ∷ c ∷ d ∷ ds) k e = absurd cc
+  course_kept _ k e = absurd cc
 
   sum_kept : (ds : List Data) (t : Transaction) → sum_of ranges ds ≡ Ok t → IsLocking t
   unfolding sum_of

@@ -2,7 +2,7 @@
 use Rattle.std.proofs.Common.{ℕ, ◌≤◌, inl, inr, List, [], ◌∷◌, arith}
 use Rattle.std.specs.List.{AllByRecursion}
 use Rattle.ww_plain.specs.declared.node.TheConstants.{PORTS}
-use Rattle.ww_plain.specs.Transaction.{Transaction, get, add, move, link, sum, reverse, peek, NamesBelow}
+use Rattle.ww_plain.specs.Transaction.{Transaction, link, sum, reverse, NamesBelow}
 use Rattle.ww_script_parts.specs.Versions.{ArePorts}
 use Rattle.ww_script_parts.specs.Acts.{Action, does, interruptible, cancels, IsActWithin}
 use Rattle.ww_script_parts.specs.Scripts.{IsScript, ranges_of}
@@ -20,13 +20,10 @@ ports_few ports are = elim are [
 
 module _ (few many : ℕ) (le : few ≤ many) where
   names_more : (txn : Transaction) → NamesBelow few txn → NamesBelow many txn
-  names_more (get by nodes) names = tt
-  names_more (add by amounts) names = tt
-  names_more (move from to amount) names = tt
   names_more (link node port target) names = omega (arith, names, le)
   names_more (sum start port length) names = omega (arith, names, le)
   names_more (reverse start port length) names = omega (arith, names, le)
-  names_more (peek node) names = tt
+  names_more _ names = tt
 
   suits_more : (nodes scripts : ℕ) (deed : Action) → IsActWithin (ranges_of nodes few scripts) deed → IsActWithin (ranges_of nodes many scripts) deed
   suits_more nodes scripts (does txn) suits = (suits.0, names_more txn suits.1)

@@ -6,7 +6,7 @@ use Rattle.std.specs.Prelude.{slice_get}
 use Rattle.ww_queue.specs.declared.entry.Entry.{Entry}
 use Rattle.ww_queue.specs.Queue.{Has}
 use Rattle.ww_model.specs.declared.event.Event.{Event}
-use Rattle.ww_model.specs.declared.event.Event.TheVariants.{Begin, Clear, Fast, FastGive, Guard, Join, Sign, Take, Ask, Give, Die, Unguard, Commit, End, Cancel, Heed, Leave}
+use Rattle.ww_model.specs.declared.event.Event.TheVariants.{Begin, Guard, Unguard, Commit, Cancel}
 use Rattle.ww_model.specs.State.{State}
 use Rattle.ww_model.specs.Event.{actor}
 use Rattle.ww_model.proofs.Puts.{put_here, put_else}
@@ -20,9 +20,10 @@ use Rattle.ww_view.proofs.Others.{others_know}
 use Rattle.ww_view.proofs.Shows.{shows_exit}
 use Rattle.ww_view.proofs.Inside.{mine_read, mine_read_none, mine_uncancelled}
 use Rattle.ww_wakes.specs.Scene.{Scene, acting, going_to_sleep, asleep, performs, leaves_to_sleep, finds_no_sign, finds_no_cancel, wakes, falls_asleep, rises, first_of, uncancelled_after, woken_by, next, goes_on}
-use Rattle.ww_wakes.specs.Ties.{also, ShownIsAStep, LeavingIsAStep, SignLookIsAStep, CancelLookIsAStep, OthersLeaveCallsAlone, ViewsTellWhomToWake, WakersMaySleep}
+use Rattle.ww_wakes.specs.Ties.{also, ShownIsAStep, LeavingIsAStep, SignLookIsAStep, CancelLookIsAStep, OthersLeaveCallsAlone, ViewsTellWhomToWake, WakersMaySleep, IsInCall}
 use Rattle.ww_wakes.proofs.Woken.{another_was, owing_was, debt_was, debt_here}
 use Rattle.ww_wakes.proofs.Keeping.{reached_is_orderly}
+use Rattle.ww_view.specs.View.{Knows}
 
 -- ---- own events
 
@@ -30,21 +31,7 @@ use Rattle.ww_wakes.proofs.Keeping.{reached_is_orderly}
 not_fresh : (c : State) (e : Event) (v : View) → Shows c v e → (view_after c e v).inside ≢ 0 → (view_after c e v).fresh ≡ true → ⊥
 not_fresh c (Commit s) v h inside fresh = inside h.0.0
 not_fresh c (Cancel s u) v h inside fresh = inside h.0.0
-not_fresh c (Begin s) v h inside fresh = true≢false (sym fresh)
-not_fresh c (Clear s) v h inside fresh = true≢false (sym fresh)
-not_fresh c (Fast s n) v h inside fresh = true≢false (sym fresh)
-not_fresh c (FastGive s n) v h inside fresh = true≢false (sym fresh)
-not_fresh c (Guard s n) v h inside fresh = true≢false (sym fresh)
-not_fresh c (Join s n) v h inside fresh = true≢false (sym fresh)
-not_fresh c (Sign s u) v h inside fresh = true≢false (sym fresh)
-not_fresh c (Take s n) v h inside fresh = true≢false (sym fresh)
-not_fresh c (Ask s n) v h inside fresh = true≢false (sym fresh)
-not_fresh c (Give s n) v h inside fresh = true≢false (sym fresh)
-not_fresh c (Die s n) v h inside fresh = true≢false (sym fresh)
-not_fresh c (Unguard s n) v h inside fresh = true≢false (sym fresh)
-not_fresh c (End s) v h inside fresh = true≢false (sym fresh)
-not_fresh c (Heed s n) v h inside fresh = true≢false (sym fresh)
-not_fresh c (Leave s n) v h inside fresh = true≢false (sym fresh)
+not_fresh c _ v h inside fresh = true≢false (sym fresh)
 
 -- only a look at the own cancel makes the view say that it found none, and who cancels is inside no guard
 still_uncancelled : (w : Scene) (e : Event) (v : View) → Shows w.core v e
@@ -53,20 +40,7 @@ still_uncancelled : (w : Scene) (e : Event) (v : View) → Shows w.core v e
 still_uncancelled w (Guard s n) v h had inside none = absurd (true≢false (sym none))
 still_uncancelled w (Cancel s u) v h had inside none = absurd (inside h.0.0)
 still_uncancelled w (Unguard s n) v h had inside none = absurd (inside refl)
-still_uncancelled w (Begin s) v h had inside none = had inside none
-still_uncancelled w (Clear s) v h had inside none = had inside none
-still_uncancelled w (Fast s n) v h had inside none = had inside none
-still_uncancelled w (FastGive s n) v h had inside none = had inside none
-still_uncancelled w (Join s n) v h had inside none = had inside none
-still_uncancelled w (Sign s u) v h had inside none = had inside none
-still_uncancelled w (Take s n) v h had inside none = had inside none
-still_uncancelled w (Ask s n) v h had inside none = had inside none
-still_uncancelled w (Give s n) v h had inside none = had inside none
-still_uncancelled w (Die s n) v h had inside none = had inside none
-still_uncancelled w (Commit s) v h had inside none = had inside none
-still_uncancelled w (End s) v h had inside none = had inside none
-still_uncancelled w (Heed s n) v h had inside none = had inside none
-still_uncancelled w (Leave s n) v h had inside none = had inside none
+still_uncancelled w _ v h had inside none = had inside none
 
 same_who : (c : State) (e : Event) (v : View) → (view_after c e v).who ≡ v.who
 same_who c (Begin s) v = refl
@@ -149,57 +123,42 @@ others_uncancelled : (found : ℕ → Bool) (e : Event) (s : ℕ) → actor e �
 others_uncancelled found (Cancel s u) t other = put_else found s false t (λ is. other (sym is))
 others_uncancelled found _ t other = refl
 
+-- a scene in which the seat finds what it found, and has nobody more to wake, leaves it in its call
+module _ (w : Scene) (v : View) (us : List ℕ) (i : IsInCall w v us) where
+  pub call_stays : (w' : Scene) → Knows w'.core v → w'.phase v.who ≡ w.phase v.who →
+      w'.found_no_sign v.who ≡ w.found_no_sign v.who → w'.found_no_cancel v.who ≡ w.found_no_cancel v.who →
+      ((u : ℕ) → w'.owes v.who u ≡ true → w.owes v.who u ≡ true) → IsInCall w' v us
+  call_stays w' knows phase sign cancel owes = record {
+    knows = knows;
+    acts = phase ∙ i.acts;
+    fresh = λ inside fresh. sign ∙ i.fresh inside fresh;
+    uncancelled = λ inside none. cancel ∙ i.uncancelled inside none;
+    debts = λ u owed. i.debts u (owes u owed);
+  }
+
 pub others_leave_calls_alone : OthersLeaveCallsAlone
-others_leave_calls_alone w (performs e) v to_wake r may other i = let c = w.core in record {
-  knows = others_know c e v (reached_is_lawful c (reached_is_orderly w r).reached) may.possible other i.knows;
-  acts = i.acts;
-  fresh = λ inside fresh. put_else w.found_no_sign (actor e) false v.who (λ is. other (sym is)) ∙ i.fresh inside fresh;
-  uncancelled = λ inside none. others_uncancelled w.found_no_cancel e v.who other ∙ i.uncancelled inside none;
-  debts = λ u owed. ⊎_elim (λ new. absurd (other (sym new.0))) (i.debts u) (owing_was w.owes (actor e) (woken_by c e) v.who u owed);
-}
-others_leave_calls_alone w (leaves_to_sleep s n heeds) v to_wake r may other i = let c = w.core in record {
-  knows = others_know c (Unguard s n) v (reached_is_lawful c (reached_is_orderly w r).reached) may.possible other i.knows;
-  acts = put_else w.phase s going_to_sleep v.who (λ is. other (sym is)) ∙ i.acts;
-  fresh = i.fresh;
-  uncancelled = i.uncancelled;
-  debts = i.debts;
-}
-others_leave_calls_alone w (finds_no_sign s) v to_wake r may other i = record {
-  knows = i.knows;
-  acts = i.acts;
-  fresh = λ inside fresh. put_else w.found_no_sign s true v.who (λ is. other (sym is)) ∙ i.fresh inside fresh;
-  uncancelled = i.uncancelled;
-  debts = i.debts;
-}
-others_leave_calls_alone w (finds_no_cancel s) v to_wake r may other i =
-    record {
-      knows = i.knows;
-      acts = i.acts;
-      fresh = i.fresh;
-      uncancelled = λ inside none. put_else w.found_no_cancel s true v.who (λ is. other (sym is)) ∙ i.uncancelled inside none;
-      debts = i.debts;
-    }
-others_leave_calls_alone w (wakes s x) v to_wake r may other i = record {
-  knows = i.knows;
-  acts = i.acts;
-  fresh = i.fresh;
-  uncancelled = i.uncancelled;
-  debts = λ u owed. ⊎_elim (λ paid. absurd (true≢false (sym paid.2))) (i.debts u) (debt_was w.owes s x false v.who u owed);
-}
-others_leave_calls_alone w (falls_asleep s) v to_wake r may other i = record {
-  knows = i.knows;
-  acts = put_else w.phase s asleep v.who (λ is. other (sym is)) ∙ i.acts;
-  fresh = i.fresh;
-  uncancelled = i.uncancelled;
-  debts = i.debts;
-}
-others_leave_calls_alone w (rises s) v to_wake r may other i = record {
-  knows = i.knows;
-  acts = put_else w.phase s acting v.who (λ is. other (sym is)) ∙ i.acts;
-  fresh = λ inside fresh. put_else w.found_no_sign s false v.who (λ is. other (sym is)) ∙ i.fresh inside fresh;
-  uncancelled = λ inside none. put_else w.found_no_cancel s false v.who (λ is. other (sym is)) ∙ i.uncancelled inside none;
-  debts = i.debts;
-}
+others_leave_calls_alone w (performs e) v us r may other i = let c = w.core in
+    call_stays w v us i (next w (performs e))
+    (others_know c e v (reached_is_lawful c (reached_is_orderly w r).reached) may.possible other i.knows)
+    refl (put_else w.found_no_sign (actor e) false v.who (λ is. other (sym is)))
+    (others_uncancelled w.found_no_cancel e v.who other)
+    (λ u owed. ⊎_elim (λ new. absurd (other (sym new.0))) (λ old. old) (owing_was w.owes (actor e) (woken_by c e) v.who u owed))
+others_leave_calls_alone w (leaves_to_sleep s n heeds) v us r may other i = let c = w.core in
+    call_stays w v us i (next w (leaves_to_sleep s n heeds))
+    (others_know c (Unguard s n) v (reached_is_lawful c (reached_is_orderly w r).reached) may.possible other i.knows)
+    (put_else w.phase s going_to_sleep v.who (λ is. other (sym is))) refl refl (λ u owed. owed)
+others_leave_calls_alone w (finds_no_sign s) v us r may other i = call_stays w v us i (next w (finds_no_sign s)) i.knows
+    refl (put_else w.found_no_sign s true v.who (λ is. other (sym is))) refl (λ u owed. owed)
+others_leave_calls_alone w (finds_no_cancel s) v us r may other i = call_stays w v us i (next w (finds_no_cancel s)) i.knows
+    refl refl (put_else w.found_no_cancel s true v.who (λ is. other (sym is))) (λ u owed. owed)
+others_leave_calls_alone w (wakes s x) v us r may other i = call_stays w v us i (next w (wakes s x)) i.knows refl refl refl
+    (λ u owed. ⊎_elim (λ paid. absurd (true≢false (sym paid.2))) (λ old. old) (debt_was w.owes s x false v.who u owed))
+others_leave_calls_alone w (falls_asleep s) v us r may other i = call_stays w v us i (next w (falls_asleep s)) i.knows
+    (put_else w.phase s asleep v.who (λ is. other (sym is))) refl refl (λ u owed. owed)
+others_leave_calls_alone w (rises s) v us r may other i = call_stays w v us i (next w (rises s)) i.knows
+    (put_else w.phase s acting v.who (λ is. other (sym is)))
+    (put_else w.found_no_sign s false v.who (λ is. other (sym is)))
+    (put_else w.found_no_cancel s false v.who (λ is. other (sym is))) (λ u owed. owed)
 
 -- ---- whom the view tells
 

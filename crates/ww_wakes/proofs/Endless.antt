@@ -1,27 +1,54 @@
 -- Endless runs: whoever was woken rises.
-use Rattle.std.proofs.Common.{◌≡◌, ◌≢◌, ◌⊎◌, inl, inr, ⊎_elim, ℕ, zero, suc, ◌+◌, ◌-◌, ◌≤◌, true, sym, ap, ◌∙◌, subst, arith}
+use Rattle.std.proofs.Common.{◌≡◌, ◌≢◌, ◌⊎◌, inl, inr, ⊎_elim, ℕ, zero, suc, ◌+◌, ◌-◌, ◌≤◌, true, sym, ap, ◌∙◌, subst, arith, ◌<◌}
 use Rattle.ww_queue.specs.Queue.{Stands}
 use Rattle.ww_model.proofs.Puts.{put_here}
 use Rattle.ww_model.proofs.Stays.{stands_stays}
-use Rattle.ww_wakes.specs.Scene.{acting, asleep, Scene, Step, performs, leaves_to_sleep, finds_no_sign, finds_no_cancel, wakes, falls_asleep, rises, May, next, IsReached, goes_on}
+use Rattle.ww_wakes.specs.Scene.{acting, asleep, Scene, Step, performs, wakes, rises, May, next, IsReached, goes_on}
 use Rattle.ww_wakes.specs.Theorem.{IsAlerted, HasToWait, IsEndlessRun, WakesArrive, NobodySleepsInVain, SleepForEverIsAWait}
 use Rattle.ww_wakes.proofs.Keeping.{not_acting, no_wake_is_lost}
 use Rattle.ww_wakes.proofs.Walks.{sleeps_or_not}
+
+-- ---- along the numbers
+
+-- a time from i on, and before j, at which it holds
+pub record FoundAt (P : ℕ → Type 0) (i j : ℕ) : Type 0 where
+  pub at : ℕ
+  pub from : i ≤ at
+  pub before : at < j
+  pub holds : P at
+
+unless_within : (P Q : ℕ → Type 0) (i gap : ℕ) → Q i →
+    ((k : ℕ) → i ≤ k → k < i + gap → Q k → P k ⊎ Q (suc k)) → FoundAt P i (i + gap) ⊎ Q (i + gap)
+unless_within P Q i zero h on = inr (subst Q (omega arith) h)
+unless_within P Q i (suc gap) h on = ⊎_elim
+    (λ f. let from = f.from in let before = f.before in
+    inl (record { at = f.at; from = from; before = omega arith; holds = f.holds }))
+    (λ q. ⊎_elim (λ p. inl (record { at = i + gap; from = omega arith; before = omega arith; holds = p }))
+    (λ still. inr (subst Q (omega arith) still)) (on (i + gap) (omega arith) (omega arith) q))
+    (unless_within P Q i gap h (λ k from below. on k from (omega arith)))
+
+-- the one holds at some time before j, or the other, which holds at i, still does at j
+pub unless : (P Q : ℕ → Type 0) (i j : ℕ) → i ≤ j → Q i →
+    ((k : ℕ) → i ≤ k → k < j → Q k → P k ⊎ Q (suc k)) → FoundAt P i j ⊎ Q j
+unless P Q i j later h on = let gap : i + (j - i) ≡ j = omega arith in
+    subst (λ x. FoundAt P i x ⊎ Q x) gap (unless_within P Q i (j - i) h (λ k from below. on k from (omega arith)))
+
+-- what holds at i, and after each step from there if before it, holds at j
+pub holds_at : (P : ℕ → Type 0) (i j : ℕ) → i ≤ j → P i → ((k : ℕ) → i ≤ k → k < j → P k → P (suc k)) → P j
+holds_at P i j later h on = ⊎_elim (λ f. absurd f.holds) (λ still. still)
+    (unless (λ _. ⊥) P i j later h (λ k from below before. inr (on k from below before)))
+
+-- ---- of one step, and along a run
 
 -- a sleeper stays in its list
 list_stays : (w : Scene) (x : Step) (s n : ℕ) → w.phase s ≡ asleep → May w x →
     Stands (w.core.queue n) s → Stands ((next w x).core.queue n) s
 list_stays w (performs e) s n sleeps may h =
     (stands_stays w.core e s (λ is. not_acting (w.phase s) sleeps (ap w.phase (sym is) ∙ may.acts)) n).0 h
-list_stays w (leaves_to_sleep u m heeds) s n sleeps may h = h
-list_stays w (finds_no_sign u) s n sleeps may h = h
-list_stays w (finds_no_cancel u) s n sleeps may h = h
-list_stays w (wakes u v) s n sleeps may h = h
-list_stays w (falls_asleep u) s n sleeps may h = h
-list_stays w (rises u) s n sleeps may h = h
+list_stays w _ s n sleeps may h = h
 
 module _ (scene : ℕ → Scene) (step : ℕ → Step) (run : IsEndlessRun scene step) where
-  reached_at : (i : ℕ) → IsReached (scene i)
+  pub reached_at : (i : ℕ) → IsReached (scene i)
   reached_at zero = run.begins
   reached_at (suc i) = subst IsReached (sym (run.goes_on i)) (goes_on (scene i) (step i) (reached_at i) (run.may i))
 
@@ -36,17 +63,11 @@ module _ (scene : ℕ → Scene) (step : ℕ → Step) (run : IsEndlessRun scene
   woken : (i s v : ℕ) → step i ≡ wakes s v → (scene (suc i)).token v ≡ true
   woken i s v is = ap (λ (x : Scene). x.token v) (scene_after i (wakes s v) is) ∙ put_here (scene i).token v true
 
-  stands_on : (i s n k : ℕ) → ((j : ℕ) → i ≤ j → (scene j).phase s ≡ asleep) →
-      Stands ((scene i).core.queue n) s → Stands ((scene (i + k)).core.queue n) s
-  stands_on i s n zero always h = subst (λ x. Stands ((scene x).core.queue n) s) (omega arith) h
-  stands_on i s n (suc k) always h = subst (λ x. Stands ((scene x).core.queue n) s) (omega arith)
-      (subst (λ (w : Scene). Stands (w.core.queue n) s) (sym (run.goes_on (i + k)))
-      (list_stays (scene (i + k)) (step (i + k)) s n (always (i + k) (omega arith)) (run.may (i + k)) (stands_on i s n k always h)))
-
   stands_at : (i s n j : ℕ) → ((j : ℕ) → i ≤ j → (scene j).phase s ≡ asleep) → i ≤ j →
       Stands ((scene i).core.queue n) s → Stands ((scene j).core.queue n) s
-  stands_at i s n j always later h = let gap : i + (j - i) ≡ j = omega arith in
-      subst (λ x. Stands ((scene x).core.queue n) s) gap (stands_on i s n (j - i) always h)
+  stands_at i s n j always later h = holds_at (λ k. Stands ((scene k).core.queue n) s) i j later h
+      (λ k from below here. subst (λ (w : Scene). Stands (w.core.queue n) s) (sym (run.goes_on k))
+      (list_stays (scene k) (step k) s n (always k from) (run.may k) here))
 
 module _ (scene : ℕ → Scene) (step : ℕ → Step) (run : IsEndlessRun scene step) (arrive : WakesArrive scene step) where
   -- it doesn't sleep at some time from then on

@@ -14,7 +14,7 @@ use Rattle.ww_laws.specs.Condemned.{LooksCondemned}
 use Rattle.ww_view.proofs.Starts.{knows_start}
 use Rattle.ww_view.proofs.Events.{actor_knows}
 use Rattle.ww_view.proofs.Others.{others_know}
-use Rattle.ww_wakes.specs.Scene.{acting, going_to_sleep, asleep, performs, leaves_to_sleep, finds_no_sign, finds_no_cancel, wakes, falls_asleep, rises}
+use Rattle.ww_wakes.specs.Scene.{acting, going_to_sleep, asleep, performs, leaves_to_sleep, finds_no_sign, wakes, falls_asleep, rises}
 use Rattle.ww_wakes.specs.Ties.{StartIsInCall, LeavingComesToRest, RestStays, RisingIsInCall, GuardForgetsTheLook, CondemnedFindNone, CondemnedMayNotLeave}
 use Rattle.ww_wakes.proofs.Woken.{owing_was, debt_was}
 use Rattle.ww_wakes.proofs.Keeping.{reached_is_orderly}
@@ -62,10 +62,6 @@ rest_stays w (leaves_to_sleep s n heeds) v to_wake r may other i =
       outside = i.outside;
       debts = i.debts;
     }
-rest_stays w (finds_no_sign s) v to_wake r may other i =
-    record { knows = i.knows; rests = i.rests; outside = i.outside; debts = i.debts }
-rest_stays w (finds_no_cancel s) v to_wake r may other i =
-    record { knows = i.knows; rests = i.rests; outside = i.outside; debts = i.debts }
 rest_stays w (wakes s x) v to_wake r may other i = record {
   knows = i.knows;
   rests = i.rests;
@@ -84,6 +80,8 @@ rest_stays w (rises s) v to_wake r may other i = record {
   outside = i.outside;
   debts = i.debts;
 }
+rest_stays w _ v to_wake r may other i =
+    record { knows = i.knows; rests = i.rests; outside = i.outside; debts = i.debts }
 
 pub rising_is_in_call : RisingIsInCall
 rising_is_in_call w v to_wake i = record {
@@ -107,15 +105,12 @@ condemned_is_signed c s n kind looks none = let cause = some_of (dies c s n) loo
 pub condemned_find_none : CondemnedFindNone
 condemned_find_none w (performs e) s n kind looks may none =
     put_cases w.found_no_sign (actor e) false s (λ b. b ≡ false) (λ _. refl) (λ _. none)
-condemned_find_none w (leaves_to_sleep t m heeds) s n kind looks may none = none
 condemned_find_none w (finds_no_sign t) s n kind looks may none =
     put_cases w.found_no_sign t true s (λ b. b ≡ false)
     (λ same. absurd (condemned_is_signed w.core s n kind looks (ap w.core.sign same ∙ may.1))) (λ _. none)
-condemned_find_none w (finds_no_cancel t) s n kind looks may none = none
-condemned_find_none w (wakes t x) s n kind looks may none = none
-condemned_find_none w (falls_asleep t) s n kind looks may none = none
 condemned_find_none w (rises t) s n kind looks may none =
     put_cases w.found_no_sign t false s (λ b. b ≡ false) (λ _. refl) (λ _. none)
+condemned_find_none w _ s n kind looks may none = none
 
 pub condemned_may_not_leave : CondemnedMayNotLeave
 condemned_may_not_leave w v n to_wake r i kind looks none may =

@@ -1,4 +1,4 @@
-use Rattle.ww_drives.proofs.Doomed as kept
+use Rattle.ww_drives.proofs.Wounding as kept
 use Rattle.ww_drives.proofs.witness.deadlocks_are_in_endless_drives.Goals as goal
 
 pub returns : goal.returns
