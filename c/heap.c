@@ -46,7 +46,11 @@ static void *large(size_t size)
 
 #ifdef WW_RUN
 /* The program opens no class, and its threads allocate and free all the time. */
-static void remember(void *p, size_t size) { (void)p, (void)size; }
+static void remember(void *p, size_t size)
+{
+	(void)p;
+	(void)size;
+}
 static void forget(void *p) { (void)p; }
 static void let_go(void *p) { (void)p; }
 #else
@@ -82,7 +86,7 @@ static uintptr_t page_size(void) { return (uintptr_t)sysconf(_SC_PAGESIZE); }
 static char *pages_begin(char *at) { return at + -(uintptr_t)at % page_size(); }
 static char *pages_end(char *at, size_t size) { return at + size - (uintptr_t)(at + size) % page_size(); }
 
-/* To the system. */
+/* They go to the system, and are zero when they are next accessed. */
 static void release(char *from, const char *end)
 {
 	if (from < end)

@@ -6,8 +6,8 @@ use Rattle.std_alloc.proofs.BoxSteps.Form.{Bx}
 use Rattle.std_heap.specs.contracts.Global as Heap
 use Rattle.std_heap.specs.contracts.GlobalAllocator.TheImpl.{ghosts, dict}
 use Rattle.std_heap.proofs.Global.TheLaws as heap
-use Rattle.ww_desk.specs.contracts.desk.Desk as Desk
-use Rattle.ww_desk.proofs.desk.Desk.TheLaws as desk
+use Rattle.ww_steps.specs.contracts.desk.Desk as Desk
+use Rattle.ww_steps.proofs.desk.Desk.TheLaws as desk
 use Rattle.ww_c.specs.contracts.slot.parts.Parts as Parts
 use Rattle.ww_c.specs.contracts.slot.Slot as Held
 

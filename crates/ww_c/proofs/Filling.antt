@@ -1,6 +1,6 @@
 -- The handles that were filled so far, the last one first.
 use Rattle.std.proofs.Common.{◌≡◌, ℕ, zero, suc, ◌+◌, List, [], ◌∷◌, ◌++◌, length, map, set, refl, sym, ap, ◌∙◌, arith, Some, Option, length-append}
-use Rattle.ww_desk.specs.Situations.{Situation}
+use Rattle.ww_steps.specs.Situations.{Situation}
 use Rattle.ww_c.specs.declared.slot.Handle.{Handle}
 use Rattle.ww_c.specs.Exports.{desks_in}
 

@@ -1,7 +1,7 @@
 -- What a handle knows of a desk, as the desk's calls require it.
 use Rattle.std.proofs.Common.{◌≡◌, ◌==◌, ℕ, Bool, true, false, not, true≢false, List, [], ◌∷◌, length, Option, Some, None, is_none, refl, sym, ap, inl, inr, arith, subst, if◌then◌else◌}
 use Rattle.std.proofs.lemmas.Bool.{and_parts as both_true, eqb-true as same_number}
-use Rattle.ww_desk.specs.Situations.{Situation, is_empty, IsPlain}
+use Rattle.ww_steps.specs.Situations.{Situation, is_empty, IsPlain}
 use Rattle.ww_c.specs.Modes.{knows, is_plain, is_ready, is_unsigned}
 
 untold : (told : Option ℕ) → is_none told ≡ true → told ≡ None

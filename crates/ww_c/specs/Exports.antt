@@ -1,10 +1,10 @@
 -- What a call by a handle of C's comes to.
 use Rattle.std.specs.Prelude.{ℕ, zero, suc, ◌≡◌, ◌≤◌, ◌⊎◌, ℤ, pos, negsuc, List, length, map, Option, Some, None, Box}
 use Rattle.std.specs.Global.{Global}
-use Rattle.ww_desk.specs.declared.turn.Answer.{Answer}
-use Rattle.ww_desk.specs.Situations.{Situation}
-use Rattle.ww_desk.specs.Answers.{BooksWakes, IsEachAnswer, IsNextAnswer, IsCancelAnswer, IsWakeAnswer, HasNothing}
-use Rattle.ww_desk.specs.Opened.{IsWorldSize, IsOpened}
+use Rattle.ww_steps.specs.declared.turn.Answer.{Answer}
+use Rattle.ww_steps.specs.Situations.{Situation}
+use Rattle.ww_steps.specs.Answers.{BooksWakes, IsEachAnswer, IsNextAnswer, IsCancelAnswer, IsWakeAnswer, HasNothing}
+use Rattle.ww_steps.specs.Opened.{IsWorldSize, IsOpened}
 use Rattle.ww_queue.specs.declared.kind.Kind.{Kind}
 use Rattle.ww_queue.specs.declared.kind.Kind.TheVariants.{WoundWait, WaitDie}
 use Rattle.ww_c.specs.declared.slot.Handle.{Handle}

@@ -1,7 +1,7 @@
 -- What becomes of a slot whose desk is lent.
 use Rattle.std.specs.Prelude.{Some}
 use Rattle.std.specs.Borrow.{Lends, MutBor, Fml}
-use Rattle.ww_desk.specs.contracts.desk.Desk.{the_row as desk_row}
+use Rattle.ww_steps.specs.contracts.desk.Desk.{the_row as desk_row}
 use Rattle.ww_c.specs.declared.slot.Slot.{Slot}
 use Rattle.ww_c.specs.contracts.slot.Slot.{the_row}
 

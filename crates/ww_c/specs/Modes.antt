@@ -1,7 +1,7 @@
--- What a handle may know of its desk, as tests: see IsReady, IsPlain and HasReleasedAll of ww_desk. Each says besides that
--- the desk may begin another context.
+-- What a handle may know of its desk, as tests: see IsReady, IsPlain and HasReleasedAll of ww_steps. Each says besides
+-- that the desk may begin another context.
 use Rattle.std.specs.Prelude.{ℕ, ◌==◌, ◌∷◌, [], ◌&&◌, not, Bool, true, false, List, Option, Some, None, is_none}
-use Rattle.ww_desk.specs.Situations.{Situation, is_at_rest, is_empty}
+use Rattle.ww_steps.specs.Situations.{Situation, is_at_rest, is_empty}
 
 abbrev pub is_ready : Situation → Bool
 is_ready s = not (s.left == 0) && (is_at_rest s.turn && (s.stamp == 0 && (is_empty s.held && (not s.is_done && is_none s.told))))

@@ -7,7 +7,7 @@ use denote.RawPtr.{Ptr}
 use Rattle.std.specs.Box.Ownership.{box_owns}
 use Rattle.std.specs.Global.{Global}
 use Rattle.std_heap.specs.contracts.GlobalAllocator.TheImpl.{ghosts}
-use Rattle.ww_desk.specs.contracts.desk.Desk.{the_row}
+use Rattle.ww_steps.specs.contracts.desk.Desk.{the_row}
 
 abbrev pub slot_owns : Global → Ptr → Option the_row.Denot → Fml
 slot_owns alloc p None = ftrue

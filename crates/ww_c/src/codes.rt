@@ -3,8 +3,8 @@
 ghost use Rattle.std.specs.Prelude.{◌≡◌};
 ghost use Rattle.ww_c.specs.Codes.{code_of, pauses_of, waits_of};
 
-use ww_desk::Answer;
 use ww_seat::Waits;
+use ww_steps::Answer;
 
 pub(crate) const EBUSY: i32 = -16;
 

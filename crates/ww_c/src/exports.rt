@@ -1,6 +1,6 @@
 //! What C calls. Each is one call of a desk by its handle, and waits for nobody: `c/ww_steps.h` says what C has to do.
 ghost use Rattle.std.specs.Prelude.{◌≡◌, ◌<◌, ◌≤◌, ◌⊎◌, take};
-ghost use Rattle.ww_desk.specs.Answers.{IsBeginAnswer, IsDoneAnswer, IsEndAnswer, IsLockAnswer, IsSlowAnswer, IsTryAnswer, IsUnlockAnswer, IsHasAnswer};
+ghost use Rattle.ww_steps.specs.Answers.{IsBeginAnswer, IsDoneAnswer, IsEndAnswer, IsLockAnswer, IsSlowAnswer, IsTryAnswer, IsUnlockAnswer, IsHasAnswer};
 ghost use Rattle.ww_c.specs.Codes.{waits_of};
 ghost use Rattle.ww_c.specs.Exports.{IsCall, IsCloseCall, IsEachCall, IsHeldCall, IsIdleCall, IsTurnCall, IsWakeCall, cancels};
 
@@ -8,7 +8,7 @@ use crate::codes::{EBUSY, EINVAL, code, pauses, waits};
 use crate::slot::{ALONE, BARE, FULL, Handle, PLAIN, READY};
 use std::alloc::Global;
 use std::mem;
-use ww_desk::Answer;
+use ww_steps::Answer;
 
 /// How many locks C keeps in the array of a seat.
 pub(crate) const KEPT: usize = 9;

@@ -6,8 +6,8 @@ ghost use Rattle.ww_c.specs.Exports.{desks_in, desks_of, IsOpenCall};
 use crate::codes::{EINVAL, ENOMEM};
 use crate::slot::Handle;
 use std::alloc::{AllocError, Global};
-use ww_desk::{Desk, OpenFault, open};
 use ww_queue::Kind;
+use ww_steps::{Desk, OpenFault, open};
 use ww_word::wide::MANY_SEATS;
 
 /// Opens a world with this many locks of a kind (0 Wound-Wait, 1 Wait-Die), with a seat for each of the handles, which

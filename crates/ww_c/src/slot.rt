@@ -1,8 +1,8 @@
 //! What C keeps of a seat.
 ghost use Rattle.std.specs.Prelude.{◌≡◌, ◌<◌, ◌==◌, Option, Some, None, IfSome, IfNone, true, not};
 ghost use Rattle.std.proofs.Props.{props};
-ghost use Rattle.ww_desk.specs.Situations.{IsReady, IsPlain, HasReleasedAll};
-ghost use Rattle.ww_desk.specs.contracts.desk.Desk.{the_row};
+ghost use Rattle.ww_steps.specs.Situations.{IsReady, IsPlain, HasReleasedAll};
+ghost use Rattle.ww_steps.specs.contracts.desk.Desk.{the_row};
 ghost use Rattle.ww_c.specs.Modes.{knows, is_ready, is_plain, is_bare, is_alone, has_locks};
 ghost use Rattle.ww_c.specs.Slots.{slot_owns, slot_coded, is_full};
 
@@ -12,7 +12,7 @@ use parts::Parts;
 use std::alloc::Global;
 use std::marker::Model;
 use std::mem;
-use ww_desk::Desk;
+use ww_steps::Desk;
 
 /// A desk on the heap by its address, or nothing.
 #[repr(C)]

@@ -1,11 +1,11 @@
 -- What each call leaves of the wakes that a desk has to make, and of how often it left a guard as a waiter.
 use Rattle.std.proofs.Common.{◌≡◌, ℕ, ◌+◌, true, false, true≢false, List, [], ◌∷◌, inl, inr, refl, sym, ap, ◌∙◌, subst}
 use Rattle.ww_seat.specs.declared.waits.Waits.{Waits}
-use Rattle.ww_desk.specs.declared.turn.Answer.{Answer}
-use Rattle.ww_desk.specs.declared.turn.Answer.TheVariants.{Done, Again, Sleeps, Busy, Invalid, Already, NoSpace}
-use Rattle.ww_desk.specs.Situations.{Situation}
-use Rattle.ww_desk.specs.Answers.{Balances, StaysOut, HasReleased, IsBeginAnswer, IsDoneAnswer, IsEndAnswer, IsLockAnswer, IsTryAnswer, IsSlowAnswer, IsUnlockAnswer, IsHasAnswer, IsCancelAnswer, naps_then, CountsNaps}
-use Rattle.ww_desk.proofs.Account.{balances_same}
+use Rattle.ww_steps.specs.declared.turn.Answer.{Answer}
+use Rattle.ww_steps.specs.declared.turn.Answer.TheVariants.{Done, Again, Sleeps, Busy, Invalid, Already, NoSpace}
+use Rattle.ww_steps.specs.Situations.{Situation}
+use Rattle.ww_steps.specs.Answers.{Balances, StaysOut, HasReleased, IsBeginAnswer, IsDoneAnswer, IsEndAnswer, IsLockAnswer, IsTryAnswer, IsSlowAnswer, IsUnlockAnswer, IsHasAnswer, IsCancelAnswer, naps_then, CountsNaps}
+use Rattle.ww_steps.proofs.Account.{balances_same}
 use Rattle.ww_drives.specs.Deeds.{Call, begin, done, end, lock, try_lock, lock_slow, go_on, unlock, unlock_each, has, cancel, HasDone, is_sleeps}
 
 -- it owes nobody more, and left no guard as a waiter

@@ -3,11 +3,11 @@ use Rattle.std.proofs.Common.{◌≡◌, ℕ, ◌+◌, Some, refl, sym, subst}
 use Rattle.ww_view.specs.declared.view.View.{View}
 use Rattle.ww_seat.specs.declared.look.Arrival.{Arrival}
 use Rattle.ww_seat.specs.declared.waits.Waits.{Waits}
-use Rattle.ww_desk.specs.declared.turn.Turn.TheVariants.{Rests, Wants}
-use Rattle.ww_desk.specs.declared.turn.Answer.TheVariants.{Deadlk}
-use Rattle.ww_desk.specs.Situations.{Situation}
-use Rattle.ww_desk.specs.Answers.{HasToBackOff, IsNextAnswer, WakesCondemned}
-use Rattle.ww_desk.proofs.Account.{balances_same, step_books}
+use Rattle.ww_steps.specs.declared.turn.Turn.TheVariants.{Rests, Wants}
+use Rattle.ww_steps.specs.declared.turn.Answer.TheVariants.{Deadlk}
+use Rattle.ww_steps.specs.Situations.{Situation}
+use Rattle.ww_steps.specs.Answers.{HasToBackOff, IsNextAnswer, WakesCondemned}
+use Rattle.ww_steps.proofs.Account.{balances_same, step_books}
 use Rattle.ww_drives.specs.Deeds.{HasDone, go_on}
 
 abbrev pub once_told : Situation → ℕ → View → Situation

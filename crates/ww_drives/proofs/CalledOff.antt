@@ -12,24 +12,24 @@ use Rattle.ww_model.specs.State.{put}
 use Rattle.ww_view.specs.Word.{rest_word}
 use Rattle.ww_view.specs.View.{owns}
 use Rattle.ww_view.specs.Made.{fast_missed, glanced, fast_given, without}
-use Rattle.ww_rule.specs.declared.cells.Part.{Part}
-use Rattle.ww_rule.specs.declared.cells.Sight.{Sight}
-use Rattle.ww_rule.specs.Layout.{lock_at, owner_at, cancel_at}
-use Rattle.ww_rule.specs.Rule.{St}
-use Rattle.ww_rule.specs.Steps.{knowing}
-use Rattle.ww_rule.specs.Guards.{entering, exiting}
-use Rattle.ww_rule.specs.Waiting.{joining}
-use Rattle.ww_rule.specs.Cancels.{cancelling, heeding, stopping}
+use Rattle.ww_invariant.specs.declared.cells.Part.{Part}
+use Rattle.ww_invariant.specs.declared.cells.Sight.{Sight}
+use Rattle.ww_invariant.specs.Layout.{lock_at, owner_at, cancel_at}
+use Rattle.ww_invariant.specs.Rule.{St}
+use Rattle.ww_invariant.specs.Steps.{knowing}
+use Rattle.ww_invariant.specs.Guards.{entering, exiting}
+use Rattle.ww_invariant.specs.Waiting.{joining}
+use Rattle.ww_invariant.specs.Cancels.{cancelling, heeding, stopping}
 use Rattle.ww_wakes.specs.Scene.{performs}
-use Rattle.ww_runs.specs.Moment.{view}
-use Rattle.ww_runs.specs.Plays as play
-use Rattle.ww_runs.proofs.Small.{least, small, line, out, owner, holder_2, waiter_1, bare, unsigned_inside, is_valid, word_there}
-use Rattle.ww_runs.proofs.CalledOff.{first_not_second, IsOff, is_calm, moment, calm, scheduled, go_on}
+use Rattle.ww_refines.specs.Moment.{view}
+use Rattle.ww_refines.specs.Plays as play
+use Rattle.ww_refines.proofs.Small.{least, small, line, out, owner, holder_2, waiter_1, bare, unsigned_inside, is_valid, word_there}
+use Rattle.ww_refines.proofs.CalledOff.{first_not_second, IsOff, is_calm, moment, calm, scheduled, go_on}
 use Rattle.ww_seat.specs.declared.waits.Waits.TheVariants.{UntilCancelled}
-use Rattle.ww_desk.specs.declared.turn.Turn.TheVariants.{Rests}
-use Rattle.ww_desk.specs.declared.turn.Answer.TheVariants.{Done, Interrupted}
-use Rattle.ww_desk.specs.Situations.{Situation}
-use Rattle.ww_desk.proofs.Account.{balances_same, balances_cancel, step_books}
+use Rattle.ww_steps.specs.declared.turn.Turn.TheVariants.{Rests}
+use Rattle.ww_steps.specs.declared.turn.Answer.TheVariants.{Done, Interrupted}
+use Rattle.ww_steps.specs.Situations.{Situation}
+use Rattle.ww_steps.proofs.Account.{balances_same, balances_cancel, step_books}
 use Rattle.ww_drives.specs.Stages.{Stage}
 use Rattle.ww_drives.specs.Deeds.{Deed, Does, cancel, unlock, steps, answers, halts}
 use Rattle.ww_drives.specs.Deeds as drive

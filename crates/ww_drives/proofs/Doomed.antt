@@ -10,27 +10,27 @@ use Rattle.ww_queue.specs.declared.kind.Kind.{Kind}
 use Rattle.ww_model.specs.declared.event.Event.TheVariants.{Die, Unguard}
 use Rattle.ww_model.specs.State.{put, State}
 use Rattle.ww_view.specs.May.{MayDie, MayExit}
-use Rattle.ww_rule.specs.declared.cells.Part.{Part}
-use Rattle.ww_rule.specs.declared.cells.Sight.{Sight}
-use Rattle.ww_rule.specs.Layout.{owner_at}
-use Rattle.ww_rule.specs.Rule.{St}
-use Rattle.ww_rule.specs.Guards.{exiting}
-use Rattle.ww_rule.specs.Waiting.{dying}
-use Rattle.ww_rule.proofs.Fits.{place_low}
+use Rattle.ww_invariant.specs.declared.cells.Part.{Part}
+use Rattle.ww_invariant.specs.declared.cells.Sight.{Sight}
+use Rattle.ww_invariant.specs.Layout.{owner_at}
+use Rattle.ww_invariant.specs.Rule.{St}
+use Rattle.ww_invariant.specs.Guards.{exiting}
+use Rattle.ww_invariant.specs.Waiting.{dying}
+use Rattle.ww_invariant.proofs.Fits.{place_low}
 use Rattle.ww_wakes.specs.Scene.{performs}
 use Rattle.ww_live.specs.Theorem.{AreDeadlocked}
-use Rattle.ww_runs.specs.Moment.{view}
-use Rattle.ww_runs.specs.Moment as runs
-use Rattle.ww_runs.proofs.Small.{least, small, owner}
-use Rattle.ww_runs.proofs.Deadlocked.{second_not_first}
-use Rattle.ww_runs.proofs.Doomed.{is_valid, is_pending, IsDoomed, moment, pending, sleeper_is_scheduled, dying_is_scheduled}
+use Rattle.ww_refines.specs.Moment.{view}
+use Rattle.ww_refines.specs.Moment as runs
+use Rattle.ww_refines.proofs.Small.{least, small, owner}
+use Rattle.ww_refines.proofs.Deadlocked.{second_not_first}
+use Rattle.ww_refines.proofs.Doomed.{is_valid, is_pending, IsDoomed, moment, pending, sleeper_is_scheduled, dying_is_scheduled}
 use Rattle.ww_seat.specs.Marks.{is_marked}
 use Rattle.ww_seat.specs.declared.look.Arrival.TheVariants.{Came}
 use Rattle.ww_seat.specs.declared.waits.Waits.TheVariants.{ToTheEnd}
-use Rattle.ww_desk.specs.declared.turn.Turn.TheVariants.{Wants}
-use Rattle.ww_desk.specs.declared.turn.Answer.TheVariants.{Deadlk}
-use Rattle.ww_desk.specs.Situations.{Situation}
-use Rattle.ww_desk.specs.Answers.{HasToBackOff}
+use Rattle.ww_steps.specs.declared.turn.Turn.TheVariants.{Wants}
+use Rattle.ww_steps.specs.declared.turn.Answer.TheVariants.{Deadlk}
+use Rattle.ww_steps.specs.Situations.{Situation}
+use Rattle.ww_steps.specs.Answers.{HasToBackOff}
 use Rattle.ww_drives.specs.Deeds.{Does, go_on, steps, answers, Deed, halts}
 use Rattle.ww_drives.proofs.Shown.{Picture, staged, Shown, Next, played, answered, IsSeated, IsActing, OwesNobody, seated, answers_does, part_is, nothing_due, follows_of}
 use Rattle.ww_drives.proofs.Backing.{once_told, backs_off}

@@ -5,21 +5,21 @@ use Rattle.ww_model.specs.declared.event.Event.{Event}
 use Rattle.ww_model.specs.declared.event.Event.TheVariants.{Die, Leave}
 use Rattle.ww_model.specs.Event.{actor}
 use Rattle.ww_view.specs.View.{first_view}
-use Rattle.ww_rule.specs.declared.cells.Part.{Part}
-use Rattle.ww_rule.specs.declared.cells.Start.{Start}
+use Rattle.ww_invariant.specs.declared.cells.Part.{Part}
+use Rattle.ww_invariant.specs.declared.cells.Start.{Start}
 use Rattle.ww_wakes.specs.Scene.{Step, performs}
-use Rattle.ww_runs.specs.Moment.{HasToWake}
-use Rattle.ww_runs.specs.Plays.{IsBy}
-use Rattle.ww_runs.specs.Runs as runs
-use Rattle.ww_runs.specs.Runs.{IsOfRun}
-use Rattle.ww_runs.specs.Endless.{IsEndless, WakesArriveThere}
-use Rattle.ww_runs.specs.Deadlocks.{IsScheduledThere}
-use Rattle.ww_runs.proofs.Seating.{new_tables_begin}
-use Rattle.ww_runs.proofs.Wholes.{no_wake_is_lost_in_runs}
-use Rattle.ww_runs.proofs.Standstill.{no_standstill_in_runs}
-use Rattle.ww_runs.proofs.Ends.{nobody_sleeps_in_vain_in_runs}
-use Rattle.ww_runs.proofs.Unlocking.{no_deadlock_lasts_in_runs, waits_end_in_runs}
-use Rattle.ww_desk.specs.Opened.{fresh}
+use Rattle.ww_refines.specs.Moment.{HasToWake}
+use Rattle.ww_refines.specs.Plays.{IsBy}
+use Rattle.ww_refines.specs.Runs as runs
+use Rattle.ww_refines.specs.Runs.{IsOfRun}
+use Rattle.ww_refines.specs.Endless.{IsEndless, WakesArriveThere}
+use Rattle.ww_refines.specs.Deadlocks.{IsScheduledThere}
+use Rattle.ww_refines.proofs.Seating.{new_tables_begin}
+use Rattle.ww_refines.proofs.Wholes.{no_wake_is_lost_in_runs}
+use Rattle.ww_refines.proofs.Standstill.{no_standstill_in_runs}
+use Rattle.ww_refines.proofs.Ends.{nobody_sleeps_in_vain_in_runs}
+use Rattle.ww_refines.proofs.Unlocking.{no_deadlock_lasts_in_runs, waits_end_in_runs}
+use Rattle.ww_steps.specs.Opened.{fresh}
 use Rattle.ww_drives.specs.Stages.{Stage, IsFirstStage}
 use Rattle.ww_drives.specs.Deeds.{Deed, steps, rises, Does, IsDriven}
 use Rattle.ww_drives.specs.Deeds as drive

@@ -7,17 +7,17 @@ use Rattle.ww_word.specs.Owner.{with_waiters}
 use Rattle.ww_queue.specs.declared.kind.Kind.TheVariants.{WaitDie}
 use Rattle.ww_model.specs.State.{put}
 use Rattle.ww_view.specs.Made.{has_read}
-use Rattle.ww_rule.specs.declared.cells.Sight.{Sight}
-use Rattle.ww_rule.specs.Layout.{lock_at, sign_at}
-use Rattle.ww_rule.specs.Rule.{St}
-use Rattle.ww_rule.specs.Steps.{knowing}
-use Rattle.ww_rule.specs.Guards.{exiting}
+use Rattle.ww_invariant.specs.declared.cells.Sight.{Sight}
+use Rattle.ww_invariant.specs.Layout.{lock_at, sign_at}
+use Rattle.ww_invariant.specs.Rule.{St}
+use Rattle.ww_invariant.specs.Steps.{knowing}
+use Rattle.ww_invariant.specs.Guards.{exiting}
 use Rattle.ww_wakes.specs.Scene.{leaves_to_sleep, finds_no_sign}
-use Rattle.ww_runs.specs.Plays as play
-use Rattle.ww_runs.proofs.Small.{least, small, owner, word_there}
-use Rattle.ww_runs.proofs.Deadlocked.{first_not_second, second_not_first, younger, older_waits, younger_waits, out}
-use Rattle.ww_desk.specs.declared.turn.Answer.TheVariants.{Sleeps}
-use Rattle.ww_desk.specs.Situations.{Situation}
+use Rattle.ww_refines.specs.Plays as play
+use Rattle.ww_refines.proofs.Small.{least, small, owner, word_there}
+use Rattle.ww_refines.proofs.Deadlocked.{first_not_second, second_not_first, younger, older_waits, younger_waits, out}
+use Rattle.ww_steps.specs.declared.turn.Answer.TheVariants.{Sleeps}
+use Rattle.ww_steps.specs.Situations.{Situation}
 use Rattle.ww_drives.specs.Deeds.{go_on}
 use Rattle.ww_drives.proofs.Shown.{Picture, Shown, played, answered, parking, plays_then, answers_then, parks_then, acting, seated}
 use Rattle.ww_drives.proofs.Pair.{a_6, b_6, p_12, g_12}

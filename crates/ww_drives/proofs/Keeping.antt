@@ -6,22 +6,22 @@ use Rattle.std.proofs.lemmas.Bool.{cases_Bool}
 use Rattle.ww_model.specs.State.{put}
 use Rattle.ww_model.proofs.Puts.{put_here, put_else}
 use Rattle.ww_view.specs.declared.view.View.{View}
-use Rattle.ww_rule.specs.declared.cells.Start.{Start}
+use Rattle.ww_invariant.specs.declared.cells.Start.{Start}
 use Rattle.ww_wakes.specs.Scene.{Step}
 use Rattle.ww_wakes.specs.Scene as scene
-use Rattle.ww_runs.specs.Moment.{Moment, Acts}
-use Rattle.ww_runs.specs.Moment as runs
-use Rattle.ww_runs.specs.Moves.{OthersStay, StepsThere, Reads, Follows}
-use Rattle.ww_runs.proofs.Standstill.{idles}
-use Rattle.ww_desk.specs.declared.turn.Answer.{Answer}
-use Rattle.ww_desk.specs.Situations.{Situation, is_inside}
-use Rattle.ww_desk.specs.Answers.{IsTaken, IsWakeAnswer, wakes_owed}
+use Rattle.ww_refines.specs.Moment.{Moment, Acts}
+use Rattle.ww_refines.specs.Moment as runs
+use Rattle.ww_refines.specs.Moves.{OthersStay, StepsThere, Reads, Follows}
+use Rattle.ww_refines.proofs.Standstill.{idles}
+use Rattle.ww_steps.specs.declared.turn.Answer.{Answer}
+use Rattle.ww_steps.specs.Situations.{Situation, is_inside}
+use Rattle.ww_steps.specs.Answers.{IsTaken, IsWakeAnswer, wakes_owed}
 use Rattle.ww_drives.specs.Stages.{Stage}
 use Rattle.ww_drives.specs.Deeds.{Call, Deed, calls, steps, reads, answers, names, wakes, parks, rises, halts, is_sleeps, Calls, Names, Wakes, Parks, Rises, Steps, ReadsOnly, Answers, Does}
 use Rattle.ww_drives.specs.Laws.{move_of}
 use Rattle.ww_drives.proofs.Answered.{each_accounts}
 use Rattle.ww_drives.proofs.Kept.{OfDesk, of_desk, IsKept, Keeps, owed_there, other_part, call_untold, called, answered, names_one, wakes_one, sleeps_on, rises_up}
-use Rattle.ww_rule.specs.declared.cells.Part.{Part}
+use Rattle.ww_invariant.specs.declared.cells.Part.{Part}
 
 abbrev pub IsInOrder : {key : Start} → Stage key → Type 0
 IsInOrder {key = key} g = (d : ℕ) → d < key.seats → Keeps g d

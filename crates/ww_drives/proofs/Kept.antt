@@ -6,15 +6,15 @@ use native.Mathlib.Decide.{ℕ_discrete}
 use Rattle.ww_model.specs.State.{put}
 use Rattle.ww_model.proofs.Puts.{put_here, put_else, put_cases, put_was}
 use Rattle.ww_view.specs.declared.view.View.{View}
-use Rattle.ww_rule.specs.declared.cells.Part.{Part}
-use Rattle.ww_rule.specs.declared.cells.Start.{Start}
-use Rattle.ww_rule.specs.Rule as rule
-use Rattle.ww_runs.specs.Moment as runs
+use Rattle.ww_invariant.specs.declared.cells.Part.{Part}
+use Rattle.ww_invariant.specs.declared.cells.Start.{Start}
+use Rattle.ww_invariant.specs.Rule as rule
+use Rattle.ww_refines.specs.Moment as runs
 use Rattle.ww_seat.specs.Bells.{times}
 use Rattle.ww_seat.specs.Marks.{IsMarked}
-use Rattle.ww_desk.specs.declared.turn.Answer.{Answer}
-use Rattle.ww_desk.specs.Situations.{Situation}
-use Rattle.ww_desk.specs.Answers.{Balances, IsTaken, wakes_owed, CountsNaps}
+use Rattle.ww_steps.specs.declared.turn.Answer.{Answer}
+use Rattle.ww_steps.specs.Situations.{Situation}
+use Rattle.ww_steps.specs.Answers.{Balances, IsTaken, wakes_owed, CountsNaps}
 use Rattle.ww_drives.specs.Stages.{Stage, StandsOutside}
 use Rattle.ww_drives.specs.Deeds.{is_sleeps}
 use Rattle.ww_drives.proofs.Answered.{naps_alike, naps_more}

@@ -4,19 +4,19 @@ use Rattle.std.specs.Arc.{arc_value}
 use Rattle.ww_model.proofs.Outcomes.{number_same}
 use Rattle.ww_table.specs.declared.board.Board.{Board}
 use Rattle.ww_wakes.specs.Scene.{Step}
-use Rattle.ww_rule.specs.declared.cells.Start.{Start}
-use Rattle.ww_runs.specs.Naps.{ArePlaysOf, is_to_sleep, HaveNone, WaitsOutside}
-use Rattle.ww_runs.proofs.Napping.{naps_are_last}
+use Rattle.ww_invariant.specs.declared.cells.Start.{Start}
+use Rattle.ww_refines.specs.Naps.{ArePlaysOf, is_to_sleep, HaveNone, WaitsOutside}
+use Rattle.ww_refines.proofs.Napping.{naps_are_last}
 use Rattle.ww_seat.specs.Standings.{Standing, view_in}
 use Rattle.ww_seat.specs.declared.look.Arrival.TheVariants.{Woken}
 use Rattle.ww_seat.specs.declared.waits.Waits.{Waits}
-use Rattle.ww_desk.specs.declared.turn.Answer.{Answer}
-use Rattle.ww_desk.specs.declared.turn.Answer.TheVariants.{Sleeps}
-use Rattle.ww_desk.specs.declared.turn.Turn.{Turn}
-use Rattle.ww_desk.specs.declared.turn.Turn.TheVariants.{Rests, Stays, Wants, Looks, Gives}
-use Rattle.ww_desk.specs.Situations.{Situation}
-use Rattle.ww_desk.specs.Stations.{IsWhere}
-use Rattle.ww_desk.specs.Answers.{IsNextAnswer}
+use Rattle.ww_steps.specs.declared.turn.Answer.{Answer}
+use Rattle.ww_steps.specs.declared.turn.Answer.TheVariants.{Sleeps}
+use Rattle.ww_steps.specs.declared.turn.Turn.{Turn}
+use Rattle.ww_steps.specs.declared.turn.Turn.TheVariants.{Rests, Stays, Wants, Looks, Gives}
+use Rattle.ww_steps.specs.Situations.{Situation}
+use Rattle.ww_steps.specs.Stations.{IsWhere}
+use Rattle.ww_steps.specs.Answers.{IsNextAnswer}
 use Rattle.ww_drives.specs.Deeds.{Call, go_on, unlock_each, cancel, HasDone, is_sleeps}
 use Rattle.ww_drives.specs.Stages.{IsDesk}
 use Rattle.ww_drives.specs.Laws.{CallsSleepLast}

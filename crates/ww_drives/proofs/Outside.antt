@@ -3,10 +3,10 @@ use Rattle.std.proofs.Common.{◌≡◌, ℕ, false, true≢false, List, ap, sym
 use Rattle.std.specs.Arc.{arc_value}
 use Rattle.ww_table.specs.declared.board.Board.{Board}
 use Rattle.ww_seat.specs.Standings.{Standing, view_in}
-use Rattle.ww_desk.specs.declared.turn.Turn.{Turn}
-use Rattle.ww_desk.specs.declared.turn.Turn.TheVariants.{Rests, Stays, Wants, Looks, Gives}
-use Rattle.ww_desk.specs.Situations.{Situation, is_inside}
-use Rattle.ww_desk.specs.Stations.{IsWhere}
+use Rattle.ww_steps.specs.declared.turn.Turn.{Turn}
+use Rattle.ww_steps.specs.declared.turn.Turn.TheVariants.{Rests, Stays, Wants, Looks, Gives}
+use Rattle.ww_steps.specs.Situations.{Situation, is_inside}
+use Rattle.ww_steps.specs.Stations.{IsWhere}
 use Rattle.ww_drives.specs.Laws.{DesksStandOutside}
 
 -- wherever its call stands

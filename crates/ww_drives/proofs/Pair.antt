@@ -4,13 +4,13 @@ use native.Mathlib.Decide.{ℕ_discrete}
 use Rattle.ww_queue.specs.declared.kind.Kind.{Kind}
 use Rattle.ww_model.specs.State.{put}
 use Rattle.ww_view.specs.Made.{fast_missed, glanced}
-use Rattle.ww_rule.specs.declared.cells.Sight.{Sight}
-use Rattle.ww_rule.specs.Layout.{lock_at}
-use Rattle.ww_rule.specs.Steps.{knowing}
-use Rattle.ww_rule.specs.Guards.{entering}
-use Rattle.ww_rule.specs.Waiting.{joining}
-use Rattle.ww_runs.proofs.Small.{small, owner, holder_2, waiter_1, is_valid}
-use Rattle.ww_runs.proofs.Deadlocked.{younger, b_2, first_not_second, second_not_first, is_valid_younger}
+use Rattle.ww_invariant.specs.declared.cells.Sight.{Sight}
+use Rattle.ww_invariant.specs.Layout.{lock_at}
+use Rattle.ww_invariant.specs.Steps.{knowing}
+use Rattle.ww_invariant.specs.Guards.{entering}
+use Rattle.ww_invariant.specs.Waiting.{joining}
+use Rattle.ww_refines.proofs.Small.{small, owner, holder_2, waiter_1, is_valid}
+use Rattle.ww_refines.proofs.Deadlocked.{younger, b_2, first_not_second, second_not_first, is_valid_younger}
 use Rattle.ww_seat.specs.declared.waits.Waits.TheVariants.{ToTheEnd}
 use Rattle.ww_drives.proofs.Shown.{Picture, Shown, called, calls_then, acting}
 use Rattle.ww_drives.proofs.Starting.{p_3, g_3}

@@ -7,22 +7,22 @@ use Rattle.ww_model.specs.declared.event.Event.TheVariants.{Unguard}
 use Rattle.ww_model.specs.State.{State, start, put}
 use Rattle.ww_model.specs.Event.{after}
 use Rattle.ww_model.proofs.Puts.{put_here}
-use Rattle.ww_rule.specs.declared.cells.Part.{Part}
-use Rattle.ww_rule.specs.declared.cells.Sight.{Sight}
-use Rattle.ww_rule.specs.declared.cells.Start.{Start}
-use Rattle.ww_rule.specs.Layout.{words_for, slots_for}
-use Rattle.ww_rule.specs.Rule.{St, Sat, first_part, places_for}
+use Rattle.ww_invariant.specs.declared.cells.Part.{Part}
+use Rattle.ww_invariant.specs.declared.cells.Sight.{Sight}
+use Rattle.ww_invariant.specs.declared.cells.Start.{Start}
+use Rattle.ww_invariant.specs.Layout.{words_for, slots_for}
+use Rattle.ww_invariant.specs.Rule.{St, Sat, first_part, places_for}
 use Rattle.ww_wakes.specs.Scene.{Step, performs, leaves_to_sleep, finds_no_sign, finds_no_cancel}
-use Rattle.ww_runs.specs.Moment as runs
-use Rattle.ww_runs.specs.Moment.{Moment, core}
-use Rattle.ww_runs.specs.Moves.{Follows}
-use Rattle.ww_runs.specs.Plays.{Plays, IsBy, Moved}
-use Rattle.ww_runs.proofs.Small.{AtWith, At, nobody, nothing, moves_there, part_there}
+use Rattle.ww_refines.specs.Moment as runs
+use Rattle.ww_refines.specs.Moment.{Moment, core}
+use Rattle.ww_refines.specs.Moves.{Follows}
+use Rattle.ww_refines.specs.Plays.{Plays, IsBy, Moved}
+use Rattle.ww_refines.proofs.Small.{AtWith, At, nobody, nothing, moves_there, part_there}
 use Rattle.ww_seat.specs.Marks.{is_marked, IsMarked}
-use Rattle.ww_desk.specs.declared.turn.Answer.{Answer}
-use Rattle.ww_desk.specs.Situations.{Situation, is_inside}
-use Rattle.ww_desk.specs.Answers.{IsWakeAnswer}
-use Rattle.ww_desk.specs.Opened.{fresh}
+use Rattle.ww_steps.specs.declared.turn.Answer.{Answer}
+use Rattle.ww_steps.specs.Situations.{Situation, is_inside}
+use Rattle.ww_steps.specs.Answers.{IsWakeAnswer}
+use Rattle.ww_steps.specs.Opened.{fresh}
 use Rattle.ww_drives.specs.Stages.{Stage, StandsOutside}
 use Rattle.ww_drives.specs.Deeds.{Call, Deed, HasDone, Does, IsDriven, is_sleeps, woken, slept}
 use Rattle.ww_drives.specs.Deeds as drive

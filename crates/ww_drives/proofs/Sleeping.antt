@@ -11,11 +11,11 @@ use Rattle.ww_seat.specs.Work.{HasBooked, debts_with}
 use Rattle.ww_seat.specs.declared.look.Arrival.TheVariants.{Came, Woken}
 use Rattle.ww_seat.specs.declared.waits.Waits.TheVariants.{ToTheEnd}
 use Rattle.ww_seat.proofs.Marking.{with_bit, without_bit, marked_here, marked_others, cleared_here, cleared_others}
-use Rattle.ww_desk.specs.declared.turn.Turn.TheVariants.{Wants}
-use Rattle.ww_desk.specs.declared.turn.Answer.TheVariants.{Sleeps}
-use Rattle.ww_desk.specs.Situations.{Situation}
-use Rattle.ww_desk.specs.Answers.{IsTaken, IsWaitAnswer, IsNextAnswer, WakesCondemned}
-use Rattle.ww_desk.proofs.Account.{wait_balances, step_books}
+use Rattle.ww_steps.specs.declared.turn.Turn.TheVariants.{Wants}
+use Rattle.ww_steps.specs.declared.turn.Answer.TheVariants.{Sleeps}
+use Rattle.ww_steps.specs.Situations.{Situation}
+use Rattle.ww_steps.specs.Answers.{IsTaken, IsWaitAnswer, IsNextAnswer, WakesCondemned}
+use Rattle.ww_steps.proofs.Account.{wait_balances, step_books}
 use Rattle.ww_drives.specs.Deeds.{HasDone, go_on}
 
 -- ---- no mark, then that of seat 1, and then none again

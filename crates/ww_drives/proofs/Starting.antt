@@ -3,9 +3,9 @@ use Rattle.std.proofs.Common.{◌≡◌, inl, inr, ℕ, zero, suc, ◌<◌, fals
 use native.Mathlib.Decide.{ℕ_discrete}
 use Rattle.ww_queue.specs.declared.kind.Kind.{Kind}
 use Rattle.ww_model.specs.State.{put}
-use Rattle.ww_rule.specs.Layout.{lock_at}
-use Rattle.ww_rule.specs.Rule.{first_part}
-use Rattle.ww_runs.proofs.Small.{least, small, holder_0, holder_1, waiter_0, table_1, at_1, bare, part_there}
+use Rattle.ww_invariant.specs.Layout.{lock_at}
+use Rattle.ww_invariant.specs.Rule.{first_part}
+use Rattle.ww_refines.proofs.Small.{least, small, holder_0, holder_1, waiter_0, table_1, at_1, bare, part_there}
 use Rattle.ww_seat.specs.Marks.{is_marked}
 use Rattle.ww_drives.specs.Witness.{IsOfWorld}
 use Rattle.ww_drives.proofs.Shown.{Picture, first_picture, first_shown, Shown, OwesNobody, acting}

@@ -14,32 +14,32 @@ use Rattle.ww_view.specs.May.{MayFast, MayEnter, MayJoin, MayDie, MayExit, MayLe
 use Rattle.ww_view.specs.Word.{rest_word}
 use Rattle.ww_queue.specs.Queue.{left}
 use Rattle.ww_view.specs.Made.{begun, fast_taken, fast_missed, glanced}
-use Rattle.ww_rule.specs.declared.cells.Cell.{Cell}
-use Rattle.ww_rule.specs.declared.cells.Cell.TheVariants.{Line}
-use Rattle.ww_rule.specs.declared.cells.Sight.{Sight}
-use Rattle.ww_rule.specs.declared.cells.Start.{Start}
-use Rattle.ww_rule.specs.Layout.{owner_at, guard_at, stamp_at, list_at}
-use Rattle.ww_rule.specs.Rule.{first_graph}
-use Rattle.ww_rule.specs.Steps.{MayDraw, taker, drawing, knowing}
-use Rattle.ww_rule.specs.Guards.{entering, exiting}
-use Rattle.ww_rule.specs.Waiting.{joining, dying}
-use Rattle.ww_rule.proofs.Fits.{place_low}
+use Rattle.ww_invariant.specs.declared.cells.Cell.{Cell}
+use Rattle.ww_invariant.specs.declared.cells.Cell.TheVariants.{Line}
+use Rattle.ww_invariant.specs.declared.cells.Sight.{Sight}
+use Rattle.ww_invariant.specs.declared.cells.Start.{Start}
+use Rattle.ww_invariant.specs.Layout.{owner_at, guard_at, stamp_at, list_at}
+use Rattle.ww_invariant.specs.Rule.{first_graph}
+use Rattle.ww_invariant.specs.Steps.{MayDraw, taker, drawing, knowing}
+use Rattle.ww_invariant.specs.Guards.{entering, exiting}
+use Rattle.ww_invariant.specs.Waiting.{joining, dying}
+use Rattle.ww_invariant.proofs.Fits.{place_low}
 use Rattle.ww_wakes.specs.Scene.{Step, performs, leaves_to_sleep}
-use Rattle.ww_runs.specs.Plays as play
-use Rattle.ww_runs.specs.Plays.{Plays}
-use Rattle.ww_runs.proofs.Small.{word_there}
+use Rattle.ww_refines.specs.Plays as play
+use Rattle.ww_refines.specs.Plays.{Plays}
+use Rattle.ww_refines.proofs.Small.{word_there}
 use Rattle.ww_seat.specs.Calls.{HasStayedOut}
 use Rattle.ww_seat.specs.declared.look.Arrival.TheVariants.{Came}
 use Rattle.ww_seat.specs.declared.resting.Stay.{Stay}
 use Rattle.ww_seat.specs.declared.resting.Seen.TheVariants.{Nothing}
 use Rattle.ww_seat.specs.declared.waits.Waits.{Waits}
 use Rattle.ww_seat.specs.declared.waits.Waits.TheVariants.{ToTheEnd}
-use Rattle.ww_desk.specs.declared.turn.Turn.TheVariants.{Stays, Wants}
-use Rattle.ww_desk.specs.declared.turn.Answer.{Answer}
-use Rattle.ww_desk.specs.declared.turn.Answer.TheVariants.{Done, Again}
-use Rattle.ww_desk.specs.Situations.{Situation, IsReady}
-use Rattle.ww_desk.specs.Answers.{IsNextAnswer, IsStayAnswer, IsTryable}
-use Rattle.ww_desk.proofs.Account.{balances_same, step_books}
+use Rattle.ww_steps.specs.declared.turn.Turn.TheVariants.{Stays, Wants}
+use Rattle.ww_steps.specs.declared.turn.Answer.{Answer}
+use Rattle.ww_steps.specs.declared.turn.Answer.TheVariants.{Done, Again}
+use Rattle.ww_steps.specs.Situations.{Situation, IsReady}
+use Rattle.ww_steps.specs.Answers.{IsNextAnswer, IsStayAnswer, IsTryable}
+use Rattle.ww_steps.proofs.Account.{balances_same, step_books}
 use Rattle.ww_drives.specs.Deeds.{begin, lock, go_on}
 use Rattle.ww_drives.specs.Deeds as drive
 use Rattle.ww_drives.proofs.Shown.{Picture, Shown, Next, called, played, answered, IsSeated, IsUp, IsActing, IsPlay, IsAnswer, calls_then, plays_then, answers_then}

@@ -1,17 +1,17 @@
 -- What desks do, and what is asked of the drivers that make their calls.
 use Rattle.std.specs.Prelude.{ℕ, ◌≡◌, ◌<◌, ◌+◌, ◌-◌, Bool, true, false, List, Option, Some}
 use Rattle.ww_model.specs.State.{put}
-use Rattle.ww_rule.specs.declared.cells.Start.{Start}
+use Rattle.ww_invariant.specs.declared.cells.Start.{Start}
 use Rattle.ww_wakes.specs.Scene.{Step}
-use Rattle.ww_runs.specs.Moment.{Moment, wakes_owed, view, Acts, Rests}
-use Rattle.ww_runs.specs.Moves.{StepsThere, Reads, Follows}
-use Rattle.ww_runs.specs.Plays.{IsBy}
+use Rattle.ww_refines.specs.Moment.{Moment, wakes_owed, view, Acts, Rests}
+use Rattle.ww_refines.specs.Moves.{StepsThere, Reads, Follows}
+use Rattle.ww_refines.specs.Plays.{IsBy}
 use Rattle.ww_seat.specs.Marks.{IsMarked}
 use Rattle.ww_seat.specs.declared.waits.Waits.{Waits}
-use Rattle.ww_desk.specs.declared.turn.Answer.{Answer}
-use Rattle.ww_desk.specs.declared.turn.Answer.TheVariants.{Done, Sleeps}
-use Rattle.ww_desk.specs.Situations.{Situation, is_inside}
-use Rattle.ww_desk.specs.Answers.{BooksWakes, CountsNaps, HasSomeHeld, IsBeginAnswer, IsDoneAnswer, IsEndAnswer, IsLockAnswer, IsTryAnswer, IsSlowAnswer, IsNextAnswer, IsUnlockAnswer, IsEachAnswer, IsHasAnswer, IsCancelAnswer, IsWakeAnswer}
+use Rattle.ww_steps.specs.declared.turn.Answer.{Answer}
+use Rattle.ww_steps.specs.declared.turn.Answer.TheVariants.{Done, Sleeps}
+use Rattle.ww_steps.specs.Situations.{Situation, is_inside}
+use Rattle.ww_steps.specs.Answers.{BooksWakes, CountsNaps, HasSomeHeld, IsBeginAnswer, IsDoneAnswer, IsEndAnswer, IsLockAnswer, IsTryAnswer, IsSlowAnswer, IsNextAnswer, IsUnlockAnswer, IsEachAnswer, IsHasAnswer, IsCancelAnswer, IsWakeAnswer}
 use Rattle.ww_drives.specs.Stages.{Stage, StandsOutside, IsFirstStage}
 
 -- ---- calls

@@ -4,22 +4,22 @@ use Rattle.ww_model.specs.declared.event.Event.TheVariants.{Die, Leave}
 use Rattle.ww_model.specs.Waits.{IsOneOf}
 use Rattle.atomic_table.specs.Seated.{TableId}
 use Rattle.ww_model.specs.State.{start}
-use Rattle.ww_rule.specs.declared.cells.Start.{Start}
-use Rattle.ww_rule.specs.Rule.{St, Ruled, first_sight, places_for}
+use Rattle.ww_invariant.specs.declared.cells.Start.{Start}
+use Rattle.ww_invariant.specs.Rule.{St, Ruled, first_sight, places_for}
 use Rattle.ww_wakes.specs.Scene.{Step, performs}
 use Rattle.ww_wakes.specs.Scene as scene
 use Rattle.ww_live.specs.Premises.{InTheEnd}
 use Rattle.ww_live.specs.Theorem.{AreDeadlocked}
-use Rattle.ww_runs.specs.Moment.{core, view, HasToWake, Acts, Rests}
-use Rattle.ww_runs.specs.Moves.{Follows}
-use Rattle.ww_runs.specs.Naps.{ArePlaysOf, is_to_sleep, HaveNone, SleepsLast}
-use Rattle.ww_runs.specs.Runs.{IsOfRun, HasToWaitThere}
-use Rattle.ww_runs.specs.Endless.{IsEndless}
-use Rattle.ww_runs.specs.Deadlocks.{IsScheduledThere, HoldersGoOnThere, EndsSomeWaitThere}
+use Rattle.ww_refines.specs.Moment.{core, view, HasToWake, Acts, Rests}
+use Rattle.ww_refines.specs.Moves.{Follows}
+use Rattle.ww_refines.specs.Naps.{ArePlaysOf, is_to_sleep, HaveNone, SleepsLast}
+use Rattle.ww_refines.specs.Runs.{IsOfRun, HasToWaitThere}
+use Rattle.ww_refines.specs.Endless.{IsEndless}
+use Rattle.ww_refines.specs.Deadlocks.{IsScheduledThere, HoldersGoOnThere, EndsSomeWaitThere}
 use Rattle.ww_seat.specs.Marks.{IsMarked}
-use Rattle.ww_desk.specs.declared.turn.Answer.{Answer}
-use Rattle.ww_desk.specs.declared.turn.Answer.TheVariants.{Sleeps}
-use Rattle.ww_desk.specs.Situations.{Situation}
+use Rattle.ww_steps.specs.declared.turn.Answer.{Answer}
+use Rattle.ww_steps.specs.declared.turn.Answer.TheVariants.{Sleeps}
+use Rattle.ww_steps.specs.Situations.{Situation}
 use Rattle.ww_drives.specs.Stages.{Stage, IsDesk, StandsOutside, IsFirstStage}
 use Rattle.ww_drives.specs.Deeds.{Call, HasDone, Deed, steps, wakes, parks, rises, Does, IsDriven}
 

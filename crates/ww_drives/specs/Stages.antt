@@ -1,13 +1,13 @@
 -- Desks at a table, and the drivers that make their calls, at one moment.
 use Rattle.std.specs.Prelude.{ℕ, ◌≡◌, ◌<◌, Bool, false}
 use Rattle.atomic_table.specs.Seated.{TableId}
-use Rattle.ww_rule.specs.declared.cells.Start.{Start}
-use Rattle.ww_rule.specs.Rule.{places_for}
-use Rattle.ww_runs.specs.Moment.{Moment, IsFirst}
-use Rattle.ww_desk.specs.declared.station.Station.{Station}
-use Rattle.ww_desk.specs.Situations.{Situation, is_inside}
-use Rattle.ww_desk.specs.Stations.{situation_of, Keeps}
-use Rattle.ww_desk.specs.Opened.{fresh}
+use Rattle.ww_invariant.specs.declared.cells.Start.{Start}
+use Rattle.ww_invariant.specs.Rule.{places_for}
+use Rattle.ww_refines.specs.Moment.{Moment, IsFirst}
+use Rattle.ww_steps.specs.declared.station.Station.{Station}
+use Rattle.ww_steps.specs.Situations.{Situation, is_inside}
+use Rattle.ww_steps.specs.Stations.{situation_of, Keeps}
+use Rattle.ww_steps.specs.Opened.{fresh}
 
 -- A moment of the table, with who has a token and who sleeps. Beside it, of each desk: how its last call left it; whether a
 -- call of it is on its way; whether its last call told it to sleep, and it hasn't risen since; and whom it named as to be

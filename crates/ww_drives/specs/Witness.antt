@@ -2,12 +2,12 @@
 use Rattle.std.specs.Prelude.{ℕ, suc, ◌≡◌, ◌<◌, ◌≤◌, List, []}
 use Rattle.ww_queue.specs.declared.kind.Kind.{Kind}
 use Rattle.ww_model.specs.Waits.{IsOneOf}
-use Rattle.ww_rule.specs.declared.cells.Start.{Start}
-use Rattle.ww_rule.specs.Rule.{first_graph, places_for}
+use Rattle.ww_invariant.specs.declared.cells.Start.{Start}
+use Rattle.ww_invariant.specs.Rule.{first_graph, places_for}
 use Rattle.ww_live.specs.Theorem.{AreDeadlocked}
-use Rattle.ww_runs.specs.Moment.{core, view}
-use Rattle.ww_runs.specs.Deadlocks.{HoldersGoOnThere}
-use Rattle.ww_desk.specs.declared.turn.Answer.TheVariants.{Deadlk}
+use Rattle.ww_refines.specs.Moment.{core, view}
+use Rattle.ww_refines.specs.Deadlocks.{HoldersGoOnThere}
+use Rattle.ww_steps.specs.declared.turn.Answer.TheVariants.{Deadlk}
 use Rattle.ww_drives.specs.Stages.{Stage}
 use Rattle.ww_drives.specs.Deeds.{Deed, answers, go_on}
 use Rattle.ww_drives.specs.Laws.{IsEndlessDrive, IsServed}

@@ -2,10 +2,10 @@
 use Rattle.std.proofs.Common.{ℕ, ◌≡◌, true, ap, sym, ◌∙◌}
 use Rattle.ww_plain.specs.Numbers.{is_among}
 use Rattle.ww_view.specs.View.{owns}
-use Rattle.ww_rule.specs.Rule.{St}
+use Rattle.ww_invariant.specs.Rule.{St}
 use Rattle.ww_seat.specs.Standings.{view_in}
 use Rattle.ww_lock.specs.Holding.{Holding}
-use Rattle.ww_desk.specs.Situations.{Situation}
+use Rattle.ww_steps.specs.Situations.{Situation}
 use Rattle.ww_exclusion.specs.Laws.{IsPassAt, IsDeskAt}
 
 pub pass_owns : (s : St) (id : ℕ) (h : Holding) (n : ℕ) (p : IsPassAt s id h) → is_among n h.held ≡ true →

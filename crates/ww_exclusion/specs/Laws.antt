@@ -1,16 +1,16 @@
 -- What two callers at one table hold at one moment.
 use Rattle.std.specs.Prelude.{ℕ, ◌≡◌, true}
 use Rattle.ww_plain.specs.Numbers.{is_among}
-use Rattle.ww_rule.specs.declared.cells.Start.{Start}
-use Rattle.ww_rule.specs.Rule.{St, Ruled}
+use Rattle.ww_invariant.specs.declared.cells.Start.{Start}
+use Rattle.ww_invariant.specs.Rule.{St, Ruled}
 use Rattle.ww_table_laws.specs.Laws.{Stepper}
 use Rattle.ww_lock.specs.declared.hand.Hand.TheInside.{Inside}
 use Rattle.ww_lock.specs.Holding.{Holding}
 use Rattle.ww_lock.specs.Carried.{holding_of}
 use Rattle.ww_lock.specs.Hands.{carried_of, Carries}
-use Rattle.ww_desk.specs.declared.station.Station.{Station}
-use Rattle.ww_desk.specs.Situations.{Situation}
-use Rattle.ww_desk.specs.Stations.{situation_of, Keeps}
+use Rattle.ww_steps.specs.declared.station.Station.{Station}
+use Rattle.ww_steps.specs.Situations.{Situation}
+use Rattle.ww_steps.specs.Stations.{situation_of, Keeps}
 
 -- A pass, in whatever state it is, of which contracts see this; and the view of its seat stands at this place of the table. A
 -- seat's place is its own, as long as the table is there.

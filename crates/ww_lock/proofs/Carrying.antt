@@ -12,7 +12,7 @@ use Rattle.ww_plain.specs.Graph.{no_node, node_at}
 use Rattle.ww_plain.proofs.Members.{true_or_false, same_from_eqb, is_among-head}
 use Rattle.ww_view.specs.View.{owns, IsAway, IsBare}
 use Rattle.ww_view.specs.Made.{without}
-use Rattle.ww_rule.specs.Rule.{Sat}
+use Rattle.ww_invariant.specs.Rule.{Sat}
 use Rattle.ww_table.specs.declared.board.Board.{Board}
 use Rattle.ww_seat.specs.Accounts.{Account, account_of, having_tried, having_taken, having_given, having_died, having_stopped}
 use Rattle.ww_seat.specs.Bells.{heard, rings_at, leads_to, sleeps_at, AreBellsOf, ArePlacedAlike}

@@ -12,7 +12,7 @@ use Rattle.ww_plain.specs.Meaning.{answer_of, graph_after}
 use Rattle.ww_plain.proofs.Members.{true_or_false, is_among-append, is_among-head}
 use Rattle.ww_plain.proofs.Walks.{gives_walk}
 use Rattle.ww_view.specs.View.{owns}
-use Rattle.ww_rule.specs.Rule.{own_of}
+use Rattle.ww_invariant.specs.Rule.{own_of}
 use Rattle.ww_seat.specs.Accounts.{Account, account_of, having_committed}
 use Rattle.ww_seat.specs.Calls.{HoldsAll}
 use Rattle.ww_seat.specs.Standings.{Standing, view_in, IsCommit}

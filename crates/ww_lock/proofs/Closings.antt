@@ -8,10 +8,10 @@ use Rattle.ww_plain.specs.declared.history.Record.{Record}
 use Rattle.ww_plain.specs.History.{Recorded, history_of, part_of, IsLegal, last_graph}
 use Rattle.ww_plain.proofs.Members.{eqb_same, true_or_false, same_from_eqb, or_cases}
 use Rattle.ww_view.specs.View.{IsAway, IsBare}
-use Rattle.ww_rule.specs.declared.cells.Start.{Start}
+use Rattle.ww_invariant.specs.declared.cells.Start.{Start}
 use Rattle.ww_table.specs.declared.seat.Stepper.{Stepper}
 use Rattle.ww_model.specs.State.{one_if}
-use Rattle.ww_rule.specs.Rule.{first_graph, own_of, times}
+use Rattle.ww_invariant.specs.Rule.{first_graph, own_of, times}
 use Rattle.ww_table.specs.Closed.{HasCome, HaveAllCome, HasPlaces}
 use Rattle.ww_table.specs.Closed as table
 use Rattle.ww_table.proofs.Making.{all_from}

@@ -6,9 +6,9 @@ use Rattle.std.proofs.lemmas.List.{get_or_append_left, get_or_push, length-repli
 use Rattle.atomic_table.specs.Seated.{TableId}
 use Rattle.ww_plain.specs.declared.node.Node.{Node}
 use Rattle.ww_view.specs.View.{owns, IsAway}
-use Rattle.ww_rule.specs.declared.cells.Start.{Start}
+use Rattle.ww_invariant.specs.declared.cells.Start.{Start}
 use Rattle.ww_table.specs.declared.seat.Stepper.{Stepper}
-use Rattle.ww_rule.specs.Rule.{Sat, first_graph}
+use Rattle.ww_invariant.specs.Rule.{Sat, first_graph}
 use Rattle.ww_table.specs.Seat.{IsNew}
 use Rattle.ww_plain.specs.Numbers.{is_among}
 use Rattle.ww_lock.specs.declared.hand.Hand.TheInside.{Inside}
@@ -23,7 +23,7 @@ use Rattle.ww_lock.specs.Opened.{fresh, AreFresh, AreRests}
 use Rattle.ww_lock.specs.declared.world.Rest.{Rest}
 use mathlib.Core.Option.{some}
 use lib.ListN.{get_elem?}
-use Rattle.ww_rule.proofs.Seats.{bare_first}
+use Rattle.ww_invariant.proofs.Seats.{bare_first}
 use Rattle.ww_lock.proofs.Helds.{held_none}
 
 -- a bell that has given no token

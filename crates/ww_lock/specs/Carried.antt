@@ -8,7 +8,7 @@ use Rattle.ww_plain.specs.Numbers.{is_among}
 use Rattle.ww_plain.specs.Graph.{node_at}
 use Rattle.ww_view.specs.declared.view.View.{View}
 use Rattle.ww_view.specs.declared.view.Met.{Met}
-use Rattle.ww_rule.specs.Rule.{own_of}
+use Rattle.ww_invariant.specs.Rule.{own_of}
 use Rattle.ww_seat.specs.Accounts.{Account, account_of}
 use Rattle.ww_seat.specs.Calls.{HasMet}
 use Rattle.ww_seat.specs.Standings.{Standing, view_in}

@@ -3,7 +3,7 @@ use Rattle.std.specs.Prelude.{ℕ, zero, suc, ◌≡◌, ◌≤◌, ◌<◌, ◌
 use Rattle.std.specs.List.{AllByRecursion, list_any}
 use Rattle.ww_plain.specs.History.{Recorded, history_of, part_of, IsLegal, last_graph}
 use Rattle.ww_model.specs.Interrupts.{one_of}
-use Rattle.ww_rule.specs.Rule.{own_of, times}
+use Rattle.ww_invariant.specs.Rule.{own_of, times}
 use Rattle.ww_table.specs.declared.seat.Stepper.{Stepper}
 use Rattle.ww_table.specs.Closed.{HasCome}
 use Rattle.ww_lock.specs.declared.close.History.{History}

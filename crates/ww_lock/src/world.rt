@@ -2,7 +2,7 @@
 
 ghost use Rattle.std.specs.Prelude.{◌≡◌, ◌≤◌, [], length, map, IfOk, IfErr, vec_len, vec_capacity};
 ghost use Rattle.ww_table.specs.Made.{AreNew};
-ghost use Rattle.ww_rule.specs.Rule.{first_graph};
+ghost use Rattle.ww_invariant.specs.Rule.{first_graph};
 ghost use Rattle.std.specs.List.{AllByRecursion};
 ghost use Rattle.ww_seat.specs.Bells.{leads_to, rings_at, rung};
 ghost use Rattle.ww_lock.specs.Opened.{home_at, AreFresh, AreRests};
@@ -62,7 +62,7 @@ impl Model for World {
     ghost Value = { Setting };
 
     ghost use Rattle.std.specs.Prelude.{◌≡◌, ◌≤◌, length};
-    ghost use Rattle.ww_rule.specs.Rule.{first_graph};
+    ghost use Rattle.ww_invariant.specs.Rule.{first_graph};
     ghost use Rattle.ww_lock.specs.Opened.{setting_of};
 
     ghost view = { λ w. setting_of w.board w.wires.items };

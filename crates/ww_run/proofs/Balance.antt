@@ -8,7 +8,7 @@ use Rattle.std.proofs.lemmas.List.{get_or_past}
 use Rattle.std.proofs.lemmas.List.Sums.{sum_by-cons}
 use Rattle.ww_plain.proofs.GraphFacts.{all_item}
 use Rattle.ww_model.specs.State.{one_if}
-use Rattle.ww_rule.specs.Rule as rule
+use Rattle.ww_invariant.specs.Rule as rule
 use Rattle.ww_lock.specs.Holding.{Holding, Setting, by_of}
 use Rattle.ww_lock.specs.Closed as lock
 use Rattle.ww_script.specs.Acts.{Action}

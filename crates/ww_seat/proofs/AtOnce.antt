@@ -6,12 +6,12 @@ use Rattle.ww_model.proofs.Slots.{found_below}
 use Rattle.ww_plain.specs.Graph.{IsNodeOf, no_node}
 use Rattle.ww_view.specs.View.{owns, IsAway}
 use Rattle.ww_view.specs.May.{WantsSigns}
-use Rattle.ww_rule.specs.declared.cells.Cell.{Cell}
-use Rattle.ww_rule.specs.declared.cells.Cell.TheVariants.{Content}
-use Rattle.ww_rule.specs.declared.cells.Sight.{Sight}
-use Rattle.ww_rule.specs.Rule.{Sat}
-use Rattle.ww_rule.specs.Out.{AreOthers, slot_of}
-use Rattle.ww_rule.specs.Steps.{knowing, taking}
+use Rattle.ww_invariant.specs.declared.cells.Cell.{Cell}
+use Rattle.ww_invariant.specs.declared.cells.Cell.TheVariants.{Content}
+use Rattle.ww_invariant.specs.declared.cells.Sight.{Sight}
+use Rattle.ww_invariant.specs.Rule.{Sat}
+use Rattle.ww_invariant.specs.Out.{AreOthers, slot_of}
+use Rattle.ww_invariant.specs.Steps.{knowing, taking}
 use Rattle.ww_view.specs.Made.{fast_taken, fast_missed}
 use Rattle.ww_table.specs.Seat.{HasTriedToTake}
 use Rattle.ww_table.specs.declared.seat.Taking.{Taking}

@@ -24,13 +24,13 @@ use Rattle.ww_plain.specs.History.{recorded_of, IsNext}
 use Rattle.ww_plain.proofs.Members.{true_or_false, or_cases, or_false, same_from_eqb, is_among-head, is_among-tail, eqb_same}
 use Rattle.ww_plain.proofs.Frames.{outside, inside}
 use Rattle.ww_view.specs.View.{owns, IsAway}
-use Rattle.ww_rule.specs.declared.cells.Cell.{Cell}
-use Rattle.ww_rule.specs.declared.cells.Cell.TheVariants.{Content}
-use Rattle.ww_rule.specs.declared.cells.Sight.{Sight}
-use Rattle.ww_rule.specs.Rule.{Sat}
-use Rattle.ww_rule.specs.Out.{AreOthers, slot_of}
-use Rattle.ww_rule.specs.Steps.{known, graph_of, renewed, MayPlace, placing}
-use Rattle.ww_rule.proofs.Places.{graph_at, renewed_long, renewed_at}
+use Rattle.ww_invariant.specs.declared.cells.Cell.{Cell}
+use Rattle.ww_invariant.specs.declared.cells.Cell.TheVariants.{Content}
+use Rattle.ww_invariant.specs.declared.cells.Sight.{Sight}
+use Rattle.ww_invariant.specs.Rule.{Sat}
+use Rattle.ww_invariant.specs.Out.{AreOthers, slot_of}
+use Rattle.ww_invariant.specs.Steps.{known, graph_of, renewed, MayPlace, placing}
+use Rattle.ww_invariant.proofs.Places.{graph_at, renewed_long, renewed_at}
 use Rattle.ww_seat.specs.Orderly.{IsOrderly}
 use Rattle.ww_seat.specs.Accounts.{Account, account_of}
 use Rattle.ww_seat.specs.Calls.{HoldsAll, HasCommitted}

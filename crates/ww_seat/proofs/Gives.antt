@@ -8,14 +8,14 @@ use Rattle.ww_plain.specs.declared.node.Node.{Node}
 use Rattle.ww_view.specs.View.{owns, IsAway}
 use Rattle.ww_view.specs.May.{MayEnter}
 use Rattle.ww_view.specs.Made.{once_inside, fast_given, given}
-use Rattle.ww_rule.specs.declared.cells.Cell.{Cell}
-use Rattle.ww_rule.specs.declared.cells.Cell.TheVariants.{Content, Line}
-use Rattle.ww_rule.specs.declared.cells.Sight.{Sight}
-use Rattle.ww_rule.specs.Rule.{Sat}
-use Rattle.ww_rule.specs.Out.{slot_of, AreOthers}
-use Rattle.ww_rule.specs.Steps.{knowing, giving, keeping}
-use Rattle.ww_rule.specs.Guards.{exiting, looking}
-use Rattle.ww_rule.specs.Waiting.{HasListOnTop, IsOut, giving_inside}
+use Rattle.ww_invariant.specs.declared.cells.Cell.{Cell}
+use Rattle.ww_invariant.specs.declared.cells.Cell.TheVariants.{Content, Line}
+use Rattle.ww_invariant.specs.declared.cells.Sight.{Sight}
+use Rattle.ww_invariant.specs.Rule.{Sat}
+use Rattle.ww_invariant.specs.Out.{slot_of, AreOthers}
+use Rattle.ww_invariant.specs.Steps.{knowing, giving, keeping}
+use Rattle.ww_invariant.specs.Guards.{exiting, looking}
+use Rattle.ww_invariant.specs.Waiting.{HasListOnTop, IsOut, giving_inside}
 use Rattle.ww_table.specs.Seat.{HasTriedToGive}
 use Rattle.ww_table.specs.declared.seat.Giving.{Giving}
 use Rattle.ww_table.specs.declared.seat.Giving.TheVariants.{Gave, Kept, Lacked}

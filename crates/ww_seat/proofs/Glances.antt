@@ -1,8 +1,8 @@
 -- A seat that makes a spin read of a lock is otherwise as it was.
 use Rattle.std.proofs.Common.{◌≡◌, ℕ, ◌+◌, ◌≤◌, inl, length, refl, sym, ap, ◌∙◌, subst, arith}
-use Rattle.ww_rule.specs.Steps.{knowing}
-use Rattle.ww_rule.specs.Rule.{Sat}
-use Rattle.ww_rule.specs.Guards.{glancing}
+use Rattle.ww_invariant.specs.Steps.{knowing}
+use Rattle.ww_invariant.specs.Rule.{Sat}
+use Rattle.ww_invariant.specs.Guards.{glancing}
 use Rattle.ww_seat.specs.Looks.{HasGlanced, having_glanced}
 use Rattle.ww_table.specs.declared.board.Board.{Board}
 use Rattle.ww_seat.specs.Standings.{Standing, view_in, IsAt, HasStayedAway, MayGlanceOn, MayWait, MayGoIn, OwnsNodes}

@@ -6,12 +6,12 @@ use lib.ListN.{get_elem?}
 use Rattle.atomic_table.proofs.Lists.{set_else}
 use Rattle.ww_queue.specs.declared.entry.Entry.{Entry}
 use Rattle.ww_plain.specs.declared.node.Node.{Node}
-use Rattle.ww_rule.specs.declared.cells.Cell.{Cell}
-use Rattle.ww_rule.specs.declared.cells.Cell.TheVariants.{Content, Line}
-use Rattle.ww_rule.specs.declared.cells.Sight.{Sight}
-use Rattle.ww_rule.specs.Rule.{Sat}
-use Rattle.ww_rule.specs.Out.{slot_of, AreOthers}
-use Rattle.ww_rule.specs.Guards.{AreSeats, StandsAs, entering, exiting}
+use Rattle.ww_invariant.specs.declared.cells.Cell.{Cell}
+use Rattle.ww_invariant.specs.declared.cells.Cell.TheVariants.{Content, Line}
+use Rattle.ww_invariant.specs.declared.cells.Sight.{Sight}
+use Rattle.ww_invariant.specs.Rule.{Sat}
+use Rattle.ww_invariant.specs.Out.{slot_of, AreOthers}
+use Rattle.ww_invariant.specs.Guards.{AreSeats, StandsAs, entering, exiting}
 use Rattle.ww_seat.specs.Orderly.{IsOrderly}
 use Rattle.ww_seat.proofs.Slots.{slot_here, slot_else, others_gone, others_else, others_apart, front_apart, front_else}
 use Rattle.ww_seat.proofs.Outside.{owns_here, owns_else}

@@ -2,7 +2,7 @@
 use Rattle.std.proofs.Common.{◌≡◌, ℕ, ◌<◌, false, length, get_or, refl, sym, ap, ◌∙◌, subst}
 use Rattle.ww_plain.specs.declared.node.Node.{Node}
 use Rattle.ww_plain.specs.Graph.{IsNodeOf}
-use Rattle.ww_rule.specs.Rule.{Sat}
+use Rattle.ww_invariant.specs.Rule.{Sat}
 use Rattle.ww_seat.specs.declared.look.Look.{Look}
 use Rattle.ww_seat.specs.declared.look.Look.TheVariants.{Locked, Deadlk, Interrupted, Waits}
 use Rattle.ww_seat.specs.Accounts.{Account, having_taken, having_died, having_stopped}

@@ -3,10 +3,10 @@ use Rattle.std.proofs.Common.{◌≡◌, ℕ, suc, ◌+◌, Bool, List, refl, sy
 use Rattle.ww_word.specs.declared.owner.Owner.{Owner}
 use Rattle.ww_view.specs.declared.view.View.{View}
 use Rattle.ww_view.specs.Made.{naps_after, deaf_after, fast_taken, fast_missed, fast_given}
-use Rattle.ww_rule.specs.declared.cells.Sight.{Sight}
-use Rattle.ww_rule.specs.Rule.{Sat}
-use Rattle.ww_rule.specs.Guards.{exiting, looking}
-use Rattle.ww_rule.specs.Steps.{knowing, keeping}
+use Rattle.ww_invariant.specs.declared.cells.Sight.{Sight}
+use Rattle.ww_invariant.specs.Rule.{Sat}
+use Rattle.ww_invariant.specs.Guards.{exiting, looking}
+use Rattle.ww_invariant.specs.Steps.{knowing, keeping}
 use Rattle.ww_table.specs.Seat.{HasTriedToTake, HasTriedToGive}
 use Rattle.ww_table.specs.declared.seat.Taking.{Taking}
 use Rattle.ww_table.specs.declared.seat.Taking.TheVariants.{Took, Had, Missed}

@@ -12,12 +12,12 @@ use Rattle.ww_view.specs.declared.view.View.{View}
 use Rattle.ww_model.specs.State.{any_below}
 use Rattle.ww_model.proofs.Slots.{below_found, found_below}
 use Rattle.ww_view.specs.View.{owns, IsBare}
-use Rattle.ww_rule.specs.declared.cells.Cell.{Cell}
-use Rattle.ww_rule.specs.declared.cells.Cell.TheVariants.{Content, Line}
-use Rattle.ww_rule.specs.Layout.{list_at}
-use Rattle.ww_rule.specs.Rule.{Sat}
-use Rattle.ww_rule.specs.Out.{slot_of, AreOthers}
-use Rattle.ww_rule.specs.Steps.{knowing, taking}
+use Rattle.ww_invariant.specs.declared.cells.Cell.{Cell}
+use Rattle.ww_invariant.specs.declared.cells.Cell.TheVariants.{Content, Line}
+use Rattle.ww_invariant.specs.Layout.{list_at}
+use Rattle.ww_invariant.specs.Rule.{Sat}
+use Rattle.ww_invariant.specs.Out.{slot_of, AreOthers}
+use Rattle.ww_invariant.specs.Steps.{knowing, taking}
 use Rattle.ww_seat.specs.Orderly.{AreApart, IsOrderly}
 use Rattle.ww_seat.proofs.Slots.{slot_here, not_both, same_cell, same_node, others_had, slot_else, front_apart, front_else, front_same, few_slots, fewer_beside}
 

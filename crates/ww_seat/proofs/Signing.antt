@@ -17,12 +17,12 @@ use Rattle.ww_view.specs.declared.view.View.{View}
 use Rattle.ww_view.specs.View.{owns, IsQuiet}
 use Rattle.ww_view.specs.May.{MaySign, MayDie}
 use Rattle.ww_view.specs.Made.{entry_of_view, has_read, with_condemned}
-use Rattle.ww_rule.specs.declared.cells.Sight.{Sight}
-use Rattle.ww_rule.specs.Rule.{Sat}
-use Rattle.ww_rule.specs.Steps.{knowing}
-use Rattle.ww_rule.specs.Guards.{AreSeats}
-use Rattle.ww_rule.specs.Signs.{condemning, noting, reading, finding_none}
-use Rattle.ww_rule.specs.Waiting.{HasListOnTop}
+use Rattle.ww_invariant.specs.declared.cells.Sight.{Sight}
+use Rattle.ww_invariant.specs.Rule.{Sat}
+use Rattle.ww_invariant.specs.Steps.{knowing}
+use Rattle.ww_invariant.specs.Guards.{AreSeats}
+use Rattle.ww_invariant.specs.Signs.{condemning, noting, reading, finding_none}
+use Rattle.ww_invariant.specs.Waiting.{HasListOnTop}
 use Rattle.ww_seat.specs.Orderly.{IsOrderly}
 use Rattle.ww_seat.specs.Work.{signing, debts_with, HasBooked, AreOwed, AreMarked, HasToWake, IsTold, IsWorking, SeesOther, HasNoted, MayStay}
 use Rattle.ww_seat.proofs.Outside.{orderly_knowing, owned_low}

@@ -10,10 +10,10 @@ use Rattle.ww_plain.specs.declared.node.Node.{Node}
 use Rattle.ww_plain.specs.Numbers.{AreDifferent}
 use Rattle.ww_plain.proofs.Members.{different_none, different_cons}
 use Rattle.ww_plain.proofs.FootprintFacts.{few_different}
-use Rattle.ww_rule.specs.declared.cells.Cell.{Cell}
-use Rattle.ww_rule.specs.declared.cells.Cell.TheVariants.{Content, Line}
-use Rattle.ww_rule.specs.Out.{slot_of, AreOthers}
-use Rattle.ww_rule.specs.Waiting.{HaveOnly, IsOut}
+use Rattle.ww_invariant.specs.declared.cells.Cell.{Cell}
+use Rattle.ww_invariant.specs.declared.cells.Cell.TheVariants.{Content, Line}
+use Rattle.ww_invariant.specs.Out.{slot_of, AreOthers}
+use Rattle.ww_invariant.specs.Waiting.{HaveOnly, IsOut}
 use Rattle.ww_seat.specs.Orderly.{AreApart}
 
 -- ---- a slot is out, or not

@@ -2,9 +2,9 @@
 use Rattle.std.proofs.Common.{◌≡◌, ℕ, ◌+◌, ◌==◌, not, ◌∷◌, List, Bool, true, false, length, refl, sym, ap, subst, ◌∙◌}
 use Rattle.ww_queue.specs.declared.entry.Entry.{Entry}
 use Rattle.ww_view.specs.View.{owns, IsAway}
-use Rattle.ww_rule.specs.declared.cells.Cell.TheVariants.{Line}
-use Rattle.ww_rule.specs.Rule.{Sat}
-use Rattle.ww_rule.specs.Guards.{AreSeats, StandsAs, shutting_out, entering}
+use Rattle.ww_invariant.specs.declared.cells.Cell.TheVariants.{Line}
+use Rattle.ww_invariant.specs.Rule.{Sat}
+use Rattle.ww_invariant.specs.Guards.{AreSeats, StandsAs, shutting_out, entering}
 use Rattle.ww_seat.specs.Orderly.{IsOrderly}
 use Rattle.ww_seat.specs.Calls.{HoldsAsBefore}
 use Rattle.ww_seat.specs.Guards.{IsGiving}

@@ -17,14 +17,14 @@ use Rattle.ww_view.specs.Word.{asked_word, rest_word}
 use Rattle.ww_view.specs.May.{MayAsk, MayDie, WantsSigns, NothingToAsk, IsShownBy}
 use Rattle.ww_view.specs.Made.{entry_of_view, queued, died, exited, once_outside}
 use Rattle.ww_view.proofs.Deaths.{die_shows, die_notes}
-use Rattle.ww_rule.specs.declared.cells.Cell.{Cell}
-use Rattle.ww_rule.specs.declared.cells.Cell.TheVariants.{Line}
-use Rattle.ww_rule.specs.declared.cells.Sight.{Sight}
-use Rattle.ww_rule.specs.Rule.{Sat}
-use Rattle.ww_rule.specs.Out.{AreOthers}
-use Rattle.ww_rule.specs.Steps.{knowing}
-use Rattle.ww_rule.specs.Guards.{AreSeats, exiting}
-use Rattle.ww_rule.specs.Waiting.{HasListOnTop, joining, asking, dying}
+use Rattle.ww_invariant.specs.declared.cells.Cell.{Cell}
+use Rattle.ww_invariant.specs.declared.cells.Cell.TheVariants.{Line}
+use Rattle.ww_invariant.specs.declared.cells.Sight.{Sight}
+use Rattle.ww_invariant.specs.Rule.{Sat}
+use Rattle.ww_invariant.specs.Out.{AreOthers}
+use Rattle.ww_invariant.specs.Steps.{knowing}
+use Rattle.ww_invariant.specs.Guards.{AreSeats, exiting}
+use Rattle.ww_invariant.specs.Waiting.{HasListOnTop, joining, asking, dying}
 use Rattle.ww_seat.specs.Orderly.{IsOrderly}
 use Rattle.ww_seat.specs.Accounts.{account_of}
 use Rattle.ww_seat.specs.Calls.{HoldsAsBefore, HasToDie}

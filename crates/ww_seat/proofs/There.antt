@@ -2,8 +2,8 @@
 use Rattle.std.proofs.Common.{◌≡◌, ℕ, ◌<◌, List, [], ◌∷◌, Option, Some, None, inl, sym, ap, subst, refl, arith, slice_get}
 use Rattle.std.specs.Prelude.{unwrap_or, IfSome}
 use Rattle.ww_queue.specs.declared.entry.Entry.{Entry}
-use Rattle.ww_rule.specs.Layout.{lock_at}
-use Rattle.ww_rule.specs.Guards.{AreSeats}
+use Rattle.ww_invariant.specs.Layout.{lock_at}
+use Rattle.ww_invariant.specs.Guards.{AreSeats}
 use Rattle.ww_table.specs.declared.board.Board.{Board}
 use Rattle.ww_table.specs.declared.seat.Stepper.{Stepper}
 use Rattle.ww_table.specs.Seat.{IsSeatOf, view_of}

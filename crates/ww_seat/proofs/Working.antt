@@ -7,14 +7,14 @@ use Rattle.ww_queue.specs.Queue.{Has, Once, StandsNot, entry_of}
 use Rattle.ww_view.specs.declared.view.View.{View}
 use Rattle.ww_view.specs.May.{WantsSigns, HasPaid, MayLeave}
 use Rattle.ww_view.specs.Made.{once_outside, exited, entry_of_view, has_looked}
-use Rattle.ww_rule.specs.declared.cells.Cell.{Cell}
-use Rattle.ww_rule.specs.declared.cells.Cell.TheVariants.{Line}
-use Rattle.ww_rule.specs.declared.cells.Sight.{Sight}
-use Rattle.ww_rule.specs.Rule.{Sat}
-use Rattle.ww_rule.specs.Out.{AreOthers}
-use Rattle.ww_rule.specs.Steps.{knowing}
-use Rattle.ww_rule.specs.Guards.{AreSeats, exiting, looking, lost}
-use Rattle.ww_rule.specs.Waiting.{HasListOnTop}
+use Rattle.ww_invariant.specs.declared.cells.Cell.{Cell}
+use Rattle.ww_invariant.specs.declared.cells.Cell.TheVariants.{Line}
+use Rattle.ww_invariant.specs.declared.cells.Sight.{Sight}
+use Rattle.ww_invariant.specs.Rule.{Sat}
+use Rattle.ww_invariant.specs.Out.{AreOthers}
+use Rattle.ww_invariant.specs.Steps.{knowing}
+use Rattle.ww_invariant.specs.Guards.{AreSeats, exiting, looking, lost}
+use Rattle.ww_invariant.specs.Waiting.{HasListOnTop}
 use Rattle.ww_seat.specs.Orderly.{IsOrderly}
 use Rattle.ww_seat.specs.Calls.{HoldsAsBefore}
 use Rattle.ww_seat.specs.Looks.{MayWant}

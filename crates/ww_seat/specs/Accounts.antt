@@ -4,8 +4,8 @@ use Rattle.ww_queue.specs.declared.kind.Kind.{Kind}
 use Rattle.ww_plain.specs.declared.node.Node.{Node}
 use Rattle.ww_plain.specs.declared.history.Record.{Record}
 use Rattle.ww_view.specs.Made.{without}
-use Rattle.ww_rule.specs.declared.cells.Counts.{Counts}
-use Rattle.ww_rule.specs.Rule.{Sat}
+use Rattle.ww_invariant.specs.declared.cells.Counts.{Counts}
+use Rattle.ww_invariant.specs.Rule.{Sat}
 
 -- Its kind of locks and its number; its stamp, 0 without a context; its log, all its commits with their places; what
 -- the table counts of it; of each lock, whether it owns that; the locks that it owns, in the order in which it took them,

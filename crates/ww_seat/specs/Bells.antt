@@ -5,7 +5,7 @@ use Rattle.std.specs.Option.{option_map}
 use Rattle.atomic_table.specs.Seated.{TableId}
 use Rattle.ww_queue.specs.Queue.{Has}
 use Rattle.ww_view.specs.declared.view.View.{View}
-use Rattle.ww_rule.specs.Rule.{Sat}
+use Rattle.ww_invariant.specs.Rule.{Sat}
 use Rattle.ww_table.specs.declared.board.Board.{Board}
 use Rattle.ww_seat.specs.Marks.{is_marked}
 use Rattle.ww_seat.specs.declared.bell.Bell.{Bell}

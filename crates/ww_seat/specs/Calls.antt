@@ -12,7 +12,7 @@ use Rattle.ww_plain.specs.Graph.{IsNodeOf, no_node, node_at}
 use Rattle.ww_view.specs.declared.view.View.{View}
 use Rattle.ww_view.specs.View.{owns}
 use Rattle.ww_view.specs.May.{IsShownBy, WantsSigns}
-use Rattle.ww_rule.specs.Rule.{Sat}
+use Rattle.ww_invariant.specs.Rule.{Sat}
 use Rattle.ww_table.specs.declared.seat.Taking.{Taking}
 use Rattle.ww_table.specs.declared.seat.Taking.TheVariants.{Took, Had, Missed}
 use Rattle.ww_table.specs.declared.seat.Giving.{Giving}

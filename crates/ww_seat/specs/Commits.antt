@@ -10,7 +10,7 @@ use Rattle.ww_plain.specs.Footprint.{footprint_of}
 use Rattle.ww_plain.specs.Transaction.{Transaction}
 use Rattle.ww_plain.specs.Meaning.{graph_after}
 use Rattle.ww_view.specs.View.{owns}
-use Rattle.ww_rule.specs.Rule.{Sat}
+use Rattle.ww_invariant.specs.Rule.{Sat}
 use Rattle.ww_table.specs.declared.board.Board.{Board}
 use Rattle.ww_table.specs.declared.seat.Stepper.{Stepper}
 use Rattle.ww_table.specs.Seat.{size_of, view_of}

@@ -6,8 +6,8 @@ use Rattle.ww_queue.specs.declared.kind.Kind.TheVariants.{WaitDie}
 use Rattle.ww_view.specs.View.{owns}
 use Rattle.ww_view.specs.May.{MayLeave}
 use Rattle.ww_view.specs.Made.{with_heir}
-use Rattle.ww_rule.specs.Rule.{Sat}
-use Rattle.ww_rule.specs.Guards.{AreSeats}
+use Rattle.ww_invariant.specs.Rule.{Sat}
+use Rattle.ww_invariant.specs.Guards.{AreSeats}
 use Rattle.ww_seat.specs.Orderly.{IsOrderly}
 use Rattle.ww_seat.specs.Calls.{HasGiven}
 use Rattle.ww_seat.specs.Looks.{StaysAwake}

@@ -14,10 +14,10 @@ use Rattle.ww_view.specs.declared.view.View.{View}
 use Rattle.ww_view.specs.View.{owns, IsAway}
 use Rattle.ww_view.specs.May.{WantsBase, WantsSigns, MayFast}
 use Rattle.ww_view.specs.Made.{with_heir}
-use Rattle.ww_rule.specs.Rule.{Sat}
-use Rattle.ww_rule.specs.Steps.{drawing_none}
-use Rattle.ww_rule.specs.Cancels.{cancelling, finding_pending}
-use Rattle.ww_rule.specs.Guards.{AreSeats, shutting_out}
+use Rattle.ww_invariant.specs.Rule.{Sat}
+use Rattle.ww_invariant.specs.Steps.{drawing_none}
+use Rattle.ww_invariant.specs.Cancels.{cancelling, finding_pending}
+use Rattle.ww_invariant.specs.Guards.{AreSeats, shutting_out}
 use Rattle.ww_table.specs.declared.board.Board.{Board}
 use Rattle.ww_table.specs.declared.seat.Stepper.{Stepper}
 use Rattle.ww_table.specs.declared.seat.Taking.{Taking}

@@ -15,10 +15,10 @@ use Rattle.ww_view.specs.Word.{TellsOther, taken_word}
 use Rattle.ww_view.specs.View.{owns}
 use Rattle.ww_view.specs.May.{WantsSigns, LivesBySeen, HasPaid, NothingToAsk, MayDie}
 use Rattle.ww_view.specs.Made.{entry_of_view, with_condemned}
-use Rattle.ww_rule.specs.Rule.{Sat}
-use Rattle.ww_rule.specs.Steps.{knowing}
-use Rattle.ww_rule.specs.Guards.{AreSeats, exiting}
-use Rattle.ww_rule.specs.Waiting.{HasListOnTop, taking_inside}
+use Rattle.ww_invariant.specs.Rule.{Sat}
+use Rattle.ww_invariant.specs.Steps.{knowing}
+use Rattle.ww_invariant.specs.Guards.{AreSeats, exiting}
+use Rattle.ww_invariant.specs.Waiting.{HasListOnTop, taking_inside}
 use Rattle.ww_table.specs.declared.board.Board.{Board}
 use Rattle.ww_table.specs.declared.seat.Stepper.{Stepper}
 use Rattle.ww_table.specs.Seat.{IsSeatOf, locks_of, size_of, view_of}

@@ -4,7 +4,7 @@ use crate::seats::Seat;
 use ww_table::Board;
 
 impl Seat {
-    ghost use Rattle.ww_rule.specs.Steps.{MayDraw, MayEnd};
+    ghost use Rattle.ww_invariant.specs.Steps.{MayDraw, MayEnd};
     ghost use Rattle.ww_seat.specs.Standings.{view_in, IsAt, IsBegin, IsEnd};
 
     /// Starts a context, and gives its stamp: one more than the stamp drawn last. None where all stamps are spent.

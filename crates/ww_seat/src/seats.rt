@@ -39,10 +39,10 @@ impl Seat {
     ghost use Rattle.atomic_table.specs.Seated.{TableId};
     ghost use Rattle.ww_view.specs.View.{owns, IsAway};
     ghost use Rattle.ww_view.specs.May.{MayGlance};
-    ghost use Rattle.ww_rule.specs.declared.cells.Start.{Start};
-    ghost use Rattle.ww_rule.specs.Rule.{first_graph};
-    ghost use Rattle.ww_rule.specs.Steps.{MayDraw, MayEnd};
-    ghost use Rattle.ww_rule.specs.Guards.{glancing};
+    ghost use Rattle.ww_invariant.specs.declared.cells.Start.{Start};
+    ghost use Rattle.ww_invariant.specs.Rule.{first_graph};
+    ghost use Rattle.ww_invariant.specs.Steps.{MayDraw, MayEnd};
+    ghost use Rattle.ww_invariant.specs.Guards.{glancing};
     ghost use Rattle.ww_table.specs.Seat.{IsNew, locks_of, size_of, taking_of, giving_of};
     ghost use Rattle.ww_seat.specs.Bells.{AreBellsOf};
     ghost use Rattle.ww_seat.specs.Work.{ComesOutside};

@@ -2,9 +2,9 @@
 ghost use Rattle.std.specs.Prelude.{ℕ, ◌≡◌, ◌<◌, Bool, true, Some};
 ghost use Rattle.ww_view.specs.View.{owns};
 ghost use Rattle.ww_table.specs.Seat.{IsSeatOf, locks_of, size_of, view_of};
-ghost use Rattle.ww_rule.specs.Layout.{list_at};
-ghost use Rattle.ww_rule.specs.Out.{slot_of};
-ghost use Rattle.ww_rule.specs.declared.cells.Cell.TheVariants.{Line};
+ghost use Rattle.ww_invariant.specs.Layout.{list_at};
+ghost use Rattle.ww_invariant.specs.Out.{slot_of};
+ghost use Rattle.ww_invariant.specs.declared.cells.Cell.TheVariants.{Line};
 ghost use Rattle.ww_seat.specs.Orderly.{IsOrderly};
 ghost use Rattle.ww_seat.specs.Work.{AreMarksOf, HasReadNode, HasTriedInside, IsAtWorkHere, IsOwnWord, IsSameSeat, IsTakingInside, SeesFree};
 

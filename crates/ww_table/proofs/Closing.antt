@@ -11,14 +11,14 @@ use Rattle.ww_plain.proofs.Members.{eqb_same}
 use Rattle.atomic_table.specs.declared.shared.Seat.{Seat}
 use Rattle.atomic_table.specs.Seated.{TableId}
 use Rattle.ww_view.specs.View.{IsBare}
-use Rattle.ww_rule.specs.declared.cells.Cell.{Cell}
-use Rattle.ww_rule.specs.declared.cells.Part.{Part}
-use Rattle.ww_rule.specs.declared.cells.Sight.{Sight}
+use Rattle.ww_invariant.specs.declared.cells.Cell.{Cell}
+use Rattle.ww_invariant.specs.declared.cells.Part.{Part}
+use Rattle.ww_invariant.specs.declared.cells.Sight.{Sight}
 use Rattle.ww_table.specs.declared.seat.Stepper.{Stepper}
-use Rattle.ww_rule.specs.Steps.{with_seat}
-use Rattle.ww_rule.specs.Rule.{own_of}
-use Rattle.ww_rule.proofs.Filling.{has_more, has_last, has_either}
-use Rattle.ww_rule.specs.Records.{ArePut, AreFree, somes}
+use Rattle.ww_invariant.specs.Steps.{with_seat}
+use Rattle.ww_invariant.specs.Rule.{own_of}
+use Rattle.ww_invariant.proofs.Filling.{has_more, has_last, has_either}
+use Rattle.ww_invariant.specs.Records.{ArePut, AreFree, somes}
 use Rattle.ww_table.specs.Closed.{HasCome, AreLaid, IsGathered, parts_of}
 
 pub has_all : {A : Type 0} (P : A → Type 0) (xs : List A) (x : A) → AllByRecursion P xs → Has xs x → P x

@@ -13,15 +13,15 @@ use Rattle.ww_plain.specs.declared.node.Node.{Node}
 use Rattle.ww_plain.specs.declared.history.Record.{Record}
 use Rattle.ww_plain.specs.Graph.{node_at}
 use Rattle.ww_plain.specs.History.{history_of, IsLegal, last_graph, part_of}
-use Rattle.ww_rule.specs.declared.cells.Cell.{Cell}
-use Rattle.ww_rule.specs.declared.cells.Cell.TheVariants.{Content}
-use Rattle.ww_rule.specs.declared.cells.Part.{Part}
-use Rattle.ww_rule.specs.declared.cells.Sight.{Sight}
-use Rattle.ww_rule.specs.declared.cells.Start.{Start}
+use Rattle.ww_invariant.specs.declared.cells.Cell.{Cell}
+use Rattle.ww_invariant.specs.declared.cells.Cell.TheVariants.{Content}
+use Rattle.ww_invariant.specs.declared.cells.Part.{Part}
+use Rattle.ww_invariant.specs.declared.cells.Sight.{Sight}
+use Rattle.ww_invariant.specs.declared.cells.Start.{Start}
 use Rattle.ww_table.specs.declared.seat.Stepper.{Stepper}
-use Rattle.ww_rule.specs.declared.cells.Counts.{Counts}
-use Rattle.ww_rule.specs.Rule.{St, first_graph, own_of, times, PartFits, Ruled}
-use Rattle.ww_rule.specs.Records.{somes}
+use Rattle.ww_invariant.specs.declared.cells.Counts.{Counts}
+use Rattle.ww_invariant.specs.Rule.{St, first_graph, own_of, times, PartFits, Ruled}
+use Rattle.ww_invariant.specs.Records.{somes}
 use Rattle.ww_table.specs.Closed.{HasCome, HaveAllCome, IsClosed, IsGathered, parts_of}
 use Rattle.ww_table.proofs.Closing.{has_all, laid_is}
 use Rattle.ww_table.proofs.Numbers.{numbers_in, has_number, number_has, first_differs}

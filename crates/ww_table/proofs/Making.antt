@@ -10,25 +10,25 @@ use Rattle.std.specs.List.{AllByRecursion}
 use Rattle.ww_plain.specs.declared.node.Node.{Node}
 use Rattle.ww_plain.specs.declared.history.Record.{Record}
 use Rattle.ww_plain.specs.Graph.{node_at}
-use Rattle.ww_rule.specs.declared.cells.Cell.{Cell}
-use Rattle.ww_rule.specs.declared.cells.Cell.TheVariants.{Content}
-use Rattle.ww_rule.specs.declared.cells.Part.{Part}
-use Rattle.ww_rule.specs.declared.cells.Sight.{Sight}
-use Rattle.ww_rule.specs.declared.cells.Start.{Start}
+use Rattle.ww_invariant.specs.declared.cells.Cell.{Cell}
+use Rattle.ww_invariant.specs.declared.cells.Cell.TheVariants.{Content}
+use Rattle.ww_invariant.specs.declared.cells.Part.{Part}
+use Rattle.ww_invariant.specs.declared.cells.Sight.{Sight}
+use Rattle.ww_invariant.specs.declared.cells.Start.{Start}
 use Rattle.ww_queue.specs.declared.kind.Kind.{Kind}
-use Rattle.ww_rule.specs.Layout.{IsSized, lock_at}
+use Rattle.ww_invariant.specs.Layout.{IsSized, lock_at}
 use Rattle.ww_table.specs.declared.seat.Stepper.{Stepper}
-use Rattle.ww_rule.specs.Rule.{Sat, first_graph, first_part, first_parts, first_sight, Ruled, IsSize, AreNodes}
-use Rattle.ww_rule.specs.Steps.{seat_of, first_seat, rest_of, without_first}
+use Rattle.ww_invariant.specs.Rule.{Sat, first_graph, first_part, first_parts, first_sight, Ruled, IsSize, AreNodes}
+use Rattle.ww_invariant.specs.Steps.{seat_of, first_seat, rest_of, without_first}
 use Rattle.ww_table.specs.Seat.{IsNew}
-use Rattle.ww_rule.specs.Out.{numbers_of}
-use Rattle.ww_rule.specs.Homes.{AreSlots}
+use Rattle.ww_invariant.specs.Out.{numbers_of}
+use Rattle.ww_invariant.specs.Homes.{AreSlots}
 use Rattle.ww_table.specs.Made.{AreNew, HasDoneNothing, MayCut, less}
 use Rattle.ww_table.specs.Closed.{HasCome, HaveAllCome}
 use Rattle.ww_queue.specs.Queue.{Has}
 use Rattle.ww_model.specs.State.{start}
 use Rattle.ww_view.specs.View.{IsBare}
-use Rattle.ww_rule.proofs.Seats.{opens, opens_start, splits, at_end, bare_first}
+use Rattle.ww_invariant.proofs.Seats.{opens, opens_start, splits, at_end, bare_first}
 
 pub new_seat : {table : TableId} {key : Start} {kind : Kind} {locks places seats : ℕ} {first token : Seat Cell Sight} (k : ℕ) (s : Stepper)
     → MayCut table key kind locks places seats first → HasDoneNothing token kind k locks places s → token.table_id ≡ table

@@ -6,7 +6,7 @@ use mathlib.Core.Option.{some}
 use lib.ListN.{get_elem?}
 use Rattle.ww_queue.specs.Queue.{Has}
 use Rattle.ww_model.proofs.Outcomes.{or_true, true_or}
-use Rattle.ww_rule.specs.declared.cells.Part.{Part}
+use Rattle.ww_invariant.specs.declared.cells.Part.{Part}
 
 abbrev pub numbers_in : List Part → List ℕ
 numbers_in parts = map (λ p. p.core.who) parts

@@ -9,15 +9,15 @@ use Rattle.ww_queue.specs.Queue.{Stands, left}
 use Rattle.ww_plain.specs.declared.node.Node.{Node}
 use Rattle.ww_word.specs.declared.wide.Owner.{Owner}
 use Rattle.ww_word.specs.AnySeats.{packed}
-use Rattle.ww_rule.specs.declared.cells.Cell.{Cell}
-use Rattle.ww_rule.specs.declared.cells.Cell.TheVariants.{Content, Line}
-use Rattle.ww_rule.specs.declared.cells.Sight.{Sight}
-use Rattle.ww_rule.specs.Guards.{lost}
-use Rattle.ww_rule.specs.Rule.{Sat}
-use Rattle.ww_rule.specs.Out.{slot_of, numbers_of, AreOthers}
-use Rattle.ww_rule.specs.Waiting.{StandsIfWaiting, HasListOnTop, IsOut, IsStillThere}
-use Rattle.ww_rule.proofs.InsideTurning.{on_top, slot_brought, still_out}
-use Rattle.ww_rule.proofs.Turning.{brought}
+use Rattle.ww_invariant.specs.declared.cells.Cell.{Cell}
+use Rattle.ww_invariant.specs.declared.cells.Cell.TheVariants.{Content, Line}
+use Rattle.ww_invariant.specs.declared.cells.Sight.{Sight}
+use Rattle.ww_invariant.specs.Guards.{lost}
+use Rattle.ww_invariant.specs.Rule.{Sat}
+use Rattle.ww_invariant.specs.Out.{slot_of, numbers_of, AreOthers}
+use Rattle.ww_invariant.specs.Waiting.{StandsIfWaiting, HasListOnTop, IsOut, IsStillThere}
+use Rattle.ww_invariant.proofs.InsideTurning.{on_top, slot_brought, still_out}
+use Rattle.ww_invariant.proofs.Turning.{brought}
 use Rattle.ww_table.specs.declared.board.Board.{Board}
 use Rattle.ww_table.specs.declared.seat.Stepper.{Stepper}
 use Rattle.ww_table.specs.Seat.{IsSeated, IsSeatOf, view_of}

@@ -11,16 +11,16 @@ use Rattle.ww_word.specs.declared.wide.Owner.{Owner}
 use Rattle.ww_word.specs.AnySeats.{Fits, IsValid, packed, most_for}
 use Rattle.ww_queue.specs.declared.kind.Kind.{Kind}
 use Rattle.ww_queue.proofs.Outcomes.{same_number, other_number}
-use Rattle.ww_rule.specs.Layout.{IsSized, lock_at, sign_at, cancel_at}
-use Rattle.ww_rule.specs.declared.cells.Cell.{Cell}
-use Rattle.ww_rule.specs.declared.cells.Part.{Part}
-use Rattle.ww_rule.specs.declared.cells.Sight.{Sight}
-use Rattle.ww_rule.proofs.Lies.{lock_next, lock_low}
-use Rattle.ww_rule.specs.Rule.{Sat, IsSize}
-use Rattle.ww_rule.specs.Out.{numbers_of}
-use Rattle.ww_rule.specs.Guards.{lost}
-use Rattle.ww_rule.specs.Waiting.{HasListOnTop, IsStillThere}
-use Rattle.ww_rule.specs.Steps.{taker}
+use Rattle.ww_invariant.specs.Layout.{IsSized, lock_at, sign_at, cancel_at}
+use Rattle.ww_invariant.specs.declared.cells.Cell.{Cell}
+use Rattle.ww_invariant.specs.declared.cells.Part.{Part}
+use Rattle.ww_invariant.specs.declared.cells.Sight.{Sight}
+use Rattle.ww_invariant.proofs.Lies.{lock_next, lock_low}
+use Rattle.ww_invariant.specs.Rule.{Sat, IsSize}
+use Rattle.ww_invariant.specs.Out.{numbers_of}
+use Rattle.ww_invariant.specs.Guards.{lost}
+use Rattle.ww_invariant.specs.Waiting.{HasListOnTop, IsStillThere}
+use Rattle.ww_invariant.specs.Steps.{taker}
 use Rattle.ww_table.specs.declared.seat.Stepper.{Stepper}
 use Rattle.ww_table.specs.declared.board.Board.{Board}
 use Rattle.ww_table.specs.Steps.{IsEither}

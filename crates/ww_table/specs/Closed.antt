@@ -10,15 +10,15 @@ use Rattle.ww_plain.specs.declared.node.Node.{Node}
 use Rattle.ww_plain.specs.declared.history.Record.{Record}
 use Rattle.ww_plain.specs.History.{Recorded, history_of, IsLegal, last_graph, part_of}
 use Rattle.ww_view.specs.View.{IsBare}
-use Rattle.ww_rule.specs.declared.cells.Cell.{Cell}
-use Rattle.ww_rule.specs.declared.cells.Part.{Part}
-use Rattle.ww_rule.specs.declared.cells.Sight.{Sight}
-use Rattle.ww_rule.specs.declared.cells.Start.{Start}
+use Rattle.ww_invariant.specs.declared.cells.Cell.{Cell}
+use Rattle.ww_invariant.specs.declared.cells.Part.{Part}
+use Rattle.ww_invariant.specs.declared.cells.Sight.{Sight}
+use Rattle.ww_invariant.specs.declared.cells.Start.{Start}
 use Rattle.ww_table.specs.declared.seat.Stepper.{Stepper}
 use Rattle.ww_table.specs.declared.close.Rooms.{Rooms}
 use Rattle.ww_model.specs.Interrupts.{one_of}
-use Rattle.ww_rule.specs.Rule.{first_graph, own_of, times}
-use Rattle.ww_rule.specs.Records.{AreFree}
+use Rattle.ww_invariant.specs.Rule.{first_graph, own_of, times}
+use Rattle.ww_invariant.specs.Records.{AreFree}
 use Rattle.ww_table.specs.Seat.{IsSeated, view_of}
 
 -- a seat of the table that holds nothing

@@ -16,16 +16,16 @@ use Rattle.ww_plain.specs.Graph.{IsNodeOf}
 use Rattle.ww_view.specs.View.{owns}
 use Rattle.ww_view.specs.May.{MayAsk, MayDie, MayEnter, MayGive, MayJoin, MayLeave, MayStop, MayTake}
 use Rattle.ww_view.specs.Made as made
-use Rattle.ww_rule.specs.declared.cells.Cell.{Cell}
-use Rattle.ww_rule.specs.declared.cells.Cell.TheVariants.{Content, Line}
-use Rattle.ww_rule.specs.declared.cells.Sight.{Sight}
-use Rattle.ww_rule.specs.Layout.{list_at}
-use Rattle.ww_rule.specs.Rule.{Sat}
-use Rattle.ww_rule.specs.Out.{AreOthers, numbers_of, slot_of}
-use Rattle.ww_rule.specs.Guards.{AreSeats, StandsAs, shutting_out, entering, exiting, looking}
-use Rattle.ww_rule.specs.Guards as guards
-use Rattle.ww_rule.specs.Steps.{knowing}
-use Rattle.ww_rule.specs.Waiting.{HasListOnTop, IsOut, joining, taking_inside, giving_inside, asking}
+use Rattle.ww_invariant.specs.declared.cells.Cell.{Cell}
+use Rattle.ww_invariant.specs.declared.cells.Cell.TheVariants.{Content, Line}
+use Rattle.ww_invariant.specs.declared.cells.Sight.{Sight}
+use Rattle.ww_invariant.specs.Layout.{list_at}
+use Rattle.ww_invariant.specs.Rule.{Sat}
+use Rattle.ww_invariant.specs.Out.{AreOthers, numbers_of, slot_of}
+use Rattle.ww_invariant.specs.Guards.{AreSeats, StandsAs, shutting_out, entering, exiting, looking}
+use Rattle.ww_invariant.specs.Guards as guards
+use Rattle.ww_invariant.specs.Steps.{knowing}
+use Rattle.ww_invariant.specs.Waiting.{HasListOnTop, IsOut, joining, taking_inside, giving_inside, asking}
 use Rattle.ww_table.specs.declared.board.Board.{Board}
 use Rattle.ww_table.specs.declared.seat.Stepper.{Stepper}
 use Rattle.ww_table.specs.Seat.{IsSeated, IsSeatOf, locks_of, size_of, view_of}

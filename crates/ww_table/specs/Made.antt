@@ -7,13 +7,13 @@ use Rattle.atomic_table.specs.Seated.{TableId}
 use Rattle.ww_word.specs.AnySeats.{packed, most_for}
 use Rattle.ww_queue.specs.declared.kind.Kind.{Kind}
 use Rattle.ww_plain.specs.declared.node.Node.{Node}
-use Rattle.ww_rule.specs.declared.cells.Cell.{Cell}
-use Rattle.ww_rule.specs.declared.cells.Sight.{Sight}
-use Rattle.ww_rule.specs.declared.cells.Start.{Start}
+use Rattle.ww_invariant.specs.declared.cells.Cell.{Cell}
+use Rattle.ww_invariant.specs.declared.cells.Sight.{Sight}
+use Rattle.ww_invariant.specs.declared.cells.Start.{Start}
 use Rattle.ww_table.specs.declared.seat.Stepper.{Stepper}
 use Rattle.ww_table.specs.declared.board.Board.{Board}
-use Rattle.ww_rule.specs.Rule.{first_graph, first_sight, first_parts, places_for, IsSize}
-use Rattle.ww_rule.specs.Layout.{IsSized, sign_at}
+use Rattle.ww_invariant.specs.Rule.{first_graph, first_sight, first_parts, places_for, IsSize}
+use Rattle.ww_invariant.specs.Layout.{IsSized, sign_at}
 use Rattle.ww_table.specs.Seat.{IsNew, base_of, step_of}
 
 -- seat k has the number k, and did nothing yet

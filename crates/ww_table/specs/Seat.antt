@@ -3,14 +3,14 @@ use Rattle.std.specs.Prelude.{ℕ, nat_lt, ◌≡◌, ◌<◌, ◌^◌, ◌==◌
 use Rattle.std.specs.List.{AllByRecursion}
 use Rattle.atomic_table.specs.Seated.{TableId}
 use Rattle.ww_word.specs.AnySeats.{Fits, packed, most_for, unflagged}
-use Rattle.ww_rule.specs.Layout.{IsSized, sign_at}
+use Rattle.ww_invariant.specs.Layout.{IsSized, sign_at}
 use Rattle.ww_view.specs.declared.view.View.{View}
 use Rattle.ww_view.specs.View.{owns}
 use Rattle.ww_view.specs.Made.{fast_given, fast_missed, fast_taken}
-use Rattle.ww_rule.specs.declared.cells.Start.{Start}
-use Rattle.ww_rule.specs.Rule.{first_graph, first_part, IsSize, Sat}
-use Rattle.ww_rule.specs.Steps.{seat_of, knowing, keeping}
-use Rattle.ww_rule.specs.Out.{numbers_of}
+use Rattle.ww_invariant.specs.declared.cells.Start.{Start}
+use Rattle.ww_invariant.specs.Rule.{first_graph, first_part, IsSize, Sat}
+use Rattle.ww_invariant.specs.Steps.{seat_of, knowing, keeping}
+use Rattle.ww_invariant.specs.Out.{numbers_of}
 use Rattle.ww_table.specs.declared.board.Board.{Board}
 use Rattle.ww_table.specs.declared.seat.Stepper.{Stepper}
 use Rattle.ww_table.specs.declared.seat.Taking.{Taking}

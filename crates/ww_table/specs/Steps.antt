@@ -11,14 +11,14 @@ use Rattle.ww_view.specs.View as view
 use Rattle.ww_view.specs.May.{MayFast}
 use Rattle.ww_view.specs.Made.{fast_missed, has_read}
 use Rattle.ww_view.specs.Made as made
-use Rattle.ww_rule.specs.declared.cells.Cell.{Cell}
-use Rattle.ww_rule.specs.declared.cells.Cell.TheVariants.{Content}
-use Rattle.ww_rule.specs.declared.cells.Sight.{Sight}
-use Rattle.ww_rule.specs.Rule.{Sat}
-use Rattle.ww_rule.specs.Out.{AreOthers, slot_of}
-use Rattle.ww_rule.specs.Steps.{knowing, drawing, drawing_none, taking, giving, keeping, placing}
-use Rattle.ww_rule.specs.Signs.{reading, finding_none}
-use Rattle.ww_rule.specs.Cancels.{finding_uncancelled, heeding}
+use Rattle.ww_invariant.specs.declared.cells.Cell.{Cell}
+use Rattle.ww_invariant.specs.declared.cells.Cell.TheVariants.{Content}
+use Rattle.ww_invariant.specs.declared.cells.Sight.{Sight}
+use Rattle.ww_invariant.specs.Rule.{Sat}
+use Rattle.ww_invariant.specs.Out.{AreOthers, slot_of}
+use Rattle.ww_invariant.specs.Steps.{knowing, drawing, drawing_none, taking, giving, keeping, placing}
+use Rattle.ww_invariant.specs.Signs.{reading, finding_none}
+use Rattle.ww_invariant.specs.Cancels.{finding_uncancelled, heeding}
 use Rattle.ww_table.specs.declared.board.Board.{Board}
 use Rattle.ww_table.specs.declared.seat.Stepper.{Stepper}
 use Rattle.ww_table.specs.declared.seat.Taking.{Taking}

@@ -1,13 +1,13 @@
 //! The table as all seats share it.
 
 ghost use Rattle.std.specs.Prelude.{◌≡◌, ◌≤◌, ◌<◌, length};
-ghost use Rattle.ww_rule.specs.Layout.{IsSized};
-ghost use Rattle.ww_rule.specs.Rule.{first_graph};
+ghost use Rattle.ww_invariant.specs.Layout.{IsSized};
+ghost use Rattle.ww_invariant.specs.Rule.{first_graph};
 
 use atomic_table::Table;
 use std::alloc::Global;
-use ww_rule::layout::{FRONT, STAMP, cancel_word, guard_word, owner_word, sign_word};
-use ww_rule::{Cell, Sight, Start, Words};
+use ww_invariant::layout::{FRONT, STAMP, cancel_word, guard_word, owner_word, sign_word};
+use ww_invariant::{Cell, Sight, Start, Words};
 
 /// A table of so many locks, 2^24 at most, and of 16 seats or more. If locks guard the nodes of a graph these are the
 /// first ones, of 64 at most.
@@ -56,7 +56,7 @@ impl Board {
     /// Reads one word, for a caller that has the board for itself, as tests do: a seat at work shares it, and reads by its
     /// steps alone. No clause says what the word has. The words are numbered: owner words from 0, guards from 64, signs
     /// from 128, the stamp word 144, the front word 145, cancels from 146. It gives 0 for a lock that isn't there.
-    #[tactic(auto, unfolding(ww_rule::specs::Layout::lock_at))]
+    #[tactic(auto, unfolding(ww_invariant::specs::Layout::lock_at))]
     pub fn peek(&mut self, word: u8) -> u64
         requires { word < 162 }
         ensures same { self.new ≡ self.old }

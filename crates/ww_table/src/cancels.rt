@@ -4,13 +4,13 @@ ghost use Rattle.std.specs.Prelude.{◌<◌};
 ghost use Rattle.ww_view.specs.View.{IsAway};
 ghost use Rattle.ww_view.specs.May.{MayHeed};
 ghost use Rattle.ww_table.specs.Seat.{IsSeatOf, view_of};
-ghost use Rattle.ww_rule.specs.Cancels.{cancelling, finding_pending};
+ghost use Rattle.ww_invariant.specs.Cancels.{cancelling, finding_pending};
 ghost use Rattle.ww_table.specs.Steps.{IsEither, HasHeeded};
 
 use crate::board::Board;
 use crate::seat::Stepper;
-use ww_rule::layout::cancel_word;
-use ww_rule::plays_inside::{Heed, SetCancel};
+use ww_invariant::layout::cancel_word;
+use ww_invariant::plays_inside::{Heed, SetCancel};
 
 impl Stepper {
     /// Sets the cancel of a seat, which may be the own one, and returns whether this call did so: a cancel that is

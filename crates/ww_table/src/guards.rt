@@ -3,16 +3,16 @@
 ghost use Rattle.std.specs.Prelude.{◌≡◌, ◌<◌, ◌+◌};
 ghost use Rattle.ww_word.specs.AnySeats.{IsValid};
 ghost use Rattle.ww_view.specs.May.{MayGlance};
-ghost use Rattle.ww_rule.specs.Guards.{glancing};
+ghost use Rattle.ww_invariant.specs.Guards.{glancing};
 ghost use Rattle.ww_table.specs.Seat.{IsSeatOf, locks_of, view_of};
 ghost use Rattle.ww_table.specs.Steps.{HasStepped};
 ghost use Rattle.ww_table.specs.Inside.{MayBringList, MayEnterAt, MayExitAt, HasBroughtList, HasExited, HasSeen, HasTriedToEnter};
 
 use crate::board::Board;
 use crate::seat::Stepper;
-use ww_rule::bring;
-use ww_rule::layout::{STAMP, guard_word, list_slot, owner_word};
-use ww_rule::plays_inside::{Count, Enter, Exit, Glance, Look};
+use ww_invariant::bring;
+use ww_invariant::layout::{STAMP, guard_word, list_slot, owner_word};
+use ww_invariant::plays_inside::{Count, Enter, Exit, Glance, Look};
 use ww_word::wide::{Owner, unpack};
 
 impl Stepper {

@@ -1,6 +1,6 @@
 //! The table of the running locks: owner words, guards, signs and counts in single atomic words, nodes and wait lists
-//! in slots. Each step of a seat keeps the one rule of `ww_rule`: what the words, the slots and the views of the seats
-//! show is a reached state of the core.
+//! in slots. Each step of a seat keeps the one rule of `ww_invariant`: what the words, the slots and the views of the
+//! seats show is a reached state of the core.
 #![tactic(auto)]
 
 mod board;

@@ -2,7 +2,7 @@
 
 ghost use Rattle.std.specs.Prelude.{◌≡◌, ◌<◌, ◌≤◌, [], length, IfOk, IfErr, vec_len, vec_capacity};
 ghost use Rattle.ww_plain.specs.Graph.{IsGraph};
-ghost use Rattle.ww_rule.specs.Rule.{nodes_of, IsSize, places_for};
+ghost use Rattle.ww_invariant.specs.Rule.{nodes_of, IsSize, places_for};
 ghost use Rattle.ww_table.specs.Made.{AreNew, HasDoneNothing, IsMade, MayCut};
 ghost use Rattle.ww_table.specs.Seat.{step_of};
 
@@ -12,12 +12,12 @@ use arrayvec::ArrayVec;
 use atomic_table::Table;
 use std::alloc::{AllocError, Global};
 use std::snapshot::Snapshot;
+use ww_invariant::homes::slots;
+use ww_invariant::layout::{sign_word, words};
+use ww_invariant::plays::Seats;
+use ww_invariant::{Page, Start, TableSeat, Top};
 use ww_plain::{Graph, Node};
 use ww_queue::Kind;
-use ww_rule::homes::slots;
-use ww_rule::layout::{sign_word, words};
-use ww_rule::plays::Seats;
-use ww_rule::{Page, Start, TableSeat, Top};
 use ww_word::wide::most_stamp;
 
 impl Board {

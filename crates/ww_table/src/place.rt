@@ -3,17 +3,17 @@
 ghost use Rattle.std.specs.Prelude.{◌≡◌, ◌<◌, ◌↔◌, true, length, Some, IfOk, IsTrue, OnErr, vec_len, vec_capacity};
 ghost use Rattle.ww_plain.specs.History.{recorded_of};
 ghost use Rattle.ww_table.specs.Seat.{IsSeatOf};
-ghost use Rattle.ww_rule.specs.Steps.{MayPlace};
+ghost use Rattle.ww_invariant.specs.Steps.{MayPlace};
 ghost use Rattle.ww_table.specs.Steps.{HasPlaced, HasItsPlace};
 
 use crate::board::Board;
 use crate::seat::Stepper;
 use std::alloc::AllocError;
 use std::marker::Brand;
+use ww_invariant::TableSeat;
+use ww_invariant::layout::FRONT;
+use ww_invariant::plays::{Commit, Said};
 use ww_plain::Record;
-use ww_rule::TableSeat;
-use ww_rule::layout::FRONT;
-use ww_rule::plays::{Commit, Said};
 
 impl Stepper {
     /// How many commits it made.

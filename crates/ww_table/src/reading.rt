@@ -8,8 +8,8 @@ ghost use Rattle.ww_table.specs.Inside.{MayReadList, HasReadDeath, HasReadDebts,
 use crate::board::Board;
 use crate::seat::Stepper;
 use arrayvec::ArrayVec;
+use ww_invariant::lists::{death_there, first_there, flag_there, owed_there, owner_there};
 use ww_queue::wide::{Entry, SOME_SIGNS};
-use ww_rule::lists::{death_there, first_there, flag_there, owed_there, owner_there};
 use ww_word::wide::Owner;
 
 impl Stepper {

@@ -5,21 +5,21 @@ ghost use Rattle.ww_word.specs.AnySeats.{Fits, packed};
 ghost use Rattle.ww_plain.specs.declared.node.Node.{Node};
 ghost use Rattle.ww_view.specs.View.{IsAway};
 ghost use Rattle.ww_view.specs.May.{MayFast};
-ghost use Rattle.ww_rule.specs.declared.cells.Cell.{Cell};
-ghost use Rattle.ww_rule.specs.declared.cells.Cell.TheVariants.{Content};
-ghost use Rattle.ww_rule.specs.Out.{slot_of, numbers_of};
-ghost use Rattle.ww_rule.specs.Steps.{MayDraw, MayEnd};
+ghost use Rattle.ww_invariant.specs.declared.cells.Cell.{Cell};
+ghost use Rattle.ww_invariant.specs.declared.cells.Cell.TheVariants.{Content};
+ghost use Rattle.ww_invariant.specs.Out.{slot_of, numbers_of};
+ghost use Rattle.ww_invariant.specs.Steps.{MayDraw, MayEnd};
 ghost use Rattle.ww_table.specs.Seat.{IsSeatOf, base_of, step_of, giving_of, locks_of, taking_of, view_of};
 ghost use Rattle.ww_table.specs.Steps.{IsBareLock, MayGiveFree, MayTakeFree, HasAskedWhoOwns, HasDrawn, HasReadTop, HasSwapped, HasTriedToEnd, HasTriedToGiveBare, HasTriedToGiveFree, HasTriedToTakeBare, HasTriedToTakeFree};
 
 use crate::board::Board;
 use arrayvec::ArrayVec;
+use ww_invariant::layout::{STAMP, owner_word, packed_word, spread_word};
+use ww_invariant::nodes::{node_there, swap_there};
+use ww_invariant::plays::{Draw, End, GiveBare, GiveFree, Owns, TakeBare, TakeFree};
+use ww_invariant::{MAX_OUT, Page, TableSeat, bring};
 use ww_plain::{Node, Record};
 use ww_queue::Kind;
-use ww_rule::layout::{STAMP, owner_word, packed_word, spread_word};
-use ww_rule::nodes::{node_there, swap_there};
-use ww_rule::plays::{Draw, End, GiveBare, GiveFree, Owns, TakeBare, TakeFree};
-use ww_rule::{MAX_OUT, Page, TableSeat, bring};
 use ww_word::wide::{pack_seat, without_flags};
 
 /// A seat of a board. It may start one context after another. Each of its steps is one atomic operation on one word;
@@ -173,7 +173,7 @@ impl Stepper {
     }
 
     /// Whether it has a slot out.
-    #[tactic(auto, using(ww_rule::proofs::Turning::numbers_long))]
+    #[tactic(auto, using(ww_invariant::proofs::Turning::numbers_long))]
     pub fn has_out(&self) -> bool
         requires order { self.now.order.items ≡ numbers_of self.now.seat.me.1 }
         ensures { result ≡ nat_lt 0 (length self.now.seat.me.1) }

@@ -3,13 +3,13 @@
 ghost use Rattle.std.specs.Prelude.{◌<◌};
 ghost use Rattle.ww_view.specs.May.{MayClear, MaySign};
 ghost use Rattle.ww_table.specs.Seat.{IsSeatOf, view_of};
-ghost use Rattle.ww_rule.specs.Signs.{clearing, condemning, noting};
+ghost use Rattle.ww_invariant.specs.Signs.{clearing, condemning, noting};
 ghost use Rattle.ww_table.specs.Steps.{IsEither, HasStepped, HasReadSign};
 
 use crate::board::Board;
 use crate::seat::Stepper;
-use ww_rule::layout::sign_word;
-use ww_rule::plays_inside::{Clear, OwnSign, Sign};
+use ww_invariant::layout::sign_word;
+use ww_invariant::plays_inside::{Clear, OwnSign, Sign};
 
 impl Stepper {
     /// Condemns another seat by the stamp of the older context that it meets here, and returns whether this call did

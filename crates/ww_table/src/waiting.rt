@@ -3,19 +3,21 @@
 ghost use Rattle.std.specs.Prelude.{ℕ, ◌≡◌, ◌<◌, true, Some};
 ghost use Rattle.ww_view.specs.May.{MayDie};
 ghost use Rattle.ww_view.specs.Made.{taken};
-ghost use Rattle.ww_rule.specs.Steps.{knowing};
-ghost use Rattle.ww_rule.specs.Waiting.{dying};
-ghost use Rattle.ww_rule.specs.Cancels.{stopping};
+ghost use Rattle.ww_invariant.specs.Steps.{knowing};
+ghost use Rattle.ww_invariant.specs.Waiting.{dying};
+ghost use Rattle.ww_invariant.specs.Cancels.{stopping};
 ghost use Rattle.ww_table.specs.Seat.{IsSeatOf, view_of};
 ghost use Rattle.ww_table.specs.Inside.{MayAskAt, MayDieAt, MayGiveAt, MayGiveBareAt, MayJoinAt, MayLeaveAt, MayTakeAt, MayTakeBareAt, HasGivenBareInside, HasGivenInside, HasTriedToAsk, HasTriedToGo, HasTriedToJoin, HasTriedToTakeInside};
 
 use crate::board::Board;
 use crate::seat::Stepper;
+use ww_invariant::bring;
+use ww_invariant::layout::{list_slot, owner_word};
+use ww_invariant::lists::{join_list, leave_list};
+use ww_invariant::plays_inside::{
+    Ask, Die, Give, GiveBareInside, Join, Leave, Take, TakeBareInside,
+};
 use ww_queue::wide::Entry;
-use ww_rule::bring;
-use ww_rule::layout::{list_slot, owner_word};
-use ww_rule::lists::{join_list, leave_list};
-use ww_rule::plays_inside::{Ask, Die, Give, GiveBareInside, Join, Leave, Take, TakeBareInside};
 use ww_word::wide::{Owner, pack};
 use ww_word::{HANDOFF, WAITERS};
 

@@ -6,13 +6,13 @@ use Rattle.ww_word.specs.declared.owner.Owner.{Owner}
 use Rattle.ww_word.specs.AnySeats.{IsValid, packed}
 use Rattle.ww_view.specs.Made.{noted, found_uncancelled, stepped, glanced, found_pending, shut_out, has_looked, has_read, found_none, fast_missed, fast_kept}
 use Rattle.ww_view.proofs.Inside.{mine_look, mine_uncancelled, mine_lost_sign, mine_read, mine_read_none, mine_missed, mine_kept, mine_glanced, mine_found_pending, mine_shut_out, mine_stepped}
-use Rattle.ww_rule.specs.Layout.{lock_at}
-use Rattle.ww_rule.specs.declared.cells.Start.{Start}
-use Rattle.ww_rule.specs.Rule.{St, Sat, Sits, Ruled, Stays}
-use Rattle.ww_rule.specs.Guards.{looking, glancing}
-use Rattle.ww_rule.specs.Signs.{noting}
-use Rattle.ww_rule.proofs.Moves as moves
-use Rattle.ww_rule.proofs.InsideMoves.{inside_low}
+use Rattle.ww_invariant.specs.Layout.{lock_at}
+use Rattle.ww_invariant.specs.declared.cells.Start.{Start}
+use Rattle.ww_invariant.specs.Rule.{St, Sat, Sits, Ruled, Stays}
+use Rattle.ww_invariant.specs.Guards.{looking, glancing}
+use Rattle.ww_invariant.specs.Signs.{noting}
+use Rattle.ww_invariant.proofs.Moves as moves
+use Rattle.ww_invariant.proofs.InsideMoves.{inside_low}
 use Rattle.ww_table_laws.specs.NoEvents.{once_read, IsNotedOnly, IsLostOnly}
 
 module _ (key : Start) (s : St) (r : Ruled key s) (id : ℕ) (me : Sat) (here : get_elem? s.views id ≡ some me.0)

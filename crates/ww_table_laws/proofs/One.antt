@@ -20,11 +20,11 @@ use Rattle.ww_model.proofs.Beyond.{queues_beyond, guards_are, cancels_beyond}
 use Rattle.ww_model.proofs.Cancels.{away_unheeded}
 use Rattle.ww_plain.specs.History.{Recorded, part_of}
 use Rattle.ww_view.proofs.Written.{wide_word_is_valid}
-use Rattle.ww_rule.proofs.Moves.{have_room}
-use Rattle.ww_rule.specs.declared.cells.Cell.TheVariants.{Line}
-use Rattle.ww_rule.specs.declared.cells.Part.{Part}
-use Rattle.ww_rule.specs.declared.cells.Start.{Start}
-use Rattle.ww_rule.specs.Rule.{St, PartFits, Ruled}
+use Rattle.ww_invariant.proofs.Moves.{have_room}
+use Rattle.ww_invariant.specs.declared.cells.Cell.TheVariants.{Line}
+use Rattle.ww_invariant.specs.declared.cells.Part.{Part}
+use Rattle.ww_invariant.specs.declared.cells.Start.{Start}
+use Rattle.ww_invariant.specs.Rule.{St, PartFits, Ruled}
 use Rattle.ww_table.proofs.Closing.{part_has, has_part}
 
 -- ---- an owner word tells owner and HANDOFF

@@ -21,16 +21,16 @@ use Rattle.ww_plain.specs.History.{last_graph}
 use Rattle.ww_view.specs.Word.{taken_word, asked_word, given_word, rest_word}
 use Rattle.ww_view.specs.May.{MayEnter, MayExit, MayJoin, MayTake, MayAsk, MayGive, MayDie, MaySign, MayClear, MayHeed, MayStop}
 use Rattle.ww_view.specs.Made.{given, taken}
-use Rattle.ww_rule.specs.declared.cells.Cell.{Cell}
-use Rattle.ww_rule.specs.declared.cells.Cell.TheVariants.{Content, Line}
-use Rattle.ww_rule.specs.declared.cells.Start.{Start}
-use Rattle.ww_rule.specs.Layout.{owner_at, guard_at, sign_at, cancel_at, list_at}
-use Rattle.ww_rule.specs.Rule.{St, Sat, first_graph, Ruled, Makes}
-use Rattle.ww_rule.specs.Steps.{knowing}
-use Rattle.ww_rule.specs.Guards.{entering, exiting}
-use Rattle.ww_rule.specs.Waiting.{joining, taking_inside, giving_inside, asking, dying}
-use Rattle.ww_rule.specs.Signs.{condemning, clearing}
-use Rattle.ww_rule.specs.Cancels.{cancelling, heeding, stopping}
+use Rattle.ww_invariant.specs.declared.cells.Cell.{Cell}
+use Rattle.ww_invariant.specs.declared.cells.Cell.TheVariants.{Content, Line}
+use Rattle.ww_invariant.specs.declared.cells.Start.{Start}
+use Rattle.ww_invariant.specs.Layout.{owner_at, guard_at, sign_at, cancel_at, list_at}
+use Rattle.ww_invariant.specs.Rule.{St, Sat, first_graph, Ruled, Makes}
+use Rattle.ww_invariant.specs.Steps.{knowing}
+use Rattle.ww_invariant.specs.Guards.{entering, exiting}
+use Rattle.ww_invariant.specs.Waiting.{joining, taking_inside, giving_inside, asking, dying}
+use Rattle.ww_invariant.specs.Signs.{condemning, clearing}
+use Rattle.ww_invariant.specs.Cancels.{cancelling, heeding, stopping}
 use Rattle.ww_view.specs.View.{IsAway}
 use Rattle.ww_table_laws.specs.Laws.{StepsAt}
 

@@ -18,17 +18,17 @@ use Rattle.ww_plain.specs.History.{Recorded, recorded_of, last_graph}
 use Rattle.ww_view.specs.View.{owns, IsAway}
 use Rattle.ww_view.specs.May.{MayFast}
 use Rattle.ww_view.specs.Made.{ended, fast_given, fast_taken}
-use Rattle.ww_rule.specs.declared.cells.Cell.{Cell}
-use Rattle.ww_rule.specs.declared.cells.Cell.TheVariants.{Content}
-use Rattle.ww_rule.specs.declared.cells.Start.{Start}
+use Rattle.ww_invariant.specs.declared.cells.Cell.{Cell}
+use Rattle.ww_invariant.specs.declared.cells.Cell.TheVariants.{Content}
+use Rattle.ww_invariant.specs.declared.cells.Start.{Start}
 use Rattle.atomic_table.specs.Seated.{TableId}
 use Rattle.ww_table.specs.declared.seat.Stepper.{Stepper}
 use Rattle.ww_table.specs.Made.{AreNew}
 use Rattle.ww_table.specs.Closed.{HaveAllCome}
-use Rattle.ww_rule.specs.Layout.{owner_at, sign_at, stamp_at, front_at, words_for, slots_for}
-use Rattle.ww_rule.specs.Homes.{AreSlots}
-use Rattle.ww_rule.specs.Rule.{St, Sat, first_graph, first_sight, Ruled, IsSize, MakesWith, Makes, Stays, AreNodes}
-use Rattle.ww_rule.specs.Steps.{MayDraw, MayEnd, MayPlace, taker, drawing, drawing_none, taking, giving, knowing, placing, IsToldBy}
+use Rattle.ww_invariant.specs.Layout.{owner_at, sign_at, stamp_at, front_at, words_for, slots_for}
+use Rattle.ww_invariant.specs.Homes.{AreSlots}
+use Rattle.ww_invariant.specs.Rule.{St, Sat, first_graph, first_sight, Ruled, IsSize, MakesWith, Makes, Stays, AreNodes}
+use Rattle.ww_invariant.specs.Steps.{MayDraw, MayEnd, MayPlace, taker, drawing, drawing_none, taking, giving, knowing, placing, IsToldBy}
 
 -- a seat of the table that steps: where its view stands, and the seat itself
 pub record StepsAt (s : St) (id : ℕ) (me : Sat) : Type 0 where

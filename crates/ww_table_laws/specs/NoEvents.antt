@@ -7,15 +7,15 @@ use Rattle.ww_word.specs.declared.owner.Owner.{Owner}
 use Rattle.ww_word.specs.AnySeats.{IsValid, packed}
 use Rattle.ww_view.specs.View.{IsBare, IsQuiet}
 use Rattle.ww_view.specs.Made.{fast_missed}
-use Rattle.ww_rule.specs.declared.cells.Part.{Part}
-use Rattle.ww_rule.specs.declared.cells.Sight.{Sight}
-use Rattle.ww_rule.specs.declared.cells.Start.{Start}
-use Rattle.ww_rule.specs.Layout.{owner_at, sign_at, stamp_at}
-use Rattle.ww_rule.specs.Rule.{St, Sat, Ruled, Stays}
-use Rattle.ww_rule.specs.Steps.{knowing, keeping, nobody, first_seat, without_first, with_seat}
-use Rattle.ww_rule.specs.Guards.{lost, shutting_out, looking, glancing}
-use Rattle.ww_rule.specs.Signs.{noting, reading, finding_none}
-use Rattle.ww_rule.specs.Cancels.{finding_pending, finding_uncancelled}
+use Rattle.ww_invariant.specs.declared.cells.Part.{Part}
+use Rattle.ww_invariant.specs.declared.cells.Sight.{Sight}
+use Rattle.ww_invariant.specs.declared.cells.Start.{Start}
+use Rattle.ww_invariant.specs.Layout.{owner_at, sign_at, stamp_at}
+use Rattle.ww_invariant.specs.Rule.{St, Sat, Ruled, Stays}
+use Rattle.ww_invariant.specs.Steps.{knowing, keeping, nobody, first_seat, without_first, with_seat}
+use Rattle.ww_invariant.specs.Guards.{lost, shutting_out, looking, glancing}
+use Rattle.ww_invariant.specs.Signs.{noting, reading, finding_none}
+use Rattle.ww_invariant.specs.Cancels.{finding_pending, finding_uncancelled}
 use Rattle.ww_table_laws.specs.Laws.{StepsAt}
 
 -- the table once the seat read a word, or found there another than it expected, and has this view then

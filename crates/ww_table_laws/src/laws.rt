@@ -8,7 +8,7 @@ pub fn draw_is_begin()
 {}
 
 /// Where all stamps are spent, a draw is no event.
-#[tactic(auto, using(ww_rule::proofs::Moves::draw_stays))]
+#[tactic(auto, using(ww_invariant::proofs::Moves::draw_stays))]
 pub fn spent_is_no_event()
     ensures { SpentIsNoEvent }
 {}
@@ -44,7 +44,7 @@ pub fn give_bare_is_fast_give()
 {}
 
 /// By the word of a lock, a seat that is away knows whether it owns the lock.
-#[tactic(auto, using(ww_rule::proofs::Moves::told))]
+#[tactic(auto, using(ww_invariant::proofs::Moves::told))]
 pub fn words_tell_owners()
     ensures { WordsTellOwners }
 {}

@@ -44,13 +44,13 @@ pub fn lost_sign_is_no_event()
 {}
 
 /// So does cutting off a seat.
-#[tactic(auto, using(ww_rule::proofs::Seats::splits_on))]
+#[tactic(auto, using(ww_invariant::proofs::Seats::splits_on))]
 pub fn split_is_no_event()
     ensures { SplitIsNoEvent }
 {}
 
 /// So does taking a seat in.
-#[tactic(auto, using(ww_rule::proofs::Seats::joins_on))]
+#[tactic(auto, using(ww_invariant::proofs::Seats::joins_on))]
 pub fn join_is_no_event()
     ensures { JoinIsNoEvent }
 {}

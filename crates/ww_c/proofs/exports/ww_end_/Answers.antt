@@ -1,7 +1,7 @@
 use Rattle.std.proofs.Common.{Some, refl, subst, pos, Option}
-use Rattle.ww_desk.specs.declared.turn.Answer.TheVariants.{Done}
-use Rattle.ww_desk.specs.Situations.{Situation}
-use Rattle.ww_desk.specs.Answers.{IsEndAnswer}
+use Rattle.ww_steps.specs.declared.turn.Answer.TheVariants.{Done}
+use Rattle.ww_steps.specs.Situations.{Situation}
+use Rattle.ww_steps.specs.Answers.{IsEndAnswer}
 use Rattle.ww_c.specs.Exports.{IsCall}
 use Rattle.ww_c.proofs.exports.ww_end_.Goals as goal
 

@@ -2,7 +2,7 @@ use Rattle.std.proofs.Common.{rules, ◌≡◌, ◌∙◌, ℕ, length, List, So
 use Rattle.std.proofs.lemmas.List.{length-map, map-append}
 use Rattle.std.specs.Prelude.{Box}
 use Rattle.std.specs.Global.{Global}
-use Rattle.ww_desk.specs.Situations.{Situation}
+use Rattle.ww_steps.specs.Situations.{Situation}
 use Rattle.ww_c.specs.Exports.{desks_of}
 use Rattle.ww_c.proofs.Filling.{none_filled, one_filled}
 use Rattle.ww_c.proofs.opening.fill.Goals as goal

@@ -1,6 +1,6 @@
 use Rattle.std.proofs.Common.{rules, ◌≡◌, ◌<◌, length, get_or, sym, subst}
 use Rattle.ww_plain.proofs.GraphFacts.{all_item}
-use Rattle.ww_rule.proofs.Filling.{take_all}
+use Rattle.ww_invariant.proofs.Filling.{take_all}
 use Rattle.ww_table.proofs.Closing.{all_more}
 use Rattle.ww_lock.specs.Holding.{Holding, AreBelow}
 use Rattle.ww_lock.proofs.Closings.{below_further}

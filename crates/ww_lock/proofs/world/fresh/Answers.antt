@@ -1,5 +1,5 @@
 use Rattle.std.proofs.Common.{◌≡◌, [], ◌∷◌, ◌++◌, ℕ, suc, ◌+◌, false, replicate, List, length, map, drop, ap, length-append, append_assoc, refl, sym, subst, ◌∙◌, rules, arith}
-use Rattle.ww_rule.specs.Rule.{first_graph}
+use Rattle.ww_invariant.specs.Rule.{first_graph}
 use Rattle.ww_lock.specs.declared.hand.Hand.TheInside.{Inside}
 use Rattle.ww_lock.specs.Carried.{Carried, holding_of, held_of, stamp_of}
 use Rattle.atomic_table.specs.Seated.{TableId}

@@ -1,6 +1,6 @@
 use Rattle.std.proofs.Common.{◌≡◌, ◌≤◌, ◌++◌, length, map, drop}
 use Rattle.std.specs.Prelude.{vec_len, vec_capacity}
-use Rattle.ww_rule.specs.Rule.{first_graph}
+use Rattle.ww_invariant.specs.Rule.{first_graph}
 use Rattle.ww_seat.specs.Bells.{leads_to}
 use Rattle.ww_lock.specs.Opened.{home_at, AreFresh, AreRests}
 use Rattle.ww_lock.proofs.world.fresh.Given as goal

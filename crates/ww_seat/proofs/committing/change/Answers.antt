@@ -5,11 +5,11 @@ use Rattle.ww_plain.specs.declared.node.Node.{Node}
 use Rattle.ww_plain.specs.Graph.{no_node}
 use Rattle.ww_plain.proofs.GraphFacts.{all_item}
 use Rattle.ww_view.specs.View.{owns}
-use Rattle.ww_rule.specs.declared.cells.Cell.{Cell}
-use Rattle.ww_rule.specs.declared.cells.Cell.TheVariants.{Content}
-use Rattle.ww_rule.specs.declared.cells.Sight.{Sight}
-use Rattle.ww_rule.specs.Rule.{Sat}
-use Rattle.ww_rule.specs.Out.{slot_of, AreOthers}
+use Rattle.ww_invariant.specs.declared.cells.Cell.{Cell}
+use Rattle.ww_invariant.specs.declared.cells.Cell.TheVariants.{Content}
+use Rattle.ww_invariant.specs.declared.cells.Sight.{Sight}
+use Rattle.ww_invariant.specs.Rule.{Sat}
+use Rattle.ww_invariant.specs.Out.{slot_of, AreOthers}
 use Rattle.ww_seat.specs.declared.committing.NodeChange.{NodeChange}
 use Rattle.ww_table.specs.Seat.{size_of}
 use Rattle.ww_seat.specs.Commits.{change_at, IsChanged}

@@ -1,7 +1,7 @@
 use Rattle.std.proofs.Common.{rules, arith, Bool, true, length, sym, ap, refl, subst, ◌+◌, ◌∙◌}
 use Rattle.ww_model.specs.State.{any_below}
 use Rattle.ww_view.specs.View.{owns}
-use Rattle.ww_rule.specs.Rule.{Sat}
+use Rattle.ww_invariant.specs.Rule.{Sat}
 use Rattle.ww_table.specs.Seat.{size_of, view_of}
 use Rattle.ww_seat.specs.declared.look.Attempt.TheVariants.{Lost}
 use Rattle.ww_seat.specs.declared.look.Look.TheVariants.{Interrupted}

@@ -1,6 +1,6 @@
 use Rattle.std.proofs.Common.{◌≡◌, ℕ, List, ◌++◌, refl, sym, ap, ◌∙◌, [], subst}
-use Rattle.ww_rule.specs.declared.cells.Sight.{Sight}
-use Rattle.ww_rule.specs.Rule.{Sat}
+use Rattle.ww_invariant.specs.declared.cells.Sight.{Sight}
+use Rattle.ww_invariant.specs.Rule.{Sat}
 use Rattle.ww_queue.specs.Rules.{owed_signs}
 use Rattle.ww_queue.proofs.AnyLists.{signs_all}
 use Rattle.ww_seat.specs.Work.{AreOwed, HasToWake}

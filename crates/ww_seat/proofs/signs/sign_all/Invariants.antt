@@ -1,7 +1,7 @@
 use Rattle.std.proofs.Common.{ℕ, ◌≡◌, ◌+◌, ◌-◌, ◌++◌, length, List, Option, Some, None}
 use Rattle.ww_queue.specs.Rules.{owed_signs}
 use Rattle.ww_view.specs.declared.view.View.{View}
-use Rattle.ww_rule.specs.Rule.{first_graph}
+use Rattle.ww_invariant.specs.Rule.{first_graph}
 use Rattle.ww_table.specs.Seat.{IsSeated}
 use Rattle.ww_seat.specs.Work.{AreMarked, HasToWake, HasNoted}
 use Rattle.ww_seat.proofs.Signing.{left_of}

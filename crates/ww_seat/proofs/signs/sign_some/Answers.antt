@@ -1,5 +1,5 @@
 use Rattle.std.proofs.Common.{ap, refl, sym, ◌∙◌, arith}
-use Rattle.ww_rule.specs.declared.cells.Sight.{Sight}
+use Rattle.ww_invariant.specs.declared.cells.Sight.{Sight}
 use Rattle.ww_seat.proofs.Working.{marked_none, still_noted}
 use Rattle.ww_seat.proofs.Signing.{noted_none, marked_noted, noted_step, noted_is, noted_all, owed_at, victim_low, may_sign}
 use Rattle.ww_seat.proofs.signs.sign_some.Goals as goal

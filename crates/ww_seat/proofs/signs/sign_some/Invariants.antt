@@ -1,5 +1,5 @@
 use Rattle.std.proofs.Common.{◌≡◌, length, take}
-use Rattle.ww_rule.specs.Rule.{first_graph}
+use Rattle.ww_invariant.specs.Rule.{first_graph}
 use Rattle.ww_table.specs.Seat.{IsSeated}
 use Rattle.ww_seat.specs.Work.{AreMarked, HasToWake, HasNoted}
 use Rattle.ww_seat.proofs.signs.sign_some.Given as goal

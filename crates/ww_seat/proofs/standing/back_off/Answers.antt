@@ -1,6 +1,6 @@
 use Rattle.std.proofs.Common.{ap, refl, sym, ◌∙◌, true≢false}
-use Rattle.ww_rule.specs.Guards.{exiting}
-use Rattle.ww_rule.specs.Waiting.{dying}
+use Rattle.ww_invariant.specs.Guards.{exiting}
+use Rattle.ww_invariant.specs.Waiting.{dying}
 use Rattle.ww_seat.proofs.Working.{touched_lost_on_top, none_condemned, none_touched}
 use Rattle.ww_seat.proofs.Stood.{dying_orderly, died_goes, look_died}
 use Rattle.ww_seat.proofs.standing.back_off.Goals as goal

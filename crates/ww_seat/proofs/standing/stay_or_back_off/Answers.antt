@@ -1,6 +1,6 @@
 use Rattle.std.proofs.Common.{true, ap, ◌∙◌}
-use Rattle.ww_rule.specs.declared.cells.Sight.{Sight}
-use Rattle.ww_rule.specs.Guards.{exiting}
+use Rattle.ww_invariant.specs.declared.cells.Sight.{Sight}
+use Rattle.ww_invariant.specs.Guards.{exiting}
 use Rattle.ww_table.specs.Seat.{size_of}
 use Rattle.ww_seat.specs.Work.{deeds_of, looks_again, HasCome}
 use Rattle.ww_seat.specs.declared.look.Attempt.TheVariants.{Lost}

@@ -1,7 +1,7 @@
 use Rattle.std.proofs.Common.{ap, arith, refl, sym, ◌∙◌, Some}
 use Rattle.ww_word.specs.declared.owner.Owner.{Owner}
-use Rattle.ww_rule.specs.declared.cells.Sight.{Sight}
-use Rattle.ww_rule.specs.Waiting.{taking_inside}
+use Rattle.ww_invariant.specs.declared.cells.Sight.{Sight}
+use Rattle.ww_invariant.specs.Waiting.{taking_inside}
 use Rattle.ww_table.specs.Seat.{size_of}
 use Rattle.ww_plain.specs.declared.node.Node.{Node}
 use Rattle.ww_seat.specs.Work.{deeds_of, HasTakenInside}

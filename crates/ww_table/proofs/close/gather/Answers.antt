@@ -1,7 +1,7 @@
 use Rattle.std.proofs.Common.{rules, ◌≡◌, [], ◌∷◌, ◌++◌, sym, subst}
 use Rattle.std.specs.List.{AllByRecursion}
 use Rattle.ww_table.specs.Closed.{HasCome, IsGathered}
-use Rattle.ww_rule.proofs.Filling.{all_at}
+use Rattle.ww_invariant.proofs.Filling.{all_at}
 use Rattle.ww_table.proofs.Closing.{gathered_one, gathered_all}
 use Rattle.ww_table.proofs.close.gather.Goals as goal
 

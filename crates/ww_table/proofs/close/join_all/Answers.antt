@@ -1,13 +1,13 @@
 use Rattle.std.proofs.Common.{rules, arith, ◌≡◌, List, [], ◌∷◌, ◌++◌, ap, sym, ◌∙◌, length, subst, append-nil, append_assoc}
 use Rattle.std.specs.List.{AllByRecursion}
 use Rattle.ww_view.specs.View.{IsBare}
-use Rattle.ww_rule.specs.Steps.{with_seat}
-use Rattle.ww_rule.specs.declared.cells.Sight.{Sight}
+use Rattle.ww_invariant.specs.Steps.{with_seat}
+use Rattle.ww_invariant.specs.declared.cells.Sight.{Sight}
 use Rattle.ww_table.specs.declared.seat.Stepper.{Stepper}
-use Rattle.ww_rule.specs.Rule.{Sat}
+use Rattle.ww_invariant.specs.Rule.{Sat}
 use Rattle.ww_table.specs.Closed.{HasCome, IsGathered}
-use Rattle.ww_rule.proofs.Seats.{joins}
-use Rattle.ww_rule.proofs.Filling.{all_at}
+use Rattle.ww_invariant.proofs.Seats.{joins}
+use Rattle.ww_invariant.proofs.Filling.{all_at}
 use Rattle.ww_table.proofs.Closing.{none_left, gathered_more}
 use Rattle.ww_table.proofs.close.join_all.Goals as goal
 

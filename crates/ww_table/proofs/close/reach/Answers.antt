@@ -1,6 +1,6 @@
 use Rattle.std.proofs.Common.{rules, ◌≡◌, ◌<◌, length, get_or, sym, subst}
 use Rattle.ww_plain.proofs.GraphFacts.{all_item}
-use Rattle.ww_rule.proofs.Filling.{below_more, take_all}
+use Rattle.ww_invariant.proofs.Filling.{below_more, take_all}
 use Rattle.ww_table.specs.Closed.{HasPlaces}
 use Rattle.ww_table.proofs.Closing.{all_more}
 use Rattle.ww_table.proofs.close.reach.Goals as goal

@@ -1,5 +1,5 @@
 use Rattle.std.proofs.Common.{arith, ℕ, ◌≡◌, ◌<◌, ◌+◌, ◌-◌, [], ap, subst, sym, ◌∙◌}
-use Rattle.ww_rule.specs.Rule.{Sat}
+use Rattle.ww_invariant.specs.Rule.{Sat}
 use Rattle.ww_table.specs.Made.{AreNew, HasDoneNothing}
 use Rattle.ww_table.proofs.Making.{new_seat, news_more, next_splits, next_left, next_cut, last_left}
 use Rattle.ww_table.proofs.make.cut.Goals as goal

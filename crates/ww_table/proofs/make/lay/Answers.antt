@@ -1,10 +1,10 @@
 use Rattle.std.proofs.Common.{ℕ, List, replicate, sym, ap, ◌∙◌, subst}
 use Rattle.atomic_table.specs.Table.{opening}
-use Rattle.ww_rule.specs.declared.cells.Start.{Start}
+use Rattle.ww_invariant.specs.declared.cells.Start.{Start}
 use Rattle.std.proofs.Common.{arith}
-use Rattle.ww_rule.specs.Rule.{Ruled, IsSize, first_sight, nodes_of}
-use Rattle.ww_rule.proofs.Totals.{is_size}
-use Rattle.ww_rule.proofs.NodesAfter.{of_graph}
+use Rattle.ww_invariant.specs.Rule.{Ruled, IsSize, first_sight, nodes_of}
+use Rattle.ww_invariant.proofs.Totals.{is_size}
+use Rattle.ww_invariant.proofs.NodesAfter.{of_graph}
 use Rattle.ww_table.proofs.Making.{opens_made}
 use Rattle.ww_table.proofs.make.lay.Goals as goal
 

@@ -1,5 +1,5 @@
 use Rattle.std.proofs.Common.{arith}
-use Rattle.ww_rule.proofs.Places.{places}
+use Rattle.ww_invariant.proofs.Places.{places}
 use Rattle.ww_table.proofs.place.place_said.Goals as goal
 
 pub fetch_add-requires : goal.fetch_add-requires

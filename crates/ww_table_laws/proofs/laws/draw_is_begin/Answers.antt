@@ -1,4 +1,4 @@
-use Rattle.ww_rule.proofs.Moves.{draw_makes}
+use Rattle.ww_invariant.proofs.Moves.{draw_makes}
 use Rattle.ww_table_laws.proofs.laws.draw_is_begin.Goals as goal
 
 pub returns : goal.returns

@@ -1,4 +1,4 @@
-use Rattle.ww_rule.proofs.Moves.{end_makes}
+use Rattle.ww_invariant.proofs.Moves.{end_makes}
 use Rattle.ww_table_laws.proofs.laws.end_is_end.Goals as goal
 
 pub returns : goal.returns

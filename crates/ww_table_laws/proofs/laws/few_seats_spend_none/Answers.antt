@@ -1,5 +1,5 @@
 use Rattle.std.proofs.Common.{arith}
-use Rattle.ww_rule.proofs.Moves.{few_room}
+use Rattle.ww_invariant.proofs.Moves.{few_room}
 use Rattle.ww_table_laws.proofs.laws.few_seats_spend_none.Goals as goal
 
 pub returns : goal.returns

@@ -1,4 +1,4 @@
-use Rattle.ww_rule.proofs.Moves.{taker_valid, bare_give_makes}
+use Rattle.ww_invariant.proofs.Moves.{taker_valid, bare_give_makes}
 use Rattle.ww_table_laws.proofs.laws.give_bare_is_fast_give.Goals as goal
 
 pub returns : goal.returns

@@ -1,4 +1,4 @@
-use Rattle.ww_rule.proofs.Moves.{fast_give_makes, taker_valid}
+use Rattle.ww_invariant.proofs.Moves.{fast_give_makes, taker_valid}
 use Rattle.ww_table_laws.proofs.laws.give_free_is_fast_give.Goals as goal
 
 pub returns : goal.returns

@@ -1,4 +1,4 @@
-use Rattle.ww_rule.proofs.Places.{place_makes}
+use Rattle.ww_invariant.proofs.Places.{place_makes}
 use Rattle.ww_table_laws.proofs.laws.place_is_commit.Goals as goal
 
 pub returns : goal.returns

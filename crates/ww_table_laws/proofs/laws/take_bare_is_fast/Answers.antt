@@ -1,4 +1,4 @@
-use Rattle.ww_rule.proofs.Moves.{bare_makes}
+use Rattle.ww_invariant.proofs.Moves.{bare_makes}
 use Rattle.ww_table_laws.proofs.laws.take_bare_is_fast.Goals as goal
 
 pub returns : goal.returns

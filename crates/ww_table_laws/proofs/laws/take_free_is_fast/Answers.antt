@@ -1,4 +1,4 @@
-use Rattle.ww_rule.proofs.Moves.{fast_makes}
+use Rattle.ww_invariant.proofs.Moves.{fast_makes}
 use Rattle.ww_table_laws.proofs.laws.take_free_is_fast.Goals as goal
 
 pub returns : goal.returns

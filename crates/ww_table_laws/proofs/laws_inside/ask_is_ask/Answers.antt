@@ -1,4 +1,4 @@
-use Rattle.ww_rule.proofs.InsideMoves.{ask_makes}
+use Rattle.ww_invariant.proofs.InsideMoves.{ask_makes}
 use Rattle.ww_table_laws.proofs.laws_inside.ask_is_ask.Goals as goal
 
 pub returns : goal.returns

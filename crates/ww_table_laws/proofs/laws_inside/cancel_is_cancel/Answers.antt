@@ -1,4 +1,4 @@
-use Rattle.ww_rule.proofs.InsideMoves.{cancel_makes}
+use Rattle.ww_invariant.proofs.InsideMoves.{cancel_makes}
 use Rattle.ww_table_laws.proofs.laws_inside.cancel_is_cancel.Goals as goal
 
 pub returns : goal.returns

@@ -1,4 +1,4 @@
-use Rattle.ww_rule.proofs.InsideMoves.{clear_makes}
+use Rattle.ww_invariant.proofs.InsideMoves.{clear_makes}
 use Rattle.ww_table_laws.proofs.laws_inside.clear_is_clear.Goals as goal
 
 pub returns : goal.returns

@@ -1,7 +1,7 @@
 use Rattle.ww_view.proofs.Shows.{tells_die}
 use Rattle.ww_view.proofs.Deaths.{die_met}
-use Rattle.ww_rule.proofs.Moves.{law, mine, found}
-use Rattle.ww_rule.proofs.InsideMoves.{inside_low, die_makes}
+use Rattle.ww_invariant.proofs.Moves.{law, mine, found}
+use Rattle.ww_invariant.proofs.InsideMoves.{inside_low, die_makes}
 use Rattle.ww_table_laws.proofs.laws_inside.die_is_die.Goals as goal
 
 -- the seat dies of what the core tells it, and met that context

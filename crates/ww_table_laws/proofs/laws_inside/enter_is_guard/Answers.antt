@@ -1,4 +1,4 @@
-use Rattle.ww_rule.proofs.InsideMoves.{enter_makes}
+use Rattle.ww_invariant.proofs.InsideMoves.{enter_makes}
 use Rattle.ww_table_laws.proofs.laws_inside.enter_is_guard.Goals as goal
 
 pub returns : goal.returns

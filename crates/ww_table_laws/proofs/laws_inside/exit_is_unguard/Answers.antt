@@ -1,4 +1,4 @@
-use Rattle.ww_rule.proofs.InsideMoves.{exit_makes}
+use Rattle.ww_invariant.proofs.InsideMoves.{exit_makes}
 use Rattle.ww_table_laws.proofs.laws_inside.exit_is_unguard.Goals as goal
 
 pub returns : goal.returns

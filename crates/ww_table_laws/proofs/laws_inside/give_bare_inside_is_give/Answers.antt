@@ -1,4 +1,4 @@
-use Rattle.ww_rule.proofs.InsideMoves.{give_bare_makes}
+use Rattle.ww_invariant.proofs.InsideMoves.{give_bare_makes}
 use Rattle.ww_table_laws.proofs.laws_inside.give_bare_inside_is_give.Goals as goal
 
 pub returns : goal.returns

@@ -1,6 +1,6 @@
 use Rattle.std.proofs.Common.{arith}
-use Rattle.ww_rule.proofs.Moves.{mine}
-use Rattle.ww_rule.proofs.InsideMoves.{heed_makes}
+use Rattle.ww_invariant.proofs.Moves.{mine}
+use Rattle.ww_invariant.proofs.InsideMoves.{heed_makes}
 use Rattle.ww_table_laws.proofs.laws_inside.heed_is_heed.Goals as goal
 
 pub returns : goal.returns

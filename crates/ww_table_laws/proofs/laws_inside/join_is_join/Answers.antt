@@ -1,4 +1,4 @@
-use Rattle.ww_rule.proofs.InsideMoves.{join_makes}
+use Rattle.ww_invariant.proofs.InsideMoves.{join_makes}
 use Rattle.ww_table_laws.proofs.laws_inside.join_is_join.Goals as goal
 
 pub returns : goal.returns

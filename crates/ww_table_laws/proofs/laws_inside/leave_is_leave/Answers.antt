@@ -1,7 +1,7 @@
 use Rattle.std.proofs.Common.{ℕ, ◌-◌, sym, ap}
 use Rattle.ww_model.specs.declared.event.Answer.TheVariants.{Interrupted}
-use Rattle.ww_rule.proofs.Moves.{mine}
-use Rattle.ww_rule.proofs.InsideMoves.{leave_makes}
+use Rattle.ww_invariant.proofs.Moves.{mine}
+use Rattle.ww_invariant.proofs.InsideMoves.{leave_makes}
 use Rattle.ww_table_laws.proofs.laws_inside.leave_is_leave.Goals as goal
 
 pub returns : goal.returns

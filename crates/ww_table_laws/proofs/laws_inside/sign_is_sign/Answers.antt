@@ -1,4 +1,4 @@
-use Rattle.ww_rule.proofs.InsideMoves.{sign_makes}
+use Rattle.ww_invariant.proofs.InsideMoves.{sign_makes}
 use Rattle.ww_table_laws.proofs.laws_inside.sign_is_sign.Goals as goal
 
 pub returns : goal.returns

@@ -1,4 +1,4 @@
-use Rattle.ww_rule.proofs.InsideMoves.{take_makes}
+use Rattle.ww_invariant.proofs.InsideMoves.{take_makes}
 use Rattle.ww_table_laws.proofs.laws_inside.take_is_take.Goals as goal
 
 pub returns : goal.returns

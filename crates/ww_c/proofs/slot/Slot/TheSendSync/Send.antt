@@ -12,8 +12,8 @@ use Rattle.std.proofs.Crossing as heap
 use Rattle.std_alloc.proofs.SendSync.{quiet, lies}
 use Rattle.std_heap.proofs.Global.TheSendSync as handle
 use Rattle.ww_c.specs.Slots.{slot_owns}
-use Rattle.ww_desk.specs.contracts.desk.Desk as Desk
-use Rattle.ww_desk.proofs.desk.Desk.TheSendSync.{the_send as desk}
+use Rattle.ww_steps.specs.contracts.desk.Desk as Desk
+use Rattle.ww_steps.proofs.desk.Desk.TheSendSync.{the_send as desk}
 use Rattle.ww_c.specs.contracts.slot.Slot.{the_row, the_type}
 
 keyless : (a : Global) (p : Ptr) (o : Option Desk.the_row.Denot) → Keyless (slot_owns a p o)

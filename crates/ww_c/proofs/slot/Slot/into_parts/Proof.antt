@@ -30,7 +30,7 @@ use contract.Monad.{fact}
 use denote.Steps.{heard}
 use denote.RawPtr.{Ptr}
 use Rattle.std.specs.Global.{Global}
-use Rattle.ww_desk.specs.contracts.desk.Desk as Desk
+use Rattle.ww_steps.specs.contracts.desk.Desk as Desk
 use Rattle.ww_c.specs.declared.slot.Slot as Held
 use Rattle.ww_c.specs.contracts.slot.Slot as HeldRow
 use Rattle.ww_c.specs.contracts.slot.Slot.into_parts as F

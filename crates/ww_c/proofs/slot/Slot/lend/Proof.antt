@@ -39,7 +39,7 @@ use Rattle.std_alloc.proofs.BoxSteps.Steps.{box_out, box_in}
 use Rattle.std_alloc.proofs.VecSteps.Shapes.{after}
 use Rattle.std.proofs.Common.{◌≡◌, Option, Some, None, true, true≢false}
 use Rattle.std.specs.Global.{Global}
-use Rattle.ww_desk.specs.contracts.desk.Desk as Desk
+use Rattle.ww_steps.specs.contracts.desk.Desk as Desk
 use Rattle.ww_c.specs.Slots.{is_full}
 use Rattle.ww_c.specs.Lending.{with_desk}
 use Rattle.ww_c.specs.declared.slot.Slot.{Slot}

@@ -1,6 +1,6 @@
 use Rattle.std.proofs.Common.{ℕ, List, length, subst, ◌∙◌, arith}
 use Rattle.ww_plain.specs.declared.node.Node.{Node}
-use Rattle.ww_rule.specs.Rule.{first_graph}
+use Rattle.ww_invariant.specs.Rule.{first_graph}
 use Rattle.ww_seat.specs.declared.bell.Wire.{Wire}
 use Rattle.ww_lock.specs.Holding.{Setting}
 use Rattle.ww_lock.specs.Opened.{home_at, AreFresh}

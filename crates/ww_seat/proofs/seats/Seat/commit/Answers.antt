@@ -2,7 +2,7 @@ use Rattle.std.proofs.Common.{rules, ◌≡◌, ℕ, ◌<◌, true, List, length
 use Rattle.std.specs.Prelude.{vec_capacity}
 use Rattle.std.specs.Global.{Vec}
 use Rattle.ww_plain.specs.declared.history.Record.{Record}
-use Rattle.ww_rule.specs.declared.cells.Sight.{Sight}
+use Rattle.ww_invariant.specs.declared.cells.Sight.{Sight}
 use Rattle.ww_seat.specs.Accounts.{Account}
 use Rattle.std.specs.List.{AllByRecursion}
 use Rattle.ww_plain.specs.declared.node.Node.{Node}
@@ -10,9 +10,9 @@ use Rattle.ww_plain.specs.Footprint.{footprint_of}
 use Rattle.ww_plain.specs.Transaction.{transaction_of}
 use Rattle.ww_plain.specs.Meaning.{graph_after}
 use Rattle.ww_view.specs.View.{owns}
-use Rattle.ww_rule.specs.Rule.{Sat}
-use Rattle.ww_rule.proofs.Fits.{place_low}
-use Rattle.ww_rule.proofs.Places.{renewed_long}
+use Rattle.ww_invariant.specs.Rule.{Sat}
+use Rattle.ww_invariant.proofs.Fits.{place_low}
+use Rattle.ww_invariant.proofs.Places.{renewed_long}
 use Rattle.ww_table.specs.Seat.{size_of}
 use Rattle.ww_seat.specs.declared.committing.NodeChange.{NodeChange}
 use Rattle.ww_seat.specs.Standings.{Standing, standing_of, IsCommit}

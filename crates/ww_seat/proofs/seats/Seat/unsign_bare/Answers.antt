@@ -1,6 +1,6 @@
 use Rattle.std.proofs.Common.{refl, sym, subst, inl, length}
 use Rattle.ww_view.specs.View.{IsBare}
-use Rattle.ww_rule.specs.Signs.{reading}
+use Rattle.ww_invariant.specs.Signs.{reading}
 use Rattle.ww_seat.specs.Standings.{Standing, view_in}
 use Rattle.ww_seat.proofs.Kept.{kept}
 use Rattle.ww_seat.proofs.Outside.{orderly_knowing}

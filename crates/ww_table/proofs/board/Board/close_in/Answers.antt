@@ -1,7 +1,7 @@
 use Rattle.std.proofs.Common.{arith, length, ap, sym, ◌∙◌, subst, true≢false}
 use Rattle.std.specs.Slots.{slots_items}
 use Rattle.ww_plain.specs.Graph.{IsGraph}
-use Rattle.ww_rule.specs.Records.{somes}
+use Rattle.ww_invariant.specs.Records.{somes}
 use Rattle.ww_table.proofs.Ends.{content_there, nodes_are, closes, written}
 use Rattle.ww_table.proofs.board.Board.close_in.Goals as goal
 

@@ -1,8 +1,8 @@
 use Rattle.std.proofs.Common.{◌==◌, ap, sym, refl, ◌∙◌, eq-eqb, inl}
 use Rattle.ww_word.specs.AnySeats.{packed}
-use Rattle.ww_rule.specs.Guards.{lost}
-use Rattle.ww_rule.specs.Waiting.{asking}
-use Rattle.ww_rule.proofs.InsideSteps.{asks_lock}
+use Rattle.ww_invariant.specs.Guards.{lost}
+use Rattle.ww_invariant.specs.Waiting.{asking}
+use Rattle.ww_invariant.proofs.InsideSteps.{asks_lock}
 use Rattle.ww_table.specs.Steps.{IsEither}
 use Rattle.ww_table.proofs.Seated.{has_lock, either, by_rule, by_view}
 use Rattle.ww_table.proofs.seat.Stepper.ask.Goals as goal

@@ -1,5 +1,5 @@
 use Rattle.std.proofs.Common.{arith}
-use Rattle.ww_rule.proofs.InsideSteps.{counts_outside}
+use Rattle.ww_invariant.proofs.InsideSteps.{counts_outside}
 use Rattle.ww_table.proofs.Seated.{has_count}
 use Rattle.ww_table.proofs.seat.Stepper.begun.Goals as goal
 

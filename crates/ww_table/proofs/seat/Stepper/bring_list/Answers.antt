@@ -1,7 +1,7 @@
 use Rattle.std.proofs.Common.{ap, refl, ◌∙◌}
-use Rattle.ww_rule.specs.declared.cells.Cell.TheVariants.{Line}
-use Rattle.ww_rule.specs.Out.{slot_of}
-use Rattle.ww_rule.proofs.InsideTurning.{list_brought}
+use Rattle.ww_invariant.specs.declared.cells.Cell.TheVariants.{Line}
+use Rattle.ww_invariant.specs.Out.{slot_of}
+use Rattle.ww_invariant.proofs.InsideTurning.{list_brought}
 use Rattle.ww_table.proofs.Seated.{seated_as}
 use Rattle.ww_table.proofs.seat.Stepper.bring_list.Goals as goal
 

@@ -1,5 +1,5 @@
 use Rattle.std.proofs.Common.{arith}
-use Rattle.ww_rule.proofs.InsideSteps.{clears}
+use Rattle.ww_invariant.proofs.InsideSteps.{clears}
 use Rattle.ww_table.proofs.Seated.{has_sign, own_sign_by_view}
 use Rattle.ww_table.proofs.seat.Stepper.clear.Goals as goal
 

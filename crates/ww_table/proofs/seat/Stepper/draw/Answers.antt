@@ -1,5 +1,5 @@
 use Rattle.std.proofs.Common.{arith}
-use Rattle.ww_rule.proofs.Moves.{draws_one}
+use Rattle.ww_invariant.proofs.Moves.{draws_one}
 use Rattle.ww_table.proofs.Seated.{has_count}
 use Rattle.ww_table.proofs.seat.Stepper.draw.Goals as goal
 

@@ -1,8 +1,8 @@
 use Rattle.std.proofs.Common.{arith, ℕ, List, [], ◌∷◌, ◌++◌, length, ap, sym, refl, ◌∙◌, ◌+◌}
-use Rattle.ww_rule.specs.Out.{numbers_of}
-use Rattle.ww_rule.specs.Guards.{entering, shutting_out}
-use Rattle.ww_rule.proofs.InsideSteps.{enters}
-use Rattle.ww_rule.proofs.Turning.{numbers_long}
+use Rattle.ww_invariant.specs.Out.{numbers_of}
+use Rattle.ww_invariant.specs.Guards.{entering, shutting_out}
+use Rattle.ww_invariant.proofs.InsideSteps.{enters}
+use Rattle.ww_invariant.proofs.Turning.{numbers_long}
 use Rattle.ww_table.proofs.Seated.{has_word, seated_as, stepped, by_rule, by_view}
 use Rattle.ww_table.proofs.seat.Stepper.enter.Goals as goal
 

@@ -1,5 +1,5 @@
 use Rattle.std.proofs.Common.{arith, ap, ◌∙◌, ℕ, ◌+◌}
-use Rattle.ww_rule.proofs.InsideSteps.{exits_brought}
+use Rattle.ww_invariant.proofs.InsideSteps.{exits_brought}
 use Rattle.ww_table.proofs.Seated.{has_word, by_rule}
 use Rattle.ww_table.proofs.seat.Stepper.exit.Goals as goal
 

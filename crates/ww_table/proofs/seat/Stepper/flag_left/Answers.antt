@@ -1,7 +1,7 @@
 use Rattle.std.proofs.Common.{ap, ℕ, sym, ◌∙◌}
 use Rattle.ww_queue.specs.Queue.{left}
 use Rattle.ww_model.specs.State.{waiting}
-use Rattle.ww_rule.proofs.InsideTurning.{list_on_top}
+use Rattle.ww_invariant.proofs.InsideTurning.{list_on_top}
 use Rattle.ww_table.specs.declared.seat.Stepper.{Stepper}
 use Rattle.ww_table.proofs.OnTop.{still_read, number_before}
 use Rattle.ww_table.proofs.seat.Stepper.flag_left.Goals as goal

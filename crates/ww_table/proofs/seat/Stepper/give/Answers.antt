@@ -2,14 +2,14 @@ use Rattle.std.proofs.Common.{ℕ, ◌==◌, ◌+◌, arith, ap, sym, refl, ◌�
 use Rattle.atomic_table.specs.Table.{rest}
 use Rattle.ww_word.specs.AnySeats.{IsValid}
 use Rattle.ww_view.specs.Word.{given_word}
-use Rattle.ww_rule.specs.declared.cells.Cell.TheVariants.{Content, Line}
-use Rattle.ww_rule.specs.declared.cells.Sight.{Sight}
-use Rattle.ww_rule.specs.Rule.{Sat}
-use Rattle.ww_rule.specs.Out.{numbers_of, AreOthers}
-use Rattle.ww_rule.specs.Waiting.{IsStillThere, giving_inside}
-use Rattle.ww_rule.proofs.InsideSteps.{gives_with_list}
-use Rattle.ww_rule.proofs.InsideTurning.{given_valid}
-use Rattle.ww_rule.proofs.Turning.{popped}
+use Rattle.ww_invariant.specs.declared.cells.Cell.TheVariants.{Content, Line}
+use Rattle.ww_invariant.specs.declared.cells.Sight.{Sight}
+use Rattle.ww_invariant.specs.Rule.{Sat}
+use Rattle.ww_invariant.specs.Out.{numbers_of, AreOthers}
+use Rattle.ww_invariant.specs.Waiting.{IsStillThere, giving_inside}
+use Rattle.ww_invariant.proofs.InsideSteps.{gives_with_list}
+use Rattle.ww_invariant.proofs.InsideTurning.{given_valid}
+use Rattle.ww_invariant.proofs.Turning.{popped}
 use Rattle.ww_table.specs.declared.seat.Stepper.{Stepper}
 use Rattle.ww_table.proofs.OnTop.{node_out, node_brought}
 use Rattle.ww_table.proofs.Seated.{has_lock, seated_as, by_rule, by_view}

@@ -2,8 +2,8 @@ use Rattle.std.proofs.Common.{refl, ◌∙◌, inl, inr, rules}
 use Rattle.ww_plain.proofs.Members.{true_or_false}
 use Rattle.ww_view.specs.View.{owns}
 use Rattle.ww_view.specs.Made.{fast_given}
-use Rattle.ww_rule.specs.Steps.{knowing, keeping}
-use Rattle.ww_rule.proofs.Moves.{gives_bare}
+use Rattle.ww_invariant.specs.Steps.{knowing, keeping}
+use Rattle.ww_invariant.proofs.Moves.{gives_bare}
 use Rattle.ww_table.proofs.Seated.{has_lock, stepped, own_taker, taker_valid, by_rule, by_view, many_locks}
 use Rattle.ww_table.proofs.seat.Stepper.give_bare.Goals as goal
 

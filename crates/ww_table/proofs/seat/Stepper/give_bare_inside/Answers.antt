@@ -2,10 +2,10 @@ use Rattle.std.proofs.Common.{ℕ, ◌==◌, ap, sym, refl, ◌∙◌, subst, in
 use Rattle.ww_word.specs.AnySeats.{IsValid}
 use Rattle.ww_view.specs.Made.{given}
 use Rattle.ww_view.specs.Word.{given_word}
-use Rattle.ww_rule.specs.Rule.{Sat}
-use Rattle.ww_rule.specs.Steps.{knowing}
-use Rattle.ww_rule.proofs.InsideSteps.{gives_bare_with_list}
-use Rattle.ww_rule.proofs.InsideTurning.{given_valid}
+use Rattle.ww_invariant.specs.Rule.{Sat}
+use Rattle.ww_invariant.specs.Steps.{knowing}
+use Rattle.ww_invariant.proofs.InsideSteps.{gives_bare_with_list}
+use Rattle.ww_invariant.proofs.InsideTurning.{given_valid}
 use Rattle.ww_table.specs.declared.seat.Stepper.{Stepper}
 use Rattle.ww_table.proofs.OnTop.{still_there}
 use Rattle.ww_table.proofs.Seated.{has_lock, expected, stepped, by_rule}

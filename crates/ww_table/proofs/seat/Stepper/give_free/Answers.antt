@@ -1,11 +1,11 @@
 use Rattle.std.proofs.Common.{arith, ap, sym, refl, ◌∙◌, subst}
 use Rattle.atomic_table.specs.Table.{rest}
-use Rattle.ww_rule.specs.declared.cells.Cell.TheVariants.{Content}
-use Rattle.ww_rule.specs.declared.cells.Sight.{Sight}
-use Rattle.ww_rule.specs.Out.{numbers_of, AreOthers}
-use Rattle.ww_rule.specs.Steps.{giving, keeping}
-use Rattle.ww_rule.proofs.Moves.{gives_brought}
-use Rattle.ww_rule.proofs.Turning.{popped}
+use Rattle.ww_invariant.specs.declared.cells.Cell.TheVariants.{Content}
+use Rattle.ww_invariant.specs.declared.cells.Sight.{Sight}
+use Rattle.ww_invariant.specs.Out.{numbers_of, AreOthers}
+use Rattle.ww_invariant.specs.Steps.{giving, keeping}
+use Rattle.ww_invariant.proofs.Moves.{gives_brought}
+use Rattle.ww_invariant.proofs.Turning.{popped}
 use Rattle.ww_table.proofs.OnTop.{node_up}
 use Rattle.ww_table.proofs.Seated.{has_lock, seated_as, by_rule, by_view, few_locks}
 use Rattle.ww_table.proofs.seat.Stepper.give_free.Goals as goal

@@ -1,5 +1,5 @@
 use Rattle.std.proofs.Common.{◌∙◌}
-use Rattle.ww_rule.proofs.InsideSteps.{glances_outside}
+use Rattle.ww_invariant.proofs.InsideSteps.{glances_outside}
 use Rattle.ww_table.proofs.Seated.{has_lock, by_rule}
 use Rattle.ww_table.proofs.seat.Stepper.glance.Goals as goal
 

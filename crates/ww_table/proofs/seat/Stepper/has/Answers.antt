@@ -1,5 +1,5 @@
 use Rattle.std.proofs.Common.{◌∙◌}
-use Rattle.ww_rule.proofs.Moves.{owns_outside}
+use Rattle.ww_invariant.proofs.Moves.{owns_outside}
 use Rattle.ww_table.proofs.Seated.{has_lock, by_rule}
 use Rattle.ww_table.proofs.seat.Stepper.has.Goals as goal
 

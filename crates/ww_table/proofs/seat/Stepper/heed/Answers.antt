@@ -1,8 +1,8 @@
 use Rattle.std.proofs.Common.{arith, refl, ◌∙◌}
 use mathlib.Core.Logic.{dite}
 use native.Mathlib.Decide.{ℕ_discrete}
-use Rattle.ww_rule.specs.Cancels.{finding_uncancelled, heeding}
-use Rattle.ww_rule.proofs.InsideSteps.{heeds}
+use Rattle.ww_invariant.specs.Cancels.{finding_uncancelled, heeding}
+use Rattle.ww_invariant.proofs.InsideSteps.{heeds}
 use Rattle.ww_table.proofs.Seated.{stepped, has_sign, own_cancel_by_view}
 use Rattle.ww_table.proofs.seat.Stepper.heed.Goals as goal
 

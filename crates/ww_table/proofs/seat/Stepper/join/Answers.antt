@@ -5,14 +5,14 @@ use Rattle.ww_word.specs.AnySeats.{packed}
 use Rattle.ww_queue.specs.declared.entry.Entry.{Entry}
 use Rattle.ww_queue.specs.Queue.{joined}
 use Rattle.ww_view.specs.Made.{entry_of_view}
-use Rattle.ww_rule.specs.declared.cells.Cell.{Cell}
-use Rattle.ww_rule.specs.declared.cells.Cell.TheVariants.{Line}
-use Rattle.ww_rule.specs.Rule.{Sat}
-use Rattle.ww_rule.specs.Out.{numbers_of, slot_of, AreOthers}
-use Rattle.ww_rule.specs.Guards.{lost}
-use Rattle.ww_rule.specs.Waiting.{joins, joining}
-use Rattle.ww_rule.proofs.InsideSteps.{joins_list}
-use Rattle.ww_rule.proofs.InsideTurning.{list_brought, on_top}
+use Rattle.ww_invariant.specs.declared.cells.Cell.{Cell}
+use Rattle.ww_invariant.specs.declared.cells.Cell.TheVariants.{Line}
+use Rattle.ww_invariant.specs.Rule.{Sat}
+use Rattle.ww_invariant.specs.Out.{numbers_of, slot_of, AreOthers}
+use Rattle.ww_invariant.specs.Guards.{lost}
+use Rattle.ww_invariant.specs.Waiting.{joins, joining}
+use Rattle.ww_invariant.proofs.InsideSteps.{joins_list}
+use Rattle.ww_invariant.proofs.InsideTurning.{list_brought, on_top}
 use Rattle.ww_table.proofs.Seated.{IsTold, has_lock, stepped, seated_paged, by_rule, by_view}
 use Rattle.ww_table.proofs.seat.Stepper.join.Goals.{After-compare_exchange-found, After-bring}
 use Rattle.ww_table.proofs.seat.Stepper.join.Goals as goal

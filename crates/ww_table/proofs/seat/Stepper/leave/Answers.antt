@@ -1,9 +1,9 @@
 use Rattle.std.proofs.Common.{ap, sym, refl, ◌∙◌, subst}
 use Rattle.ww_view.specs.May.{MayStop}
-use Rattle.ww_rule.specs.declared.cells.Sight.{Sight}
-use Rattle.ww_rule.specs.Rule.{Sat}
-use Rattle.ww_rule.specs.Cancels.{stops, stopping}
-use Rattle.ww_rule.proofs.InsideSteps.{stops_brought}
+use Rattle.ww_invariant.specs.declared.cells.Sight.{Sight}
+use Rattle.ww_invariant.specs.Rule.{Sat}
+use Rattle.ww_invariant.specs.Cancels.{stops, stopping}
+use Rattle.ww_invariant.proofs.InsideSteps.{stops_brought}
 use Rattle.ww_table.specs.declared.seat.Stepper.{Stepper}
 use Rattle.ww_table.proofs.OnTop.{list_there, in_vain, went}
 use Rattle.ww_table.proofs.Seated.{IsTold, has_lock, expected, by_rule}

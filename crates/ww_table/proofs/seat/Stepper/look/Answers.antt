@@ -1,7 +1,7 @@
 use Rattle.std.proofs.Common.{arith, sym, ◌∙◌, subst, refl}
 use Rattle.ww_word.proofs.AnyWords.{packing_is_injective}
-use Rattle.ww_rule.specs.Guards.{IsSeenBy, looking}
-use Rattle.ww_rule.proofs.InsideSteps.{looks_inside}
+use Rattle.ww_invariant.specs.Guards.{IsSeenBy, looking}
+use Rattle.ww_invariant.proofs.InsideSteps.{looks_inside}
 use Rattle.ww_table.proofs.Seated.{has_lock, stepped, by_rule, by_view}
 use Rattle.ww_table.proofs.seat.Stepper.look.Goals as goal
 

@@ -1,6 +1,6 @@
 use Rattle.std.proofs.Common.{ap, ◌≡◌, ◌++◌, subst, IfSome, IfNone}
 use Rattle.ww_queue.specs.AnySeats.{signs_past}
-use Rattle.ww_rule.proofs.InsideTurning.{list_on_top}
+use Rattle.ww_invariant.proofs.InsideTurning.{list_on_top}
 use Rattle.ww_table.specs.declared.seat.Stepper.{Stepper}
 use Rattle.ww_table.proofs.OnTop.{still_read}
 use Rattle.ww_table.proofs.seat.Stepper.owed_signs.Goals as goal

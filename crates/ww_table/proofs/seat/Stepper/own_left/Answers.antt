@@ -3,7 +3,7 @@ use Rattle.ww_word.specs.declared.owner.Owner.{Owner}
 use Rattle.ww_word.specs.Owner.{AreFlags}
 use Rattle.ww_word.specs.AnySeats.{IsValid}
 use Rattle.ww_queue.specs.Queue.{left}
-use Rattle.ww_rule.proofs.InsideTurning.{waiting_flags}
+use Rattle.ww_invariant.proofs.InsideTurning.{waiting_flags}
 use Rattle.ww_table.proofs.OnTop.{number_before, stamp_before}
 use Rattle.ww_table.proofs.seat.Stepper.own_left.Goals as goal
 

@@ -1,5 +1,5 @@
 use Rattle.std.proofs.Common.{arith, refl}
-use Rattle.ww_rule.proofs.InsideSteps.{reads, read_is}
+use Rattle.ww_invariant.proofs.InsideSteps.{reads, read_is}
 use Rattle.ww_table.proofs.Seated.{stepped, has_sign, own_sign_by_view}
 use Rattle.ww_table.proofs.seat.Stepper.own_sign.Goals as goal
 

@@ -1,5 +1,5 @@
 use Rattle.std.proofs.Common.{ℕ, ◌+◌, arith, ap, refl, ◌∙◌}
-use Rattle.ww_rule.proofs.InsideSteps.{cancels}
+use Rattle.ww_invariant.proofs.InsideSteps.{cancels}
 use Rattle.ww_table.proofs.Seated.{either, has_sign, sign_by_view}
 use Rattle.ww_table.proofs.seat.Stepper.set_cancel.Goals as goal
 

@@ -1,5 +1,5 @@
 use Rattle.std.proofs.Common.{arith, refl, ◌∙◌}
-use Rattle.ww_rule.proofs.InsideSteps.{signs}
+use Rattle.ww_invariant.proofs.InsideSteps.{signs}
 use Rattle.ww_table.proofs.Seated.{either, has_sign, sign_by_view}
 use Rattle.ww_table.proofs.seat.Stepper.sign.Goals as goal
 

@@ -1,15 +1,15 @@
 use Rattle.std.proofs.Common.{◌≡◌, ◌≢◌, length-append, ℕ, ◌+◌, arith, ap, sym, refl, ◌∙◌, subst, length, List, [], ◌∷◌, ◌++◌, inl}
 use Rattle.ww_plain.specs.Graph.{IsNodeOf}
 use Rattle.ww_word.specs.AnySeats.{packed}
-use Rattle.ww_rule.specs.declared.cells.Cell.{Cell}
-use Rattle.ww_rule.specs.declared.cells.Cell.TheVariants.{Content}
-use Rattle.ww_rule.specs.declared.cells.Sight.{Sight}
-use Rattle.ww_rule.specs.Rule.{Sat}
-use Rattle.ww_rule.specs.Out.{numbers_of}
-use Rattle.ww_rule.specs.Waiting.{takes_inside, taking_inside, below}
-use Rattle.ww_rule.proofs.InsideSteps.{takes_brought}
-use Rattle.ww_rule.proofs.InsideTurning.{others_long}
-use Rattle.ww_rule.proofs.Turning.{numbers_long, popped}
+use Rattle.ww_invariant.specs.declared.cells.Cell.{Cell}
+use Rattle.ww_invariant.specs.declared.cells.Cell.TheVariants.{Content}
+use Rattle.ww_invariant.specs.declared.cells.Sight.{Sight}
+use Rattle.ww_invariant.specs.Rule.{Sat}
+use Rattle.ww_invariant.specs.Out.{numbers_of}
+use Rattle.ww_invariant.specs.Waiting.{takes_inside, taking_inside, below}
+use Rattle.ww_invariant.proofs.InsideSteps.{takes_brought}
+use Rattle.ww_invariant.proofs.InsideTurning.{others_long}
+use Rattle.ww_invariant.proofs.Turning.{numbers_long, popped}
 use Rattle.ww_table.specs.declared.seat.Stepper.{Stepper}
 use Rattle.ww_table.proofs.OnTop.{list_there, gone_over, only_tried, still_there}
 use Rattle.ww_table.proofs.Seated.{IsTold, has_lock, expected, by_rule}

@@ -2,8 +2,8 @@ use Rattle.std.proofs.Common.{refl, ◌∙◌, inl, inr, rules}
 use Rattle.ww_plain.proofs.Members.{true_or_false}
 use Rattle.ww_view.specs.View.{owns}
 use Rattle.ww_view.specs.Made.{fast_taken, fast_missed}
-use Rattle.ww_rule.specs.Steps.{knowing}
-use Rattle.ww_rule.proofs.Moves.{takes_bare}
+use Rattle.ww_invariant.specs.Steps.{knowing}
+use Rattle.ww_invariant.proofs.Moves.{takes_bare}
 use Rattle.ww_table.proofs.Seated.{has_lock, stepped, own_taker, by_rule, by_view, many_locks}
 use Rattle.ww_table.proofs.seat.Stepper.take_bare.Goals as goal
 

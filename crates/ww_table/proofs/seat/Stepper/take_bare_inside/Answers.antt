@@ -1,10 +1,10 @@
 use Rattle.std.proofs.Common.{ap, sym, refl, ◌∙◌}
-use Rattle.ww_rule.specs.declared.cells.Sight.{Sight}
-use Rattle.ww_rule.specs.Rule.{Sat}
+use Rattle.ww_invariant.specs.declared.cells.Sight.{Sight}
+use Rattle.ww_invariant.specs.Rule.{Sat}
 use Rattle.ww_view.specs.Made.{taken}
-use Rattle.ww_rule.specs.Steps.{knowing}
-use Rattle.ww_rule.specs.Waiting.{takes_bare_inside}
-use Rattle.ww_rule.proofs.InsideSteps.{takes_bare_brought}
+use Rattle.ww_invariant.specs.Steps.{knowing}
+use Rattle.ww_invariant.specs.Waiting.{takes_bare_inside}
+use Rattle.ww_invariant.proofs.InsideSteps.{takes_bare_brought}
 use Rattle.ww_table.specs.declared.seat.Stepper.{Stepper}
 use Rattle.ww_table.proofs.OnTop.{list_there, in_vain, went}
 use Rattle.ww_table.proofs.Seated.{IsTold, has_lock, expected, by_rule}

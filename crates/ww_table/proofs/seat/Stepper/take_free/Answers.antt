@@ -1,9 +1,9 @@
 use Rattle.std.proofs.Common.{arith, ℕ, List, [], ◌∷◌, ◌++◌, length, ap, sym, refl, ◌∙◌}
 use Rattle.ww_view.specs.Made.{fast_missed}
-use Rattle.ww_rule.specs.Out.{numbers_of}
-use Rattle.ww_rule.specs.Steps.{knowing, taking}
-use Rattle.ww_rule.proofs.Moves.{takes_free}
-use Rattle.ww_rule.proofs.Turning.{numbers_long}
+use Rattle.ww_invariant.specs.Out.{numbers_of}
+use Rattle.ww_invariant.specs.Steps.{knowing, taking}
+use Rattle.ww_invariant.proofs.Moves.{takes_free}
+use Rattle.ww_invariant.proofs.Turning.{numbers_long}
 use Rattle.ww_table.proofs.Seated.{has_lock, seated_as, stepped, own_taker, by_rule, by_view, few_locks}
 use Rattle.ww_table.proofs.seat.Stepper.take_free.Goals as goal
 

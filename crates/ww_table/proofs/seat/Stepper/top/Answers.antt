@@ -1,6 +1,6 @@
 use Rattle.std.proofs.Common.{◌≡◌, ℕ, suc, zero, ◌-◌, List, [], ◌∷◌, ◌++◌, length, length-append, slice_get, refl, sym, ap, ◌∙◌, subst, arith, Option, Some, IfSome, IfNone}
-use Rattle.ww_rule.specs.declared.cells.Cell.{Cell}
-use Rattle.ww_rule.specs.Out.{numbers_of}
+use Rattle.ww_invariant.specs.declared.cells.Cell.{Cell}
+use Rattle.ww_invariant.specs.Out.{numbers_of}
 use Rattle.ww_table.proofs.seat.Stepper.top.Goals as goal
 
 -- the number of the slot that lies on top

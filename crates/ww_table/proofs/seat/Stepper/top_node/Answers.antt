@@ -1,6 +1,6 @@
 use Rattle.std.proofs.Common.{◌∷◌, refl, sym, ◌∙◌}
-use Rattle.ww_rule.specs.declared.cells.Cell.TheVariants.{Content}
-use Rattle.ww_rule.proofs.InsideTurning.{on_top}
+use Rattle.ww_invariant.specs.declared.cells.Cell.TheVariants.{Content}
+use Rattle.ww_invariant.proofs.InsideTurning.{on_top}
 use Rattle.ww_table.proofs.Seated.{stepped}
 use Rattle.ww_table.proofs.seat.Stepper.top_node.Goals as goal
 

@@ -1,0 +1,792 @@
+-- Each step keeps the rule of the table, as the event that it is.
+use Rattle.std.proofs.Common.{◌≡◌, ◌≢◌, ℕ, ◌+◌, ◌*◌, ◌<◌, ◌≤◌, ◌%◌, eqb, true, false, List, ◌∷◌, length, get_or, set, sym, refl, ap, ◌∙◌, subst, inl, inr, ⊎_elim, min, arith, true≢false, ◌-◌, ◌^◌, Option, Some, None, length-set, get_or-set_other, get_or-set_same, ◌==◌}
+use mathlib.Core.Logic.{dite}
+use mathlib.Core.Option.{none, some}
+use native.Mathlib.Decide.{ℕ_discrete, dec_le}
+use lib.ListN.{get_elem?}
+use lib.Seq.{set-get_or}
+use prog.Atomic.{either}
+use Rattle.atomic_table.specs.Table.{step, Act, keeps, takes, gives, stepped, homes_after, carried_after, Valid, Allows, rest}
+use Rattle.atomic_table.proofs.Lists.{set_here, set_else, exchanged}
+use Rattle.ww_word.specs.declared.owner.Owner.{Owner}
+use Rattle.ww_word.specs.Owner.{idle}
+use Rattle.ww_word.specs.AnySeats.{Fits, IsValid, packed, most_for, unflagged}
+use Rattle.ww_word.proofs.AnyWords.{most_few, most_many}
+use Rattle.ww_model.specs.declared.state.Holder.TheVariants.{Nobody, Taken}
+use Rattle.ww_model.specs.declared.event.Event.{Event}
+use Rattle.ww_model.specs.declared.event.Event.TheVariants.{Begin, Fast, FastGive, End}
+use Rattle.ww_model.specs.State.{State, put}
+use Rattle.ww_model.specs.Interrupts.{one_of}
+use Rattle.ww_model.specs.Event.{Possible, after}
+use Rattle.ww_model.specs.Lawful.{IsLawful}
+use Rattle.ww_model.specs.Run.{further}
+use Rattle.ww_model.proofs.Outcomes.{number_same}
+use Rattle.ww_model.proofs.Puts.{put_here, put_else, put_cases}
+use Rattle.ww_model.proofs.Kept.{reached_is_lawful}
+use Rattle.ww_model.proofs.Ranges.{few_stamps}
+use Rattle.ww_model.proofs.Meetings.{same_kind}
+use Rattle.ww_model.proofs.Outside.{signed_owns_outside}
+use Rattle.ww_plain.specs.declared.node.Node.{Node}
+use Rattle.ww_plain.specs.Graph.{no_node, node_at, IsNodeOf}
+use Rattle.ww_plain.proofs.GraphFacts.{all_item}
+use Rattle.ww_plain.proofs.Members.{true_or_false}
+use Rattle.ww_plain.specs.History.{Recorded, last_graph, part_of}
+use Rattle.ww_view.specs.declared.view.View.{View}
+use Rattle.ww_model.specs.State.{word_of}
+use Rattle.ww_model.specs.Event.{actor}
+use Rattle.ww_view.specs.View.{owns, Knows, IsAway}
+use Rattle.ww_view.specs.May.{MayFast}
+use Rattle.ww_view.specs.Made.{fast_taken, fast_missed, fast_given, fast_kept, begun, ended, has_read}
+use Rattle.ww_model.proofs.Stays.{same_seats, same_locks}
+use Rattle.ww_view.proofs.Shows.{shows_fast, shows_fast_give, shows_begin, shows_end}
+use Rattle.ww_view.proofs.Mine.{mine_fast, mine_fast_give, mine_begin, mine_end}
+use Rattle.ww_view.proofs.Inside.{mine_read, mine_missed, mine_kept}
+use Rattle.ww_view.proofs.Written.{HaveRoom, wide_found_is, wide_word_is_valid, word_fast, word_fast_give}
+use Rattle.ww_invariant.specs.declared.cells.Cell.{Cell}
+use Rattle.ww_invariant.specs.declared.cells.Cell.TheVariants.{Content}
+use Rattle.ww_invariant.specs.declared.cells.Counts.{Counts}
+use Rattle.ww_invariant.specs.declared.cells.Part.{Part}
+use Rattle.ww_invariant.specs.declared.cells.Sight.{Sight}
+use Rattle.ww_invariant.specs.declared.cells.Start.{Start}
+use Rattle.ww_invariant.specs.Layout.{lock_at}
+use Rattle.ww_invariant.proofs.Lies.{lock_same}
+use Rattle.ww_invariant.specs.Rule.{St, Sat, first_graph, own_of, times, Shown, AtHome, Counted, PartFits, Sits, Ruled, MakesWith, Makes, Stays}
+use Rattle.ww_invariant.specs.Steps.{knowing, taker, taking, giving, drawing, drawing_none, takes_to, gives_to, takes_bare_to, gives_bare_to, ends_to, draws_to, MayDraw, MayEnd, owns_to, IsToldBy}
+use Rattle.ww_invariant.proofs.Totals.{total_one, total_under}
+use Rattle.ww_invariant.proofs.Regions.{owner_set, drawn_set, none_set, spent_set}
+use Rattle.ww_invariant.proofs.Told.{told_by}
+use Rattle.ww_invariant.proofs.Fits.{seats_stay, there_kept, strange_on, Spares, part_on, sits_on, stays_as}
+
+idle_valid : IsValid idle
+idle_valid = record { seating = (refl, omega arith); flags = inl refl }
+
+-- the counts of draws never end
+pub all_room : (key : Start) (s : St) (r : Ruled key s) → r.all + 1 < 2 ^ 64
+all_room key s r = let sum = r.counted.stamps in
+    let most = total_under key.places (2 ^ 52) (λ t. (r.counts t).draws) r.counted.few in
+    ⊎_elim (λ is. omega arith) (λ is. let b = is.1 in omega arith) r.sizes
+
+-- with 16 seats the stamps never end
+pub few_room : (key : Start) (s : St) (r : Ruled key s) → key.places ≡ 16 → r.all < most_for key.places
+few_room key s r sixteen = let sum = r.counted.stamps in
+    let most = total_under key.places (2 ^ 52) (λ t. (r.counts t).draws) r.counted.few in
+    let limit = most_few key.places (omega arith) in omega arith
+
+-- a word has room for each seat with its stamp
+pub have_room : (key : Start) (s : St) (r : Ruled key s) → HaveRoom r.core
+have_room key s r t small = let below = (reached_is_lawful r.core r.reached).base.stamps.below t in
+    let places = r.places in let drawn = r.drawn in ⊎_elim
+    (λ is. let few = few_stamps r.core r.reached in inl (omega arith, omega arith))
+    (λ is. let a = is.0 in let b = is.1 in let limit = most_many key.places is.0 in inr (omega arith, omega arith)) r.sizes
+
+module _ (key : Start) (s : St) (r : Ruled key s) (id : ℕ) (me : Sat) (here : get_elem? s.views id ≡ some me.0)
+    (seated : me.0.seated ≡ true) where
+  abbrev graph : List Node
+  graph = last_graph (first_graph key) r.log
+
+  pub law : IsLawful r.core
+  law = reached_is_lawful r.core r.reached
+
+  pub mine : Sits key r.core r.log r.at r.counts id me.0
+  mine = r.seats id me.0 here seated
+
+  -- what the found number tells
+  pub found : (n : ℕ) (o : Owner) → n < key.locks → IsValid o → get_or s.words (lock_at key.locks n) 0 ≡ packed o → o ≡ word_of r.core n
+  found n o low valid hit = wide_found_is r.core n o r.reached (have_room key s r) valid (sym hit ∙ r.words.owners n low)
+
+  -- the seat as the owner of a lock is one that a word can tell
+  pub taker_valid : IsValid (taker me.0.part.core)
+  taker_valid = let k = mine.part.knows in record {
+    seating = subst (Fits me.0.part.core.who) (sym k.itself.stamp) (have_room key s r me.0.part.core.who k.itself.seat);
+    flags = inl refl;
+  }
+
+  -- of a seat that is away the word of a lock tells whether it owns that
+  pub told : (n : ℕ) → n < key.locks → IsAway me.0.part.core → IsToldBy me.0.part.core n (get_or s.words (lock_at key.locks n) 0)
+  told n low away = subst (IsToldBy me.0.part.core n) (sym (r.words.owners n low))
+      (told_by r.core me.0.part.core law mine.part.knows away n
+      (wide_word_is_valid r.core n r.reached (have_room key s r)) taker_valid)
+
+  -- all locks of nodes are there
+  pub low : (n : ℕ) → n < length (first_graph key) → n < key.locks
+  low n small = let z = r.fits in omega arith
+
+  -- a node of the fold is one of a graph of as many nodes as the view has room for
+  pub node_there : (n : ℕ) → n < length (first_graph key) → IsNodeOf (length me.0.held) (node_at graph n)
+  node_there n small = let z = r.counted.size in
+      subst (λ (size : ℕ). IsNodeOf size (node_at graph n)) (r.counted.size ∙ sym mine.room)
+      (all_item (IsNodeOf (length graph)) graph n no_node (omega arith) r.counted.graph.closed)
+
+  -- the seat makes an event, and what the table has of it becomes p and the nodes held
+  pub makes_all : (e : Event) (i x : ℕ) (p : Part) (held : List (Option Node)) (a : Act Cell) (log : List Recorded)
+      (counts : ℕ → Counts) (all : ℕ) → actor e ≡ me.0.part.core.who → p.core.who ≡ me.0.part.core.who
+      → Possible r.core e → Knows (after r.core e) p.core → p.counts ≡ counts p.core.who
+      → own_of p.own ≡ part_of p.core.who log → Spares key r.core r.log log r.counts counts me.0.part.core.who
+      → length held ≡ length (first_graph key)
+      → ((n : ℕ) → owns p.core n ≡ true → n < length (first_graph key)
+      → get_elem? held n ≡ some (Some (node_at (last_graph (first_graph key) log) n)))
+      → min all (most_for key.places) ≡ (after r.core e).drawn
+      → Counted key all (after r.core e).commits (after r.core e).cancel log counts
+      → Shown key.locks key.places all (after r.core e) (set s.words i x)
+      → AtHome key.locks (last_graph (first_graph key) log) (after r.core e).owner (after r.core e).queue
+      (after r.core e).guard (homes_after s.homes me.1 a)
+      → MakesWith key s r e log (stepped s i x id me.1 (record me.0 { part = p; held = held }) a)
+  makes_all e i x p held a log counts all acts same can knows tallied own spares room has drawn counted words homes = record {
+    can = can;
+    is = refl;
+    commits = refl;
+    ruled = record {
+      core = after r.core e;
+      log = log;
+      at = r.at;
+      counts = counts;
+      all = all;
+      reached = further r.core e r.reached can;
+      kind = same_kind r.core e ∙ r.kind;
+      locks = same_locks r.core e ∙ r.locks;
+      many = r.many;
+      fits = r.fits;
+      places = same_seats r.core e ∙ r.places;
+      sizes = r.sizes;
+      drawn = drawn;
+      seats_there = r.seats_there;
+      strangers = λ t big. strange_on r.core e t can.base
+          (λ z. let small = mine.part.number in let far = acts in omega arith) (r.strangers t big);
+      words = words;
+      homes = homes;
+      counted = counted;
+      seats = seats_stay (Sits key (after r.core e) log r.at counts) s.views id (record me.0 { part = p; held = held })
+          (λ _. record {
+            part = record {
+              place = ap r.at same ∙ mine.part.place;
+              number = subst (λ (t : ℕ). t < key.seats) (sym same) mine.part.number;
+              knows = knows;
+              counted = tallied;
+              own = own;
+            };
+            room = room;
+            held = has;
+            idle = λ k q there. let i = mine.idle k q there in (
+              part_on key r.core e law can r.log log r.at r.counts counts me.0.part.core.who acts spares id q
+                  (mine.apart k q there) i.0,
+              i.1,
+            );
+            apart = λ k q there z. mine.apart k q there (z ∙ same);
+            differ = mine.differ;
+          })
+          (λ j d far there on. sits_on key r.core e law can r.log log r.at r.counts counts me.0.part.core.who acts
+          spares id j d mine.part.place far (r.seats j d there on));
+      there = λ t small. there_kept s.views id me.0 (record me.0 { part = p; held = held }) (r.at t) t here refl
+          same refl (r.there t small);
+    };
+  }
+
+  -- ... where nobody drew or committed
+  pub makes : (e : Event) (i x : ℕ) (w : View) (held : List (Option Node)) (a : Act Cell)
+      → actor e ≡ me.0.part.core.who → w.who ≡ me.0.part.core.who → Possible r.core e → Knows (after r.core e) w
+      → length held ≡ length (first_graph key)
+      → ((n : ℕ) → owns w n ≡ true → n < length (first_graph key)
+      → get_elem? held n ≡ some (Some (node_at graph n)))
+      → min r.all (most_for key.places) ≡ (after r.core e).drawn
+      → Counted key r.all (after r.core e).commits (after r.core e).cancel r.log r.counts
+      → Shown key.locks key.places r.all (after r.core e) (set s.words i x)
+      → AtHome key.locks graph (after r.core e).owner (after r.core e).queue (after r.core e).guard
+      (homes_after s.homes me.1 a)
+      → Makes key s r e (stepped s i x id me.1 (record me.0 { part = record (me.0.part) { core = w }; held = held }) a)
+  makes e i x w held a acts same can knows room has drawn counted words homes =
+      makes_all e i x (record (me.0.part) { core = w }) held a r.log r.counts r.all acts same can knows
+      (mine.part.counted ∙ ap r.counts (sym same)) (mine.part.own ∙ ap (λ (t : ℕ). part_of t r.log) (sym same))
+      (record { counts_stay = λ t _. refl; parts_stay = λ t _. refl; nodes_stay = λ t n _ _. refl }) room has
+      drawn counted words homes
+
+  -- take_free: the owner word was 0
+  pub fast_makes : (n : ℕ) → n < length (first_graph key) → MayFast me.0.part.core → get_or s.words (lock_at key.locks n) 0 ≡ 0
+      → Makes key s r (Fast me.0.part.core.who n)
+      (stepped s (lock_at key.locks n) (packed (taker me.0.part.core)) id me.1 (taking me.0 n (node_at graph n))
+      (takes n (Content (node_at graph n))))
+  fast_makes n small may hit = let c = r.core in let v = me.0.part.core in let k = mine.part.knows in
+      let l = low n small in let is : idle ≡ word_of c n = found n idle l idle_valid hit in
+      let can = shows_fast c v law k n (signed_owns_outside c r.reached) may (let z = r.locks in omega arith) is in
+      let deep = r.homes.deep in let x = node_at graph n in let room = mine.room in
+      makes (Fast v.who n) (lock_at key.locks n) (packed (taker v)) (fast_taken v n) (set me.0.held n (Some x))
+      (takes n (Content x)) refl refl can (mine_fast c v law k n can)
+      (length-set me.0.held n (Some x) ∙ mine.room)
+      (λ m own in_graph. dite (ℕ_discrete m n)
+      (λ e. ap (get_elem? (set me.0.held n (Some x))) e ∙ set_here me.0.held n (Some x) (omega arith)
+      ∙ ap (λ (j : ℕ). some (Some (node_at graph j))) (sym e))
+      (λ isnt. set_else me.0.held n m (Some x) isnt ∙ mine.held m (sym (get_or-set_other v.owned n m true false isnt) ∙ own) in_graph))
+      r.drawn r.counted
+      (owner_set c (Fast v.who n) can.base law.base key.locks key.places r.all s.words r.words n (packed (taker v)) l (λ m far. far) refl refl refl refl refl
+      ((λ i. packed (record { seat = Some v.who; stamp = k.itself.stamp i; flags = 0 }))
+      ∙ ap packed (sym (word_fast c v.who n can.base.idle.empty can.base.idle.not_asked))))
+      (record {
+        deep = length-set s.homes n none ∙ r.homes.deep;
+        nodes = λ m low'. put_cases c.owner n (Taken v.who) m
+            (λ o. ((t : ℕ) → o ≢ Taken t) → get_elem? (set s.homes n none) m
+            ≡ some (some (Content (node_at graph m)))) (λ _ clear. absurd (clear v.who refl))
+            (λ isnt clear. set_else s.homes n m none isnt ∙ r.homes.nodes m low' clear);
+        lists = λ m l' free. set_else s.homes n (64 + m) none
+            (λ z. let a = r.counted.size in let b = r.counted.graph.few in omega arith) ∙ r.homes.lists m l' free;
+      })
+
+  -- give_free: the owner word was that of the seat without flags
+  pub fast_give_makes : (n : ℕ) (x : Node) → n < length (first_graph key) → IsAway me.0.part.core
+      → owns me.0.part.core n ≡ true → get_elem? me.0.held n ≡ some (Some x) → IsValid (taker me.0.part.core)
+      → get_or s.words (lock_at key.locks n) 0 ≡ packed (taker me.0.part.core) → me.1 ≡ (n, Content x) ∷ rest me.1
+      → Makes key s r (FastGive me.0.part.core.who n) (stepped s (lock_at key.locks n) 0 id me.1 (giving me.0 n) gives)
+  fast_give_makes n x small away own has valid hit top = let c = r.core in let v = me.0.part.core in
+      let k = mine.part.knows in let l = low n small in let is = found n (taker v) l valid hit in
+      let can = shows_fast_give c v law k n away own (let z = r.locks in omega arith) (taker v) is refl in let deep = r.homes.deep in
+      let value : x ≡ node_at graph n = (let p : some (Some x) ≡ some (Some (node_at graph n)) = sym has ∙ mine.held n own small in cc) in
+      makes (FastGive v.who n) (lock_at key.locks n) 0 (fast_given v n) (set me.0.held n None) gives refl refl can (mine_fast_give c v law k n can)
+      (length-set me.0.held n None ∙ mine.room)
+      (λ m own' in_graph. dite (ℕ_discrete m n)
+      (λ e. absurd (true≢false (sym own' ∙ ap (λ i. get_or (set v.owned n false) i false) e
+      ∙ get_or-set_same v.owned n false false (let z = k.owned.room in let y = r.locks in omega arith))))
+      (λ isnt. set_else me.0.held n m None isnt ∙ mine.held m (sym (get_or-set_other v.owned n m false false isnt) ∙ own') in_graph))
+      r.drawn r.counted
+      (owner_set c (FastGive v.who n) can.base law.base key.locks key.places r.all s.words r.words n 0 l (λ m far. far) refl refl
+      refl refl refl (ap packed (sym (word_fast_give c v.who n can.base.empty can.base.not_asked))))
+      (subst (λ (z : List (ℕ × Cell)). AtHome key.locks graph (put c.owner n Nobody) c.queue c.guard
+      (homes_after s.homes z gives)) (sym top) (record {
+        deep = length-set s.homes n (some (Content x)) ∙ r.homes.deep;
+        nodes = λ m low' clear. dite (ℕ_discrete m n)
+            (λ e. ap (get_elem? (set s.homes n (some (Content x)))) e
+            ∙ set_here s.homes n (some (Content x)) (omega arith)
+            ∙ ap (λ (y : Node). some (some (Content y))) (value ∙ ap (node_at graph) (sym e)))
+            (λ isnt. set_else s.homes n m (some (Content x)) isnt
+            ∙ r.homes.nodes m low' (λ t z. clear t (put_else c.owner n Nobody m isnt ∙ z)));
+        lists = λ m l' free. set_else s.homes n (64 + m) (some (Content x))
+            (λ z. let a = r.counted.size in let b = r.counted.graph.few in omega arith) ∙ r.homes.lists m l' free;
+      }))
+
+  -- take_bare: the owner word was 0, and the lock guards no node
+  pub bare_makes : (n : ℕ) → length (first_graph key) ≤ n → n < key.locks → MayFast me.0.part.core → get_or s.words (lock_at key.locks n) 0 ≡ 0
+      → Makes key s r (Fast me.0.part.core.who n)
+      (stepped s (lock_at key.locks n) (packed (taker me.0.part.core)) id me.1
+      (knowing me.0 (fast_taken me.0.part.core n)) keeps)
+  bare_makes n big l may hit = let c = r.core in let v = me.0.part.core in let k = mine.part.knows in
+      let is : idle ≡ word_of c n = found n idle l idle_valid hit in
+      let can = shows_fast c v law k n (signed_owns_outside c r.reached) may (let z = r.locks in omega arith) is in
+      makes (Fast v.who n) (lock_at key.locks n) (packed (taker v)) (fast_taken v n) me.0.held keeps refl refl can (mine_fast c v law k n can)
+      mine.room
+      (λ m own in_graph. mine.held m (sym (get_or-set_other v.owned n m true false (λ z. omega arith)) ∙ own) in_graph)
+      r.drawn r.counted
+      (owner_set c (Fast v.who n) can.base law.base key.locks key.places r.all s.words r.words n (packed (taker v)) l (λ m far. far) refl refl refl refl refl
+      ((λ i. packed (record { seat = Some v.who; stamp = k.itself.stamp i; flags = 0 }))
+      ∙ ap packed (sym (word_fast c v.who n can.base.idle.empty can.base.idle.not_asked))))
+      (record {
+        deep = r.homes.deep;
+        nodes = λ m low'. put_cases c.owner n (Taken v.who) m
+            (λ o. ((t : ℕ) → o ≢ Taken t) → get_elem? s.homes m ≡ some (some (Content (node_at graph m))))
+            (λ _ clear. absurd (clear v.who refl)) (λ _ clear. r.homes.nodes m low' clear);
+        lists = r.homes.lists;
+      })
+
+  -- give_bare: the owner word was that of the seat without flags, and the lock guards no node
+  pub bare_give_makes : (n : ℕ) → length (first_graph key) ≤ n → n < key.locks → IsAway me.0.part.core
+      → owns me.0.part.core n ≡ true → IsValid (taker me.0.part.core)
+      → get_or s.words (lock_at key.locks n) 0 ≡ packed (taker me.0.part.core)
+      → Makes key s r (FastGive me.0.part.core.who n) (stepped s (lock_at key.locks n) 0 id me.1 (knowing me.0 (fast_given me.0.part.core n)) keeps)
+  bare_give_makes n big l away own valid hit = let c = r.core in let v = me.0.part.core in
+      let k = mine.part.knows in let is = found n (taker v) l valid hit in
+      let can = shows_fast_give c v law k n away own (let z = r.locks in omega arith) (taker v) is refl in
+      makes (FastGive v.who n) (lock_at key.locks n) 0 (fast_given v n) me.0.held keeps refl refl can (mine_fast_give c v law k n can)
+      mine.room
+      (λ m own' in_graph. mine.held m (sym (get_or-set_other v.owned n m false false (λ z. omega arith)) ∙ own') in_graph)
+      r.drawn r.counted
+      (owner_set c (FastGive v.who n) can.base law.base key.locks key.places r.all s.words r.words n 0 l (λ m far. far) refl refl
+      refl refl refl (ap packed (sym (word_fast_give c v.who n can.base.empty can.base.not_asked))))
+      (record {
+        deep = r.homes.deep;
+        nodes = λ m low' clear. r.homes.nodes m low'
+            (λ t z. clear t (put_else c.owner n Nobody m (λ e. let a = r.counted.size in omega arith) ∙ z));
+        lists = r.homes.lists;
+      })
+
+  -- end: the own sign word is 0, and stays
+  pub end_makes : MayEnd me.0.part.core → get_or s.words (lock_at key.locks key.locks + 8 * me.0.part.core.who) 0 ≡ 0
+      → Makes key s r (End me.0.part.core.who)
+      (stepped s (lock_at key.locks key.locks + 8 * me.0.part.core.who) (get_or s.words (lock_at key.locks key.locks + 8 * me.0.part.core.who) 0) id me.1
+      (knowing me.0 (ended me.0.part.core)) keeps)
+  end_makes may hit = let c = r.core in let v = me.0.part.core in let k = mine.part.knows in let i = lock_at key.locks key.locks + 8 * v.who in
+      let can = shows_end c v law k may.away may.context may.bare
+      (sym (r.words.signs v.who (let z = k.itself.seat in let y = r.places in omega arith)) ∙ hit) in
+      makes (End v.who) i (get_or s.words i 0) (ended v) me.0.held keeps refl refl can
+      (mine_end c v law k can may.bare) mine.room mine.held r.drawn r.counted
+      (subst (Shown key.locks key.places r.all (after c (End v.who))) (sym (set-get_or s.words i 0))
+      (none_set c (End v.who) can.base law.base key.locks key.places r.all s.words r.words (λ m. tt) refl refl refl refl refl))
+      (record { deep = r.homes.deep; nodes = r.homes.nodes; lists = r.homes.lists })
+
+  -- what is counted once the seat drew once more
+  drawn_more : Counts
+  drawn_more = record (r.counts me.0.part.core.who) { draws = (r.counts me.0.part.core.who).draws + 1 }
+
+  counted_more : MayDraw me.0.part
+      → Counted key (r.all + 1) r.core.commits r.core.cancel r.log (put r.counts me.0.part.core.who drawn_more)
+  unfolding drawn_more
+  counted_more may = let c = r.core in let v = me.0.part.core in let k = mine.part.knows in
+      let more = drawn_more in let counts = put r.counts v.who more in record {
+        legal = r.counted.legal;
+        graph = r.counted.graph;
+        size = r.counted.size;
+        front = r.counted.front;
+        stamps = ap (λ (y : ℕ). y + 1) r.counted.stamps
+            ∙ sym (total_one key.places (λ t. (counts t).draws) (λ t. (r.counts t).draws) v.who
+            (let z = k.itself.seat in let y = r.places in omega arith)
+            (λ t ne. ap (λ (y : Counts). y.draws) (put_else r.counts v.who more t ne))
+            (ap (λ (y : Counts). y.draws) (put_here r.counts v.who more)));
+        balanced = λ t u. ap (times u) (put_cases r.counts v.who more t (λ y. y.cancelled ≡ (r.counts t).cancelled)
+            (λ is. ap (λ (y : ℕ). (r.counts y).cancelled) (sym is)) (λ _. refl)) ∙ r.counted.balanced t u
+            ∙ ap (λ (y : List ℕ). times t y + one_of t u (c.cancel u))
+            (sym (put_cases r.counts v.who more u (λ y. y.heeded ≡ (r.counts u).heeded)
+            (λ is. ap (λ (y : ℕ). (r.counts y).heeded) (sym is)) (λ _. refl)));
+        strangers = λ t big. put_else r.counts v.who more t (λ e. let own = mine.part.number in omega arith) ∙ r.counted.strangers t big;
+        few = λ t. put_cases r.counts v.who more t (λ y. y.draws < 2 ^ 52)
+            (λ _. let d = ap (λ (y : Counts). y.draws) mine.part.counted in let f = may.fewer in omega arith)
+            (λ _. r.counted.few t);
+        brief = r.counted.brief;
+        callers = r.counted.callers;
+      }
+
+  -- the stamp word tells the core's last stamp while there are stamps left
+  told_drawn : r.all < most_for key.places → get_or s.words 0 0 ≡ r.core.drawn
+  told_drawn room = let a = r.words.drawn in let b = r.drawn in omega arith
+
+  -- draw: the stamp word goes one up
+  pub draw_makes : MayDraw me.0.part → get_or s.words 0 0 < most_for key.places
+      → Makes key s r (Begin me.0.part.core.who)
+      (stepped s 0 (get_or s.words 0 0 + 1) id me.1 (drawing me.0 (get_or s.words 0 0 + 1)) keeps)
+  unfolding drawn_more
+  draw_makes may room = let c = r.core in let v = me.0.part.core in let k = mine.part.knows in
+      let word = r.words.drawn in let x = get_or s.words 0 0 in let left : r.all < most_for key.places = omega arith in
+      let same = told_drawn left in
+      let few : c.drawn < 2 ^ 56 - 1 = ⊎_elim
+      (λ is. let z = most_few key.places (omega arith) in omega arith)
+      (λ is. let z = most_many key.places is.0 in omega arith) r.sizes in
+      let can = shows_begin c v law k may.away may.no_context may.bare few in
+      let more : Counts = drawn_more in let counts = put r.counts v.who more in
+      makes_all (Begin v.who) 0 (x + 1) (record
+      (me.0.part) {
+        core = begun v (x + 1);
+        counts = record (me.0.part.counts) { draws = me.0.part.counts.draws + 1 };
+      }) me.0.held keeps r.log counts (r.all + 1)
+      refl refl can
+      (subst (λ (y : ℕ). Knows (after c (Begin v.who)) (begun v (y + 1))) (sym same) (mine_begin c v law k can may.bare))
+      (ap (λ (y : Counts). record y { draws = y.draws + 1 }) mine.part.counted ∙ sym (put_here r.counts v.who more)) mine.part.own
+      (record {
+        counts_stay = λ t ne. put_else r.counts v.who more t ne;
+        parts_stay = λ t _. refl;
+        nodes_stay = λ t n _ _. refl;
+      }) mine.room mine.held
+      (let z = r.drawn in omega arith)
+      (counted_more may)
+      (subst (λ (y : ℕ). Shown key.locks key.places (y + 1) (after c (Begin v.who)) (set s.words 0 (x + 1))) word
+      (drawn_set c (Begin v.who) can.base law.base key.locks key.places r.all s.words r.words (x + 1) (λ m. tt) refl refl refl refl))
+      (record { deep = r.homes.deep; nodes = r.homes.nodes; lists = r.homes.lists })
+
+  -- ... or in vain, where all stamps are spent
+  pub draw_stays : MayDraw me.0.part → most_for key.places ≤ get_or s.words 0 0
+      → Stays key s r (stepped s 0 (get_or s.words 0 0 + 1) id me.1 (drawing_none me.0) keeps)
+  unfolding drawn_more
+  draw_stays may spent = let v = me.0.part.core in let word = r.words.drawn in let x = get_or s.words 0 0 in
+      let more : Counts = drawn_more in let counts = put r.counts v.who more in
+      let w : Sight = drawing_none me.0 in record {
+        is = refl;
+        commits = refl;
+        ruled = record {
+          core = r.core;
+          log = r.log;
+          at = r.at;
+          counts = counts;
+          all = r.all + 1;
+          reached = r.reached;
+          kind = r.kind;
+          locks = r.locks;
+          many = r.many;
+          fits = r.fits;
+          places = r.places;
+          sizes = r.sizes;
+          drawn = (let z = r.drawn in omega arith);
+          seats_there = r.seats_there;
+          strangers = r.strangers;
+          words = subst (λ (y : ℕ). Shown key.locks key.places (y + 1) r.core (set s.words 0 (x + 1))) word
+              (spent_set r.core key.locks key.places r.all (x + 1) s.words r.words);
+          homes = r.homes;
+          counted = counted_more may;
+          seats = seats_stay (Sits key r.core r.log r.at counts) s.views id w
+              (λ _. record {
+                part = record {
+                  place = mine.part.place;
+                  number = mine.part.number;
+                  knows = mine.part.knows;
+                  counted = ap (λ (y : Counts). record y { draws = y.draws + 1 }) mine.part.counted
+                      ∙ sym (put_here r.counts v.who more);
+                  own = mine.part.own;
+                };
+                room = mine.room;
+                held = mine.held;
+                idle = λ j q there. (recounted_part v.who more id q (mine.apart j q there) (mine.idle j q there).0, (mine.idle j q there).1);
+                apart = mine.apart;
+                differ = mine.differ;
+              })
+              (λ j d far there on. let f = r.seats j d there on in
+              let apart : (p : Part) → r.at p.core.who ≡ j → p.core.who ≢ v.who =
+              λ p stands is. far (sym stands ∙ ap r.at is ∙ mine.part.place) in record {
+                part = recounted_part v.who more j d.part (apart d.part f.part.place) f.part;
+                room = f.room;
+                held = f.held;
+                idle = λ i q at'. (recounted_part v.who more j q (apart q (f.idle i q at').0.place) (f.idle i q at').0, (f.idle i q at').1);
+                apart = f.apart;
+                differ = f.differ;
+              });
+          there = λ t small. there_kept s.views id me.0 w (r.at t) t here refl refl refl (r.there t small);
+        };
+      }
+    where
+      recounted_part : (who : ℕ) (more : Counts) (j : ℕ) (p : Part) → p.core.who ≢ who
+          → PartFits key r.core r.log r.at r.counts j p → PartFits key r.core r.log r.at (put r.counts who more) j p
+      recounted_part who more j p other f = record {
+        place = f.place;
+        number = f.number;
+        knows = f.knows;
+        counted = f.counted ∙ sym (put_else r.counts who more p.core.who other);
+        own = f.own;
+      }
+
+  -- ---- steps that are no event
+
+  -- a load, or a compare-exchange that finds another number
+  pub looks_on : (i : ℕ) (w : View) → w.who ≡ me.0.part.core.who → ((n : ℕ) → owns w n ≡ owns me.0.part.core n)
+      → Knows r.core w → Stays key s r (stepped s i (get_or s.words i 0) id me.1 (knowing me.0 w) keeps)
+  looks_on i w same has knows = stays_as key s (stepped s i (get_or s.words i 0) id me.1 (knowing me.0 w) keeps) r
+      r.at (subst (Shown key.locks key.places r.all r.core) (sym (set-get_or s.words i 0)) r.words) r.homes
+      (seats_stay (Sits key r.core r.log r.at r.counts) s.views id (knowing me.0 w)
+      (λ _. record {
+        part = record {
+          place = ap r.at same ∙ mine.part.place;
+          number = subst (λ (t : ℕ). t < key.seats) (sym same) mine.part.number;
+          knows = knows;
+          counted = mine.part.counted ∙ ap r.counts (sym same);
+          own = mine.part.own ∙ ap (λ (t : ℕ). part_of t r.log) (sym same);
+        };
+        room = mine.room;
+        held = λ n own in_graph. mine.held n (sym (has n) ∙ own) in_graph;
+        idle = mine.idle;
+        apart = λ k q there z. mine.apart k q there (z ∙ same);
+        differ = mine.differ;
+      })
+      (λ j d _ there. r.seats j d there))
+      (λ t small. there_kept s.views id me.0 (knowing me.0 w) (r.at t) t here refl same refl (r.there t small))
+
+  pub looks : (i : ℕ) (w : View) → w.who ≡ me.0.part.core.who → ((n : ℕ) → owns w n ≡ owns me.0.part.core n)
+      → Knows r.core w → Ruled key (stepped s i (get_or s.words i 0) id me.1 (knowing me.0 w) keeps)
+  looks i w same has knows = (looks_on i w same has knows).ruled
+
+-- ---- a step as the table asks for it
+
+-- a compare-exchange of a seat, by its two cases; where it is lost only what the view knows changes
+pub cas_told : (key : Start) (slots id : ℕ) (me : Sat) (i old new : ℕ) (lost : View) (then : ℕ → Sat → Type 0)
+    → me.0.seated ≡ true → lost.who ≡ me.0.part.core.who → ((n : ℕ) → owns lost n ≡ owns me.0.part.core n)
+    → ((c : State) → Knows c me.0.part.core → Knows c lost)
+    → ((s : St) (r : Ruled key s) → get_elem? s.views id ≡ some me.0 → get_or s.words i 0 ≡ old → (w : Sight)
+    × (a : Act Cell) × Valid s.homes me.1 a × Ruled key (stepped s i new id me.1 w a)
+    × then old (w, carried_after me.1 a))
+    → ((s : St) (r : Ruled key s) → get_elem? s.views id ≡ some me.0 → get_or s.words i 0 ≢ old
+    → then (get_or s.words i 0) (knowing me.0 lost, me.1))
+    → Allows (Ruled key) slots id me i (λ x. either (eqb x old) new x) then
+cas_told key slots id me i old new lost then seated same has keeps' hit miss s r deep at small = let x : ℕ =
+    get_or s.words i 0 in dite (ℕ_discrete x old)
+    (λ e. let t = hit s r at e in (
+      t.0,
+      t.1,
+      t.2,
+      exchanged x old new
+          (λ y. Ruled key (stepped s i y id me.1 t.0 t.1)) (λ _. t.3) (λ ne. absurd (ne e)),
+      subst (λ y. then y (t.0, carried_after me.1 t.1)) (sym e) t.4,
+    ))
+    (λ ne. (
+      knowing me.0 lost,
+      keeps,
+      tt,
+      exchanged x old new (λ y. Ruled key (stepped s i y id me.1 (knowing me.0 lost) keeps)) (λ e. absurd (ne e))
+          (λ _. looks key s r id me at seated i lost same has (keeps' r.core (r.seats id me.0 at seated).part.knows)),
+      miss s r at ne,
+    ))
+
+-- ... of which only the word is told that was found
+pub cas : (key : Start) (slots id : ℕ) (me : Sat) (i old new : ℕ) (lost : View) (then : ℕ → Sat → Type 0)
+    → me.0.seated ≡ true → lost.who ≡ me.0.part.core.who → ((n : ℕ) → owns lost n ≡ owns me.0.part.core n)
+    → ((c : State) → Knows c me.0.part.core → Knows c lost)
+    → ((s : St) (r : Ruled key s) → get_elem? s.views id ≡ some me.0 → get_or s.words i 0 ≡ old → (w : Sight)
+    × (a : Act Cell) × Valid s.homes me.1 a × Ruled key (stepped s i new id me.1 w a)
+    × then old (w, carried_after me.1 a))
+    → ((x : ℕ) → x ≢ old → then x (knowing me.0 lost, me.1))
+    → Allows (Ruled key) slots id me i (λ x. either (eqb x old) new x) then
+cas key slots id me i old new lost then seated same has keeps' hit miss =
+    cas_told key slots id me i old new lost then seated same has keeps' hit (λ s r at ne. miss (get_or s.words i 0) ne)
+
+-- the words of the locks lie as the view has it, and those of the seats behind them
+pub room_is : (key : Start) (s : St) (r : Ruled key s) (id : ℕ) (me : Sat) → get_elem? s.views id ≡ some me.0
+    → me.0.seated ≡ true → (me.0.part.core.room ≡ key.locks) × (me.0.part.core.seats ≡ key.places)
+room_is key s r id me at seated = let k = (mine key s r id me at seated).part.knows in
+    (k.itself.room ∙ r.locks, k.itself.seats ∙ r.places)
+
+pub at_room : (key : Start) (s : St) (r : Ruled key s) (id : ℕ) (me : Sat) → get_elem? s.views id ≡ some me.0
+    → me.0.seated ≡ true → (n : ℕ) → lock_at me.0.part.core.room n ≡ lock_at key.locks n
+at_room key s r id me at seated n = ap (λ (l : ℕ). lock_at l n) (room_is key s r id me at seated).0
+
+pub same_lock : (key : Start) (s : St) (r : Ruled key s) (id : ℕ) (me : Sat) → get_elem? s.views id ≡ some me.0
+    → me.0.seated ≡ true → (m n : ℕ) → lock_at key.locks m ≡ lock_at me.0.part.core.room n → m ≡ n
+same_lock key s r id me at seated m n is = lock_same key.locks m n (is ∙ at_room key s r id me at seated n)
+
+takes_there : (key : Start) (slots id : ℕ) (me : Sat) (n new : ℕ) → n < length (first_graph key)
+    → me.0.seated ≡ true → MayFast me.0.part.core → new ≡ packed (taker me.0.part.core)
+    → Allows (Ruled key) slots id me (lock_at key.locks n) (λ x. either (eqb x 0) new x) (takes_to (step slots (lock_at key.locks n) 0 new none) me)
+takes_there key slots id me n new small seated may is =
+    cas key slots id me (lock_at key.locks n) 0 new (fast_missed me.0.part.core)
+    (takes_to (step slots (lock_at key.locks n) 0 new none) me) seated refl (λ m. refl)
+    (λ c k. mine_missed c me.0.part.core k)
+    (λ s r at hit. let x : Node = node_at (last_graph (first_graph key) r.log) n in
+    let m = fast_makes key s r id me at seated n small may hit in (
+      taking me.0 n x,
+      takes n (Content x),
+      r.homes.nodes n (let z = r.counted.size in omega arith) (λ t own. let z = sym m.can.base.idle.free ∙ own in absurd cc),
+      subst (λ (y : ℕ). Ruled key (stepped s (lock_at key.locks n) y id me.1 (taking me.0 n x) (takes n (Content x)))) (sym is) m.ruled,
+      (λ j there. let e : n ≡ j = same_lock key s r id me at seated n j there in (
+        (λ _. (
+          x,
+          node_there key s r id me at seated n small,
+          ap
+              (λ (i : ℕ). let w : Sat = (taking me.0 i x, (i, Content x) ∷ me.1) in w) e,
+        )),
+        λ no. absurd (no refl),
+      )),
+    ))
+    (λ x ne j there. ((λ z. absurd (ne z)), λ _. refl))
+
+pub takes_free : (key : Start) (slots id : ℕ) (me : Sat) (n i new : ℕ) → i ≡ lock_at key.locks n
+    → n < length (first_graph key) → me.0.seated ≡ true → MayFast me.0.part.core
+    → new ≡ packed (taker me.0.part.core)
+    → Allows (Ruled key) slots id me i (λ x. either (eqb x 0) new x) (takes_to (step slots i 0 new none) me)
+takes_free key slots id me n i new at small seated may is =
+    subst (λ (j : ℕ). Allows (Ruled key) slots id me j (λ x. either (eqb x 0) new x)
+    (takes_to (step slots j 0 new none) me)) (sym at) (takes_there key slots id me n new small seated may is)
+
+gives_there : (key : Start) (slots id : ℕ) (me : Sat) (n old : ℕ) (x : Node) → n < length (first_graph key)
+    → me.0.seated ≡ true → IsAway me.0.part.core → owns me.0.part.core n ≡ true
+    → get_elem? me.0.held n ≡ some (Some x)
+    → IsValid (taker me.0.part.core) → me.1 ≡ (n, Content x) ∷ rest me.1 → old ≡ packed (taker me.0.part.core)
+    → Allows (Ruled key) slots id me (lock_at key.locks n) (λ y. either (eqb y old) 0 y) (gives_to (step slots (lock_at key.locks n) old 0 none) me)
+gives_there key slots id me n old x small seated away own has valid top is =
+    cas key slots id me (lock_at key.locks n) old 0 (fast_kept me.0.part.core)
+    (gives_to (step slots (lock_at key.locks n) old 0 none) me) seated refl (λ m. refl)
+    (λ c k. mine_kept c me.0.part.core k)
+    (λ s r at hit. (
+      giving me.0 n,
+      gives,
+      tt,
+      (fast_give_makes key s r id me at seated n x small away own has valid (hit ∙ is) top).ruled,
+      (λ j there. let e : n ≡ j = same_lock key s r id me at seated n j there in
+          ((λ _. ap (λ (i : ℕ). let w : Sat = (giving me.0 i, rest me.1) in w) e), λ no. absurd (no refl))),
+    ))
+    (λ y ne j there. ((λ z. absurd (ne z)), λ _. refl))
+
+pub gives_free : (key : Start) (slots id : ℕ) (me : Sat) (n i old : ℕ) (x : Node) → i ≡ lock_at key.locks n
+    → n < length (first_graph key) → me.0.seated ≡ true → IsAway me.0.part.core → owns me.0.part.core n ≡ true
+    → get_elem? me.0.held n ≡ some (Some x)
+    → IsValid (taker me.0.part.core) → me.1 ≡ (n, Content x) ∷ rest me.1 → old ≡ packed (taker me.0.part.core)
+    → Allows (Ruled key) slots id me i (λ y. either (eqb y old) 0 y) (gives_to (step slots i old 0 none) me)
+gives_free key slots id me n i old x at small seated away own has valid top is =
+    subst (λ (j : ℕ). Allows (Ruled key) slots id me j (λ y. either (eqb y old) 0 y)
+    (gives_to (step slots j old 0 none) me)) (sym at)
+    (gives_there key slots id me n old x small seated away own has valid top is)
+
+bares_there : (key : Start) (slots id : ℕ) (me : Sat) (n new : ℕ) → length (first_graph key) ≤ n → n < key.locks
+    → me.0.seated ≡ true → MayFast me.0.part.core → new ≡ packed (taker me.0.part.core)
+    → Allows (Ruled key) slots id me (lock_at key.locks n) (λ x. either (eqb x 0) new x) (takes_bare_to (step slots (lock_at key.locks n) 0 new none) me)
+bares_there key slots id me n new big low seated may is =
+    let v : View = me.0.part.core in
+    let then : ℕ → Sat → Type 0 = takes_bare_to (step slots (lock_at key.locks n) 0 new none) me in
+    let tells : (s : St) (r : Ruled key s) → get_elem? s.views id ≡ some me.0 → (j : ℕ) → n ≡ j → IsToldBy v j (get_or s.words (lock_at key.locks n) 0) =
+    λ s r at j e. subst (λ (m : ℕ). IsToldBy v m (get_or s.words (lock_at key.locks n) 0)) e (told key s r id me at seated n low may.away) in
+    let won : (s : St) (r : Ruled key s) → get_elem? s.views id ≡ some me.0 → get_or s.words (lock_at key.locks n) 0 ≡ 0 → (w : Sight)
+    × (a : Act Cell) × Valid s.homes me.1 a × Ruled key (stepped s (lock_at key.locks n) new id me.1 w a) × then 0 (w, carried_after me.1 a) =
+    λ s r at hit. (
+      knowing me.0 (fast_taken v n),
+      keeps,
+      tt,
+      subst (λ (y : ℕ). Ruled key (stepped s (lock_at key.locks n) y id me.1 (knowing me.0 (fast_taken v n)) keeps)) (sym is)
+          (bare_makes key s r id me at seated n big low may hit).ruled,
+      (λ j there. let e : n ≡ j = same_lock key s r id me at seated n j there in (
+        subst (IsToldBy v j) hit (tells s r at j e),
+        (λ _. ap (λ (i : ℕ). let w : Sat = (knowing me.0 (fast_taken v i), me.1) in w) e),
+        (λ no. absurd (no refl)),
+        (λ no. absurd (no refl)),
+      )),
+    ) in elim (true_or_false (owns v n)) [
+      | inl own ↦ cas_told key slots id me (lock_at key.locks n) 0 new v then seated refl (λ m. refl) (λ c k. k) won
+          (λ s r at ne j there. let e : n ≡ j = same_lock key s r id me at seated n j there in (
+            tells s r at j e,
+            (λ z. absurd (ne z)),
+            (λ _ _. refl),
+            (λ _ no. absurd (true≢false (sym own ∙ ap (owns v) e ∙ no))),
+          ))
+      | inr lacks ↦ cas_told key slots id me (lock_at key.locks n) 0 new (fast_missed v) then seated refl (λ m. refl)
+          (λ c k. mine_missed c v k) won
+          (λ s r at ne j there. let e : n ≡ j = same_lock key s r id me at seated n j there in (
+            tells s r at j e,
+            (λ z. absurd (ne z)),
+            (λ _ own. absurd (true≢false (sym own ∙ sym (ap (owns v) e) ∙ lacks))),
+            (λ _ _. refl),
+          ))
+    ]
+
+pub takes_bare : (key : Start) (slots id : ℕ) (me : Sat) (n i new : ℕ) → i ≡ lock_at key.locks n
+    → length (first_graph key) ≤ n → n < key.locks → me.0.seated ≡ true → MayFast me.0.part.core
+    → new ≡ packed (taker me.0.part.core)
+    → Allows (Ruled key) slots id me i (λ x. either (eqb x 0) new x) (takes_bare_to (step slots i 0 new none) me)
+takes_bare key slots id me n i new at big low seated may is =
+    subst (λ (j : ℕ). Allows (Ruled key) slots id me j (λ x. either (eqb x 0) new x)
+    (takes_bare_to (step slots j 0 new none) me)) (sym at) (bares_there key slots id me n new big low seated may is)
+
+gives_bare_there : (key : Start) (slots id : ℕ) (me : Sat) (n old : ℕ) → length (first_graph key) ≤ n
+    → n < key.locks → me.0.seated ≡ true → IsAway me.0.part.core
+    → IsValid (taker me.0.part.core) → old ≡ packed (taker me.0.part.core)
+    → Allows (Ruled key) slots id me (lock_at key.locks n) (λ y. either (eqb y old) 0 y) (gives_bare_to (step slots (lock_at key.locks n) old 0 none) me)
+gives_bare_there key slots id me n old big low seated away valid is =
+    let v : View = me.0.part.core in
+    let then : ℕ → Sat → Type 0 = gives_bare_to (step slots (lock_at key.locks n) old 0 none) me in
+    let tells : (s : St) (r : Ruled key s) → get_elem? s.views id ≡ some me.0 → (j : ℕ) → n ≡ j → IsToldBy v j (get_or s.words (lock_at key.locks n) 0) =
+    λ s r at j e. subst (λ (m : ℕ). IsToldBy v m (get_or s.words (lock_at key.locks n) 0)) e (told key s r id me at seated n low away) in
+    let won : (s : St) (r : Ruled key s) → get_elem? s.views id ≡ some me.0 → get_or s.words (lock_at key.locks n) 0 ≡ old → (w : Sight)
+    × (a : Act Cell) × Valid s.homes me.1 a × Ruled key (stepped s (lock_at key.locks n) 0 id me.1 w a) × then old (w, carried_after me.1 a) =
+    λ s r at hit. (
+      knowing me.0 (fast_given v n),
+      keeps,
+      tt,
+      (bare_give_makes key s r id me at seated n big low away
+          (told key s r id me at seated n low away ∙ ap (λ (y : ℕ). unflagged y == unflagged (packed (taker v))) (hit ∙ is)
+          ∙ number_same (unflagged (packed (taker v))) (unflagged (packed (taker v))) refl) valid (hit ∙ is)).ruled,
+      (λ j there. let e : n ≡ j = same_lock key s r id me at seated n j there in (
+        subst (IsToldBy v j) hit (tells s r at j e),
+        (λ _. ap (λ (i : ℕ). let w : Sat = (knowing me.0 (fast_given v i), me.1) in w) e),
+        (λ no. absurd (no refl)),
+        (λ no. absurd (no refl)),
+      )),
+    ) in elim (true_or_false (owns v n)) [
+      | inl own ↦ cas_told key slots id me (lock_at key.locks n) old 0 (fast_kept v) then seated refl (λ m. refl)
+          (λ c k. mine_kept c v k) won
+          (λ s r at ne j there. let e : n ≡ j = same_lock key s r id me at seated n j there in (
+            tells s r at j e,
+            (λ z. absurd (ne z)),
+            (λ _ _. refl),
+            (λ _ no. absurd (true≢false (sym own ∙ ap (owns v) e ∙ no))),
+          ))
+      | inr lacks ↦ cas_told key slots id me (lock_at key.locks n) old 0 v then seated refl (λ m. refl) (λ c k. k) won
+          (λ s r at ne j there. let e : n ≡ j = same_lock key s r id me at seated n j there in (
+            tells s r at j e,
+            (λ z. absurd (ne z)),
+            (λ _ own. absurd (true≢false (sym own ∙ sym (ap (owns v) e) ∙ lacks))),
+            (λ _ _. refl),
+          ))
+    ]
+
+pub gives_bare : (key : Start) (slots id : ℕ) (me : Sat) (n i old : ℕ) → i ≡ lock_at key.locks n
+    → length (first_graph key) ≤ n → n < key.locks → me.0.seated ≡ true → IsAway me.0.part.core
+    → IsValid (taker me.0.part.core) → old ≡ packed (taker me.0.part.core)
+    → Allows (Ruled key) slots id me i (λ y. either (eqb y old) 0 y) (gives_bare_to (step slots i old 0 none) me)
+gives_bare key slots id me n i old at big low seated away valid is =
+    subst (λ (j : ℕ). Allows (Ruled key) slots id me j (λ y. either (eqb y old) 0 y)
+    (gives_bare_to (step slots j old 0 none) me)) (sym at)
+    (gives_bare_there key slots id me n old big low seated away valid is)
+
+-- a look from outside whether the seat owns a lock
+pub owns_outside : (key : Start) (slots id : ℕ) (me : Sat) (n i : ℕ) → i ≡ lock_at key.locks n → n < key.locks
+    → me.0.seated ≡ true → IsAway me.0.part.core
+    → Allows (Ruled key) slots id me i (λ x. x) (owns_to (step slots i 0 0 none) me)
+owns_outside key slots id me n i is low seated away s r deep at small = let v : View = me.0.part.core in (
+  me.0,
+  keeps,
+  tt,
+  looks key s r id me at seated i v refl (λ m. refl) (r.seats id me.0 at seated).part.knows,
+  (
+    refl,
+    (λ j there. let e : n ≡ j = same_lock key s r id me at seated n j (sym is ∙ there) in
+        subst (λ (m : ℕ). IsToldBy v m (get_or s.words i 0)) e
+        (subst (λ (k : ℕ). IsToldBy v n (get_or s.words k 0)) (sym is) (told key s r id me at seated n low away))),
+  ),
+)
+
+-- ... of a slot that was brought to the front, by the number and stamp that the seat keeps
+pub gives_brought : (key : Start) (slots id : ℕ) (v : Sight) (me : Sat) (n i old who stamp : ℕ) (x : Node)
+    (others : List (ℕ × Cell)) → me.0 ≡ v → me.1 ≡ (n, Content x) ∷ others → i ≡ lock_at key.locks n
+    → n < length (first_graph key) → v.seated ≡ true
+    → IsAway v.part.core → owns v.part.core n ≡ true → get_elem? v.held n ≡ some (Some x) → v.part.core.who ≡ who
+    → v.part.core.stamp ≡ stamp → Fits who stamp
+    → old ≡ packed (record { seat = Some who; stamp = stamp; flags = 0 })
+    → Allows (Ruled key) slots id me i (λ y. either (eqb y old) 0 y) (gives_to (step slots i old 0 none) me)
+gives_brought key slots id v me n i old who stamp x others view top at small seated away own has is_who is_stamp fits is =
+    let same : taker me.0.part.core ≡ record { seat = Some who; stamp = stamp; flags = 0 } =
+    (λ j. record {
+      seat = Some ((ap (λ (w : Sight). w.part.core.who) view ∙ is_who) j);
+      stamp = (ap (λ (w : Sight). w.part.core.stamp) view ∙ is_stamp) j;
+      flags = 0;
+    }) in
+    let valid : IsValid (record { seat = Some who; stamp = stamp; flags = 0 }) = record { seating = fits; flags = inl refl } in
+    gives_free key slots id me n i old x at small (ap (λ (w : Sight). w.seated) view ∙ seated)
+    (subst (λ (w : Sight). IsAway w.part.core) (sym view) away)
+    (ap (λ (w : Sight). owns w.part.core n) view ∙ own)
+    (ap (λ (w : Sight). get_elem? w.held n) view ∙ has) (subst IsValid (sym same) valid)
+    (top ∙ ap (λ (l : List (ℕ × Cell)). (n, Content x) ∷ rest l) (sym top)) (is ∙ ap packed (sym same))
+
+pub ends : (key : Start) (slots id : ℕ) (me : Sat) (i : ℕ) → i ≡ lock_at me.0.part.core.room me.0.part.core.room + 8 * me.0.part.core.who → me.0.seated ≡ true
+    → MayEnd me.0.part.core → Allows (Ruled key) slots id me i (λ x. x) (ends_to (step slots i 0 0 none) me)
+ends key slots id me i there seated may s r deep at small = let c : State = r.core in let v : View = me.0.part.core in
+    let k = (r.seats id me.0 at seated).part.knows in
+    let is : i ≡ lock_at key.locks key.locks + 8 * v.who = (let a = ap (λ (l : ℕ). lock_at l l) (k.itself.room ∙ r.locks) in omega arith) in let x : ℕ = get_or s.words i 0 in
+    let tells : x ≡ c.sign v.who = ap (λ (j : ℕ). get_or s.words j 0) is
+    ∙ r.words.signs v.who (let z = k.itself.seat in let y = r.places in omega arith) in
+    let known : (j : ℕ) → v.sign ≡ Some j → x ≡ j = λ j told. tells ∙ k.sign j told in dite (ℕ_discrete x 0)
+    (λ e. (
+      knowing me.0 (ended v),
+      keeps,
+      tt,
+      subst (λ (j : ℕ). Ruled key (stepped s j (get_or s.words j 0) id me.1 (knowing me.0 (ended v)) keeps))
+          (sym is) (end_makes key s r id me at seated may (ap (λ (j : ℕ). get_or s.words j 0) (sym is) ∙ e)).ruled,
+      λ _. ((λ _. refl), (λ no. absurd (no e)), known),
+    ))
+    (λ ne. (
+      knowing me.0 (has_read v x),
+      keeps,
+      tt,
+      looks key s r id me at seated i (has_read v x) refl (λ n. refl) (mine_read c v k x (sym tells) (λ z. absurd (ne z))),
+      λ _. ((λ z. absurd (ne z)), (λ _. refl), known),
+    ))
+
+pub draws_one : (key : Start) (slots id : ℕ) (me : Sat) → me.0.seated ≡ true → MayDraw me.0.part
+    → Allows (Ruled key) slots id me 0 (λ z. (z + 1) % 2 ^ 64) (draws_to (step slots 0 1 0 none) me)
+draws_one key slots id me seated may s r deep at small = let x : ℕ = get_or s.words 0 0 in
+    let word = r.words.drawn in let most = all_room key s r in let up : (x + 1) % 2 ^ 64 ≡ x + 1 = omega arith in
+    let k = (r.seats id me.0 at seated).part.knows in
+    let same : me.0.part.core.seats ≡ key.places = k.itself.seats ∙ r.places in
+    let limit : most_for me.0.part.core.seats ≡ most_for key.places = ap most_for same in
+    let sixteen : me.0.part.core.seats ≡ 16 → x < most_for me.0.part.core.seats =
+    (λ is. let z = few_room key s r (sym same ∙ is) in omega arith) in
+    dite (dec_le (most_for key.places) x)
+    (λ spent. (
+      drawing_none me.0,
+      keeps,
+      tt,
+      subst (λ (y : ℕ). Ruled key (stepped s 0 y id me.1 (drawing_none me.0) keeps)) (sym up)
+          (draw_stays key s r id me at seated may spent).ruled,
+      λ _. ((omega arith), (λ room. absurd (omega arith)), (λ _. refl), sixteen),
+    ))
+    (λ left. (
+      drawing me.0 (x + 1),
+      keeps,
+      tt,
+      subst (λ (y : ℕ). Ruled key (stepped s 0 y id me.1 (drawing me.0 (x + 1)) keeps)) (sym up)
+          (draw_makes key s r id me at seated may (omega arith)).ruled,
+      λ _. ((omega arith), (λ _. refl), (λ spent. absurd (omega arith)), sixteen),
+    ))

@@ -1,5 +1,0 @@
-use Rattle.ww_low_tests.proofs.Holding.{may_try}
-use Rattle.ww_low_tests.proofs.rings.hold.Goals as goal
-
-pub try_take-requires-clause-may : goal.try_take-requires-clause-may
-try_take-requires-clause-may g c = may_try c.start-seat.new.board c.args.lock c.start-seat.result c.requires.lock c.start-seat.ensures.holds

@@ -1,6 +1,0 @@
-use Rattle.std.proofs.Common.{◌≡◌}
-use Rattle.ww_low_tests.specs.Trying.{IsBetween, draws_in}
-use Rattle.ww_low_tests.proofs.rounds.tries.Given as goal
-
-abbrev pub invariant-loop-at : goal.invariant-loop-at
-invariant-loop-at l = IsBetween l.board l.seat × (draws_in l.seat ≡ l.at)

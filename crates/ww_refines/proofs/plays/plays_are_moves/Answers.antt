@@ -1,0 +1,5 @@
+use Rattle.ww_refines.proofs.Playing as kept
+use Rattle.ww_refines.proofs.plays.plays_are_moves.Goals as goal
+
+pub returns : goal.returns
+returns c = kept.plays_are_moves

@@ -1,5 +1,0 @@
-use Rattle.ww_runs.proofs.Serving as kept
-use Rattle.ww_runs.proofs.contexts.oldest_is_served_in_runs.Goals as goal
-
-pub returns : goal.returns
-returns c = kept.oldest_is_served_in_runs

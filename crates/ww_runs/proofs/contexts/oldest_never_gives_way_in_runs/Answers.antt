@@ -1,5 +1,0 @@
-use Rattle.ww_runs.proofs.Serving as kept
-use Rattle.ww_runs.proofs.contexts.oldest_never_gives_way_in_runs.Goals as goal
-
-pub returns : goal.returns
-returns c = kept.oldest_never_gives_way_in_runs

@@ -1,5 +1,0 @@
-use Rattle.ww_runs.proofs.Unlocking as kept
-use Rattle.ww_runs.proofs.deadlocks.firsts_ask_in_runs.Goals as goal
-
-pub returns : goal.returns
-returns c = kept.firsts_ask_in_runs

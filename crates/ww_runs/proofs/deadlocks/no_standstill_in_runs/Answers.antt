@@ -1,5 +1,0 @@
-use Rattle.ww_runs.proofs.Standstill as kept
-use Rattle.ww_runs.proofs.deadlocks.no_standstill_in_runs.Goals as goal
-
-pub returns : goal.returns
-returns c = kept.no_standstill_in_runs

@@ -1,5 +1,0 @@
-use Rattle.ww_runs.proofs.Ends as kept
-use Rattle.ww_runs.proofs.endless.nobody_sleeps_in_vain_in_runs.Goals as goal
-
-pub returns : goal.returns
-returns c = kept.nobody_sleeps_in_vain_in_runs

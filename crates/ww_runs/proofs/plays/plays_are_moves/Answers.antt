@@ -1,5 +1,0 @@
-use Rattle.ww_runs.proofs.Playing as kept
-use Rattle.ww_runs.proofs.plays.plays_are_moves.Goals as goal
-
-pub returns : goal.returns
-returns c = kept.plays_are_moves

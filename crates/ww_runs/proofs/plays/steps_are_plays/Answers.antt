@@ -1,5 +1,0 @@
-use Rattle.ww_runs.proofs.Telling as kept
-use Rattle.ww_runs.proofs.plays.steps_are_plays.Goals as goal
-
-pub returns : goal.returns
-returns c = kept.steps_are_plays

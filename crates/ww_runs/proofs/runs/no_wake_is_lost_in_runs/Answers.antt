@@ -1,5 +1,0 @@
-use Rattle.ww_runs.proofs.Wholes as kept
-use Rattle.ww_runs.proofs.runs.no_wake_is_lost_in_runs.Goals as goal
-
-pub returns : goal.returns
-returns c = kept.no_wake_is_lost_in_runs

@@ -1,5 +1,0 @@
-use Rattle.ww_runs.proofs.Following as kept
-use Rattle.ww_runs.proofs.runs.others_are_none.Goals as goal
-
-pub returns : goal.returns
-returns c = kept.others_are_none

@@ -1,5 +1,0 @@
-use Rattle.ww_runs.proofs.Wholes as kept
-use Rattle.ww_runs.proofs.runs.start_is_start.Goals as goal
-
-pub returns : goal.returns
-returns c = kept.start_is_start
