@@ -4,7 +4,7 @@ use Rattle.std.proofs.lemmas.List.{take_more, take_all, append-nil}
 use Rattle.std.proofs.lemmas.Option.{slice_get-get_or}
 use Rattle.std.specs.Result.{OnOk}
 use Rattle.ww_model.specs.declared.event.Event.{Event}
-use Rattle.ww_model.specs.declared.event.Event.TheVariants.{Begin, Clear, Fast, FastGive, Guard, Join, Sign, Take, Ask, Give, Die, Unguard, Commit, End, Cancel, Heed, Leave}
+use Rattle.ww_model.specs.declared.event.Event.TheVariants.{Begin}
 use Rattle.ww_model.specs.declared.event.Answer.{Answer}
 use Rattle.ww_model.specs.State.{State}
 use Rattle.ww_model.specs.Event.{Possible, after, answer}
@@ -29,22 +29,7 @@ answers_counted c (x ∷ es) = ap suc (answers_counted (after c x) es)
 
 same_sizes : (c : State) (e : Event) → ((after c e).locks ≡ c.locks) × ((after c e).seats ≡ c.seats)
 same_sizes c (Begin s) = (refl, refl)
-same_sizes c (Clear s) = (refl, refl)
-same_sizes c (Fast s n) = (refl, refl)
-same_sizes c (FastGive s n) = (refl, refl)
-same_sizes c (Guard s n) = (refl, refl)
-same_sizes c (Join s n) = (refl, refl)
-same_sizes c (Sign s v) = (refl, refl)
-same_sizes c (Take s n) = (refl, refl)
-same_sizes c (Ask s n) = (refl, refl)
-same_sizes c (Give s n) = (refl, refl)
-same_sizes c (Die s n) = (refl, refl)
-same_sizes c (Unguard s n) = (refl, refl)
-same_sizes c (Commit s) = (refl, refl)
-same_sizes c (End s) = (refl, refl)
-same_sizes c (Cancel s v) = (refl, refl)
-same_sizes c (Heed s n) = (refl, refl)
-same_sizes c (Leave s n) = (refl, refl)
+same_sizes c _ = (refl, refl)
 
 -- events change neither the number of the locks nor that of the seats
 pub run_sizes : (c : State) (es : List Event) → ((state_after c es).locks ≡ c.locks) × ((state_after c es).seats ≡ c.seats)
