@@ -72,53 +72,39 @@ younger = record { seat = 1; stamp = 3; holds = true }
 
 -- ---- the steps may be made
 
-plain_before : (kind : Kind) → all_plain (first_scene kind 2 3) (before kind) ≡ true
-unfolding put ℕ_discrete
-plain_before WoundWait = refl
-plain_before WaitDie = refl
+-- The steps are plain, but the one by which the first goes to sleep, which passes; and from the deadlock on the first owns its
+-- lock, or nobody waits.
+record AreAllowed (kind : Kind) : Type 0 where
+  first : all_plain (first_scene kind 2 3) (before kind) ≡ true
+  out : passes (looked kind).core (Unguard 0 1) ≡ true
+  then : all_plain (sleeping kind) joins ≡ true
+  resolving : all_plain (deadlocked kind) resolves ≡ true
+  owning : all_owning (deadlocked kind) resolves ≡ true
 
-plain_joins : (kind : Kind) → all_plain (sleeping kind) joins ≡ true
+are_allowed : (kind : Kind) → AreAllowed kind
 unfolding put ℕ_discrete
-plain_joins WoundWait = refl
-plain_joins WaitDie = refl
-
-plain_resolves : (kind : Kind) → all_plain (deadlocked kind) resolves ≡ true
-unfolding put ℕ_discrete
-plain_resolves WoundWait = refl
-plain_resolves WaitDie = refl
-
-owning_resolves : (kind : Kind) → all_owning (deadlocked kind) resolves ≡ true
-unfolding put ℕ_discrete
-owning_resolves WoundWait = refl
-owning_resolves WaitDie = refl
-
-passes_out : (kind : Kind) → passes (looked kind).core (Unguard 0 1) ≡ true
-unfolding put ℕ_discrete
-passes_out WoundWait = refl
-passes_out WaitDie = refl
+are_allowed WoundWait = record { first = refl; out = refl; then = refl; resolving = refl; owning = refl }
+are_allowed WaitDie = record { first = refl; out = refl; then = refl; resolving = refl; owning = refl }
 
 reached_looked : (kind : Kind) → IsReached (looked kind)
-reached_looked kind = reached_by (first_scene kind 2 3) (begins kind 2 3) (before kind) (plain_before kind)
+reached_looked kind = reached_by (first_scene kind 2 3) (begins kind 2 3) (before kind) (are_allowed kind).first
+
+-- the first, which waits and has found no sign, may go to sleep
+may_leave_so : (kind : Kind) → (looked kind).phase 0 ≡ acting → Stands ((looked kind).core.queue 1) 0 →
+    (looked kind).found_no_sign 0 ≡ true → MayLeaveToSleep (looked kind) 0 1 false
+may_leave_so kind acts waits unsigned = record {
+  acts = acts;
+  possible = may (looked kind).core (reached_is_orderly (looked kind) (reached_looked kind)).reached (Unguard 0 1)
+      (are_allowed kind).out;
+  waits = waits;
+  unsigned = λ _. unsigned;
+  uncancelled = λ heeds. absurd (true≢false (sym heeds));
+}
 
 may_leave : (kind : Kind) → MayLeaveToSleep (looked kind) 0 1 false
 unfolding put ℕ_discrete
-may_leave WoundWait = record {
-  acts = refl;
-  possible = may (looked WoundWait).core (reached_is_orderly (looked WoundWait) (reached_looked WoundWait)).reached
-      (Unguard 0 1)
-      (passes_out WoundWait);
-  waits = (older, inl refl, refl);
-  unsigned = λ _. refl;
-  uncancelled = λ heeds. absurd (true≢false (sym heeds));
-}
-may_leave WaitDie = record {
-  acts = refl;
-  possible = may (looked WaitDie).core (reached_is_orderly (looked WaitDie) (reached_looked WaitDie)).reached
-      (Unguard 0 1) (passes_out WaitDie);
-  waits = (older, inl refl, refl);
-  unsigned = λ _. refl;
-  uncancelled = λ heeds. absurd (true≢false (sym heeds));
-}
+may_leave WoundWait = may_leave_so WoundWait refl (older, inl refl, refl) refl
+may_leave WaitDie = may_leave_so WaitDie refl (older, inl refl, refl) refl
 
 abbrev no_debts : ℕ → ℕ → Bool
 no_debts s v = false
@@ -148,10 +134,10 @@ may_sleep WaitDie = record { ready = refl; paid = λ v. refl }
 reached_deadlocked : (kind : Kind) → IsReached (deadlocked kind)
 reached_deadlocked kind = reached_by (sleeping kind) (goes_on (left kind) (falls_asleep 0)
     (goes_on (looked kind) (leaves_to_sleep 0 1 false) (reached_looked kind) (may_leave kind)) (may_sleep kind)) joins
-    (plain_joins kind)
+    (are_allowed kind).then
 
 reached_over : (kind : Kind) → IsReached (over kind)
-reached_over kind = reached_by (deadlocked kind) (reached_deadlocked kind) resolves (plain_resolves kind)
+reached_over kind = reached_by (deadlocked kind) (reached_deadlocked kind) resolves (are_allowed kind).resolving
 
 -- ---- the deadlock
 
@@ -318,8 +304,8 @@ at_rest kind = let w = over kind in let c = w.core in let o = reached_is_orderly
 
 pub deadlocks_are_reached : DeadlocksAreReached
 deadlocks_are_reached kind = let g = goes_from (deadlocked kind) (reached_deadlocked kind) resolves
-    (plain_resolves kind) refl
-    (owning_resolves kind) (at_rest kind) in record {
+    (are_allowed kind).resolving refl
+    (are_allowed kind).owning (at_rest kind) in record {
       scene = g.scene;
       step = g.step;
       of_kind = ap (λ (w : Scene). w.core.kind) g.from ∙ of_kind kind;
