@@ -3,7 +3,7 @@ use Rattle.std.specs.Prelude.{ℕ, ◌≡◌, true}
 use Rattle.ww_plain.specs.Numbers.{is_among}
 use Rattle.ww_invariant.specs.declared.cells.Start.{Start}
 use Rattle.ww_invariant.specs.Rule.{St, Ruled}
-use Rattle.ww_table_laws.specs.Laws.{Stepper}
+use Rattle.ww_table_laws.specs.Laws.{StepsAt}
 use Rattle.ww_lock.specs.declared.hand.Hand.TheInside.{Inside}
 use Rattle.ww_lock.specs.Holding.{Holding}
 use Rattle.ww_lock.specs.Carried.{holding_of}
@@ -18,7 +18,7 @@ pub record IsPassAt (s : St) (id : ℕ) (h : Holding) : Type 0 where
   pub hand : Inside
   pub carries : Carries hand
   pub seen : h ≡ holding_of (carried_of hand)
-  pub steps : Stepper s id hand.seat.me
+  pub steps : StepsAt s id hand.seat.me
 
 -- two passes that hold one node are one
 abbrev pub PassesExclude : Type 0
@@ -31,7 +31,7 @@ pub record IsDeskAt (s : St) (id : ℕ) (d : Situation) : Type 0 where
   pub station : Station
   pub keeps : Keeps station
   pub seen : d ≡ situation_of station
-  pub steps : Stepper s id station.seat.me
+  pub steps : StepsAt s id station.seat.me
 
 -- two desks that hold one lock are one
 abbrev pub DesksExclude : Type 0

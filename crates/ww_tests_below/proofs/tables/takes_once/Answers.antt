@@ -12,8 +12,8 @@ draw-requires-clause-may c = subst (λ (m : Sat). MayDraw m.0.part) (sym c.requi
 pub take_free-requires-clause-may : goal.take_free-requires-clause-may
 take_free-requires-clause-may c = let d = c.in-Some.ensures in let view = ap (λ (m : Sat). m.0) d.drew
     ∙ ap (λ (m : Sat). drawing m.0 c.in-Some.field-0) c.requires.new.1.me in
-    subst (λ (v : Sight). MayFast v.part.core) (sym view) (may_fast _ _ _ c.requires.new.0 c.in-Some.field-0 d.context)
-
-pub take_free-requires-clause-room : goal.take_free-requires-clause-room
-take_free-requires-clause-room c = let long = ap (λ (m : Sat). length m.1) c.in-Some.ensures.drew
-    ∙ ap (λ (m : Sat). length m.1) c.requires.new.1.me in omega arith
+    let long = ap (λ (m : Sat). length m.1) d.drew ∙ ap (λ (m : Sat). length m.1) c.requires.new.1.me in record {
+      lock = c.requires.node;
+      may = subst (λ (v : Sight). MayFast v.part.core) (sym view) (may_fast _ _ _ c.requires.new.0 c.in-Some.field-0 d.context);
+      room = omega arith;
+    }
