@@ -6,7 +6,7 @@ use native.Mathlib.Decide.{ℕ_discrete, dec_le}
 use lib.ListN.{get_elem?}
 use lib.Seq.{set-get_or}
 use prog.Atomic.{either}
-use Rattle.atomic_table.specs.Table.{step, Act, keeps, takes, gives, stepped, homes_after, carried_after, Valid, Allows, rest}
+use Rattle.atomic_table.specs.Table.{Step, step, Act, keeps, takes, gives, stepped, homes_after, carried_after, Valid, Allows, rest}
 use Rattle.atomic_table.proofs.Lists.{set_here, set_else, exchanged}
 use Rattle.ww_word.specs.declared.owner.Owner.{Owner}
 use Rattle.ww_word.specs.Owner.{idle}
@@ -48,7 +48,7 @@ use Rattle.ww_invariant.specs.declared.cells.Counts.{Counts}
 use Rattle.ww_invariant.specs.declared.cells.Part.{Part}
 use Rattle.ww_invariant.specs.declared.cells.Sight.{Sight}
 use Rattle.ww_invariant.specs.declared.cells.Start.{Start}
-use Rattle.ww_invariant.specs.Layout.{lock_at}
+use Rattle.ww_invariant.specs.Layout.{lock_at, sign_at}
 use Rattle.ww_invariant.proofs.Lies.{lock_same}
 use Rattle.ww_invariant.specs.Rule.{St, Sat, first_graph, own_of, times, Shown, AtHome, Counted, PartFits, Sits, Ruled, MakesWith, Makes, Stays}
 use Rattle.ww_invariant.specs.Steps.{knowing, taker, taking, giving, drawing, drawing_none, takes_to, gives_to, takes_bare_to, gives_bare_to, ends_to, draws_to, MayDraw, MayEnd, owns_to, IsToldBy}
@@ -483,310 +483,254 @@ module _ (key : Start) (s : St) (r : Ruled key s) (id : ℕ) (me : Sat) (here : 
       → Knows r.core w → Ruled key (stepped s i (get_or s.words i 0) id me.1 (knowing me.0 w) keeps)
   looks i w same has knows = (looks_on i w same has knows).ruled
 
+  -- ---- where the words lie
+
+  -- those of the locks lie as the view has it, and those of the seats behind them
+  pub room_is : (me.0.part.core.room ≡ key.locks) × (me.0.part.core.seats ≡ key.places)
+  room_is = let k = mine.part.knows in (k.itself.room ∙ r.locks, k.itself.seats ∙ r.places)
+
+  pub at_room : (n : ℕ) → lock_at me.0.part.core.room n ≡ lock_at key.locks n
+  at_room n = ap (λ (l : ℕ). lock_at l n) room_is.0
+
+  pub same_lock : (m n : ℕ) → lock_at key.locks m ≡ lock_at me.0.part.core.room n → m ≡ n
+  same_lock m n is = lock_same key.locks m n (is ∙ at_room n)
+
 -- ---- a step as the table asks for it
 
--- a compare-exchange of a seat, by its two cases; where it is lost only what the view knows changes
-pub cas_told : (key : Start) (slots id : ℕ) (me : Sat) (i old new : ℕ) (lost : View) (then : ℕ → Sat → Type 0)
-    → me.0.seated ≡ true → lost.who ≡ me.0.part.core.who → ((n : ℕ) → owns lost n ≡ owns me.0.part.core n)
-    → ((c : State) → Knows c me.0.part.core → Knows c lost)
-    → ((s : St) (r : Ruled key s) → get_elem? s.views id ≡ some me.0 → get_or s.words i 0 ≡ old → (w : Sight)
-    × (a : Act Cell) × Valid s.homes me.1 a × Ruled key (stepped s i new id me.1 w a)
-    × then old (w, carried_after me.1 a))
-    → ((s : St) (r : Ruled key s) → get_elem? s.views id ≡ some me.0 → get_or s.words i 0 ≢ old
-    → then (get_or s.words i 0) (knowing me.0 lost, me.1))
-    → Allows (Ruled key) slots id me i (λ x. either (eqb x old) new x) then
-cas_told key slots id me i old new lost then seated same has keeps' hit miss s r deep at small = let x : ℕ =
-    get_or s.words i 0 in dite (ℕ_discrete x old)
-    (λ e. let t = hit s r at e in (
-      t.0,
-      t.1,
-      t.2,
-      exchanged x old new
-          (λ y. Ruled key (stepped s i y id me.1 t.0 t.1)) (λ _. t.3) (λ ne. absurd (ne e)),
-      subst (λ y. then y (t.0, carried_after me.1 t.1)) (sym e) t.4,
-    ))
-    (λ ne. (
-      knowing me.0 lost,
-      keeps,
-      tt,
-      exchanged x old new (λ y. Ruled key (stepped s i y id me.1 (knowing me.0 lost) keeps)) (λ e. absurd (ne e))
-          (λ _. looks key s r id me at seated i lost same has (keeps' r.core (r.seats id me.0 at seated).part.knows)),
-      miss s r at ne,
-    ))
+-- a compare-exchange: the word that it is made on, what it expects there, and what it writes
+pub record Shot : Type 0 where
+  pub word : ℕ
+  pub old : ℕ
+  pub new : ℕ
 
--- ... of which only the word is told that was found
-pub cas : (key : Start) (slots id : ℕ) (me : Sat) (i old new : ℕ) (lost : View) (then : ℕ → Sat → Type 0)
-    → me.0.seated ≡ true → lost.who ≡ me.0.part.core.who → ((n : ℕ) → owns lost n ≡ owns me.0.part.core n)
-    → ((c : State) → Knows c me.0.part.core → Knows c lost)
-    → ((s : St) (r : Ruled key s) → get_elem? s.views id ≡ some me.0 → get_or s.words i 0 ≡ old → (w : Sight)
-    × (a : Act Cell) × Valid s.homes me.1 a × Ruled key (stepped s i new id me.1 w a)
-    × then old (w, carried_after me.1 a))
-    → ((x : ℕ) → x ≢ old → then x (knowing me.0 lost, me.1))
-    → Allows (Ruled key) slots id me i (λ x. either (eqb x old) new x) then
-cas key slots id me i old new lost then seated same has keeps' hit miss =
-    cas_told key slots id me i old new lost then seated same has keeps' hit (λ s r at ne. miss (get_or s.words i 0) ne)
+-- ... on the owner word of lock n
+abbrev pub on_owner : Start → ℕ → ℕ → ℕ → Shot
+on_owner key n old new = record { word = lock_at key.locks n; old = old; new = new }
 
--- the words of the locks lie as the view has it, and those of the seats behind them
-pub room_is : (key : Start) (s : St) (r : Ruled key s) (id : ℕ) (me : Sat) → get_elem? s.views id ≡ some me.0
-    → me.0.seated ≡ true → (me.0.part.core.room ≡ key.locks) × (me.0.part.core.seats ≡ key.places)
-room_is key s r id me at seated = let k = (mine key s r id me at seated).part.knows in
-    (k.itself.room ∙ r.locks, k.itself.seats ∙ r.places)
+abbrev pub as_step : ℕ → Shot → Step Cell
+as_step slots t = step slots t.word t.old t.new none
 
-pub at_room : (key : Start) (s : St) (r : Ruled key s) (id : ℕ) (me : Sat) → get_elem? s.views id ≡ some me.0
-    → me.0.seated ≡ true → (n : ℕ) → lock_at me.0.part.core.room n ≡ lock_at key.locks n
-at_room key s r id me at seated n = ap (λ (l : ℕ). lock_at l n) (room_is key s r id me at seated).0
+-- the rule allows it to seat `id`, which is this one, at a table of so many slots; and then it is told this
+abbrev pub Exchanges : Start → ℕ → ℕ → Sat → Shot → (Step Cell → Sat → ℕ → Sat → Type 0) → Type 0
+Exchanges key slots id me t then = Allows (Ruled key) slots id me t.word (λ x. either (eqb x t.old) t.new x) (then (as_step slots t) me)
 
-pub same_lock : (key : Start) (s : St) (r : Ruled key s) (id : ℕ) (me : Sat) → get_elem? s.views id ≡ some me.0
-    → me.0.seated ≡ true → (m n : ℕ) → lock_at key.locks m ≡ lock_at me.0.part.core.room n → m ≡ n
-same_lock key s r id me at seated m n is = lock_same key.locks m n (is ∙ at_room key s r id me at seated n)
+-- ... and so to a seat that equals it, by numbers that equal those
+pub same_shot : (key : Start) (slots id : ℕ) (then : Step Cell → Sat → ℕ → Sat → Type 0) {m me : Sat} {i j old was new is : ℕ}
+    → me ≡ m → i ≡ j → old ≡ was → new ≡ is → Exchanges key slots id m (record { word = j; old = was; new = is }) then
+    → Exchanges key slots id me (record { word = i; old = old; new = new }) then
+same_shot key slots id then same at before after = subst (λ (x : Sat × Shot). Exchanges key slots id x.0 x.1 then)
+    (λ k. (sym same k, record { word = sym at k; old = sym before k; new = sym after k }))
 
-takes_there : (key : Start) (slots id : ℕ) (me : Sat) (n new : ℕ) → n < length (first_graph key)
-    → me.0.seated ≡ true → MayFast me.0.part.core → new ≡ packed (taker me.0.part.core)
-    → Allows (Ruled key) slots id me (lock_at key.locks n) (λ x. either (eqb x 0) new x) (takes_to (step slots (lock_at key.locks n) 0 new none) me)
-takes_there key slots id me n new small seated may is =
-    cas key slots id me (lock_at key.locks n) 0 new (fast_missed me.0.part.core)
-    (takes_to (step slots (lock_at key.locks n) 0 new none) me) seated refl (λ m. refl)
-    (λ c k. mine_missed c me.0.part.core k)
-    (λ s r at hit. let x : Node = node_at (last_graph (first_graph key) r.log) n in
-    let m = fast_makes key s r id me at seated n small may hit in (
-      taking me.0 n x,
-      takes n (Content x),
-      r.homes.nodes n (let z = r.counted.size in omega arith) (λ t own. let z = sym m.can.base.idle.free ∙ own in absurd cc),
-      subst (λ (y : ℕ). Ruled key (stepped s (lock_at key.locks n) y id me.1 (taking me.0 n x) (takes n (Content x)))) (sym is) m.ruled,
-      (λ j there. let e : n ≡ j = same_lock key s r id me at seated n j there in (
-        (λ _. (
-          x,
-          node_there key s r id me at seated n small,
-          ap
-              (λ (i : ℕ). let w : Sat = (taking me.0 i x, (i, Content x) ∷ me.1) in w) e,
+-- what comes of it where the word is the one expected
+abbrev pub Hits : Start → ℕ → ℕ → Sat → Shot → (Step Cell → Sat → ℕ → Sat → Type 0) → Type 0
+Hits key slots id me t then = (s : St) (r : Ruled key s) → get_elem? s.views id ≡ some me.0 → get_or s.words t.word 0 ≡ t.old → (w : Sight)
+    × (a : Act Cell) × Valid s.homes me.1 a × Ruled key (stepped s t.word t.new id me.1 w a)
+    × then (as_step slots t) me t.old (w, carried_after me.1 a)
+
+-- where it is another: a view of the same seat, with the same locks, that knows whatever state this one knew
+pub record Vain (v : View) : Type 0 where
+  pub view : View
+  pub same : view.who ≡ v.who
+  pub has : (n : ℕ) → owns view n ≡ owns v n
+  pub knows : (c : State) → Knows c v → Knows c view
+
+module _ (key : Start) (slots id : ℕ) (me : Sat) (seated : me.0.seated ≡ true) where
+  abbrev view : View
+  view = me.0.part.core
+
+  -- by its two cases; where it is lost only what the view knows changes
+  pub cas : (t : Shot) (then : Step Cell → Sat → ℕ → Sat → Type 0) (vain : Vain view) → Hits key slots id me t then
+      → ((s : St) (r : Ruled key s) → get_elem? s.views id ≡ some me.0 → get_or s.words t.word 0 ≢ t.old
+      → then (as_step slots t) me (get_or s.words t.word 0) (knowing me.0 vain.view, me.1)) → Exchanges key slots id me t then
+  cas t then vain hit miss s r deep at small = let x : ℕ = get_or s.words t.word 0 in dite (ℕ_discrete x t.old)
+      (λ e. let h = hit s r at e in (
+        h.0,
+        h.1,
+        h.2,
+        exchanged x t.old t.new (λ y. Ruled key (stepped s t.word y id me.1 h.0 h.1)) (λ _. h.3) (λ ne. absurd (ne e)),
+        subst (λ y. then (as_step slots t) me y (h.0, carried_after me.1 h.1)) (sym e) h.4,
+      ))
+      (λ ne. (
+        knowing me.0 vain.view,
+        keeps,
+        tt,
+        exchanged x t.old t.new (λ y. Ruled key (stepped s t.word y id me.1 (knowing me.0 vain.view) keeps)) (λ e. absurd (ne e))
+            (λ _. looks key s r id me at seated t.word vain.view vain.same vain.has (vain.knows r.core (mine key s r id me at seated).part.knows)),
+        miss s r at ne,
+      ))
+
+  abbrev missed : Vain view
+  missed = record { view = fast_missed view; same = refl; has = λ m. refl; knows = λ c k. mine_missed c view k }
+
+  abbrev kept : Vain view
+  kept = record { view = fast_kept view; same = refl; has = λ m. refl; knows = λ c k. mine_kept c view k }
+
+  abbrev still : Vain view
+  still = record { view = view; same = refl; has = λ m. refl; knows = λ c k. k }
+
+  pub takes_free : (n : ℕ) → n < length (first_graph key) → MayFast view
+      → Exchanges key slots id me (on_owner key n 0 (packed (taker view))) takes_to
+  takes_free n small may = cas (on_owner key n 0 (packed (taker view))) takes_to missed
+      (λ s r at hit. let x : Node = node_at (last_graph (first_graph key) r.log) n in
+      let m = fast_makes key s r id me at seated n small may hit in (
+        taking me.0 n x,
+        takes n (Content x),
+        r.homes.nodes n (let z = r.counted.size in omega arith) (λ t own. let z = sym m.can.base.idle.free ∙ own in absurd cc),
+        m.ruled,
+        (λ j there. let e : n ≡ j = same_lock key s r id me at seated n j there in (
+          (λ _. (
+            x,
+            node_there key s r id me at seated n small,
+            ap (λ (i : ℕ). let w : Sat = (taking me.0 i x, (i, Content x) ∷ me.1) in w) e,
+          )),
+          λ no. absurd (no refl),
         )),
-        λ no. absurd (no refl),
-      )),
-    ))
-    (λ x ne j there. ((λ z. absurd (ne z)), λ _. refl))
+      ))
+      (λ s r at ne j there. ((λ z. absurd (ne z)), λ _. refl))
 
-pub takes_free : (key : Start) (slots id : ℕ) (me : Sat) (n i new : ℕ) → i ≡ lock_at key.locks n
-    → n < length (first_graph key) → me.0.seated ≡ true → MayFast me.0.part.core
-    → new ≡ packed (taker me.0.part.core)
-    → Allows (Ruled key) slots id me i (λ x. either (eqb x 0) new x) (takes_to (step slots i 0 new none) me)
-takes_free key slots id me n i new at small seated may is =
-    subst (λ (j : ℕ). Allows (Ruled key) slots id me j (λ x. either (eqb x 0) new x)
-    (takes_to (step slots j 0 new none) me)) (sym at) (takes_there key slots id me n new small seated may is)
+  pub gives_free : (n : ℕ) (x : Node) → n < length (first_graph key) → IsAway view → owns view n ≡ true
+      → get_elem? me.0.held n ≡ some (Some x) → me.1 ≡ (n, Content x) ∷ rest me.1
+      → Exchanges key slots id me (on_owner key n (packed (taker view)) 0) gives_to
+  gives_free n x small away own has top = cas (on_owner key n (packed (taker view)) 0) gives_to kept
+      (λ s r at hit. (
+        giving me.0 n,
+        gives,
+        tt,
+        (fast_give_makes key s r id me at seated n x small away own has (taker_valid key s r id me at seated) hit top).ruled,
+        (λ j there. let e : n ≡ j = same_lock key s r id me at seated n j there in
+            ((λ _. ap (λ (i : ℕ). let w : Sat = (giving me.0 i, rest me.1) in w) e), λ no. absurd (no refl))),
+      ))
+      (λ s r at ne j there. ((λ z. absurd (ne z)), λ _. refl))
 
-gives_there : (key : Start) (slots id : ℕ) (me : Sat) (n old : ℕ) (x : Node) → n < length (first_graph key)
-    → me.0.seated ≡ true → IsAway me.0.part.core → owns me.0.part.core n ≡ true
-    → get_elem? me.0.held n ≡ some (Some x)
-    → IsValid (taker me.0.part.core) → me.1 ≡ (n, Content x) ∷ rest me.1 → old ≡ packed (taker me.0.part.core)
-    → Allows (Ruled key) slots id me (lock_at key.locks n) (λ y. either (eqb y old) 0 y) (gives_to (step slots (lock_at key.locks n) old 0 none) me)
-gives_there key slots id me n old x small seated away own has valid top is =
-    cas key slots id me (lock_at key.locks n) old 0 (fast_kept me.0.part.core)
-    (gives_to (step slots (lock_at key.locks n) old 0 none) me) seated refl (λ m. refl)
-    (λ c k. mine_kept c me.0.part.core k)
-    (λ s r at hit. (
-      giving me.0 n,
-      gives,
-      tt,
-      (fast_give_makes key s r id me at seated n x small away own has valid (hit ∙ is) top).ruled,
-      (λ j there. let e : n ≡ j = same_lock key s r id me at seated n j there in
-          ((λ _. ap (λ (i : ℕ). let w : Sat = (giving me.0 i, rest me.1) in w) e), λ no. absurd (no refl))),
-    ))
-    (λ y ne j there. ((λ z. absurd (ne z)), λ _. refl))
+  -- of a seat that is away the owner word tells whether it owns the lock
+  word_tells : (n : ℕ) → n < key.locks → IsAway view → (s : St) (r : Ruled key s) → get_elem? s.views id ≡ some me.0
+      → (j : ℕ) → n ≡ j → IsToldBy view j (get_or s.words (lock_at key.locks n) 0)
+  word_tells n low away s r at j e = subst (λ (m : ℕ). IsToldBy view m (get_or s.words (lock_at key.locks n) 0)) e
+      (told key s r id me at seated n low away)
 
-pub gives_free : (key : Start) (slots id : ℕ) (me : Sat) (n i old : ℕ) (x : Node) → i ≡ lock_at key.locks n
-    → n < length (first_graph key) → me.0.seated ≡ true → IsAway me.0.part.core → owns me.0.part.core n ≡ true
-    → get_elem? me.0.held n ≡ some (Some x)
-    → IsValid (taker me.0.part.core) → me.1 ≡ (n, Content x) ∷ rest me.1 → old ≡ packed (taker me.0.part.core)
-    → Allows (Ruled key) slots id me i (λ y. either (eqb y old) 0 y) (gives_to (step slots i old 0 none) me)
-gives_free key slots id me n i old x at small seated away own has valid top is =
-    subst (λ (j : ℕ). Allows (Ruled key) slots id me j (λ y. either (eqb y old) 0 y)
-    (gives_to (step slots j old 0 none) me)) (sym at)
-    (gives_there key slots id me n old x small seated away own has valid top is)
+  pub takes_bare : (n : ℕ) → length (first_graph key) ≤ n → n < key.locks → MayFast view
+      → Exchanges key slots id me (on_owner key n 0 (packed (taker view))) takes_bare_to
+  takes_bare n big low may = let t : Shot = on_owner key n 0 (packed (taker view)) in
+      let won : Hits key slots id me t takes_bare_to =
+      λ s r at hit. (
+        knowing me.0 (fast_taken view n),
+        keeps,
+        tt,
+        (bare_makes key s r id me at seated n big low may hit).ruled,
+        (λ j there. let e : n ≡ j = same_lock key s r id me at seated n j there in (
+          subst (IsToldBy view j) hit (word_tells n low may.away s r at j e),
+          (λ _. ap (λ (i : ℕ). let w : Sat = (knowing me.0 (fast_taken view i), me.1) in w) e),
+          (λ no. absurd (no refl)),
+          (λ no. absurd (no refl)),
+        )),
+      ) in elim (true_or_false (owns view n)) [
+        | inl own ↦ cas t takes_bare_to still won (λ s r at ne j there. let e : n ≡ j = same_lock key s r id me at seated n j there in (
+          word_tells n low may.away s r at j e,
+          (λ z. absurd (ne z)),
+          (λ _ _. refl),
+          (λ _ no. absurd (true≢false (sym own ∙ ap (owns view) e ∙ no))),
+        ))
+        | inr lacks ↦ cas t takes_bare_to missed won (λ s r at ne j there. let e : n ≡ j = same_lock key s r id me at seated n j there in (
+          word_tells n low may.away s r at j e,
+          (λ z. absurd (ne z)),
+          (λ _ own. absurd (true≢false (sym own ∙ sym (ap (owns view) e) ∙ lacks))),
+          (λ _ _. refl),
+        ))
+      ]
 
-bares_there : (key : Start) (slots id : ℕ) (me : Sat) (n new : ℕ) → length (first_graph key) ≤ n → n < key.locks
-    → me.0.seated ≡ true → MayFast me.0.part.core → new ≡ packed (taker me.0.part.core)
-    → Allows (Ruled key) slots id me (lock_at key.locks n) (λ x. either (eqb x 0) new x) (takes_bare_to (step slots (lock_at key.locks n) 0 new none) me)
-bares_there key slots id me n new big low seated may is =
-    let v : View = me.0.part.core in
-    let then : ℕ → Sat → Type 0 = takes_bare_to (step slots (lock_at key.locks n) 0 new none) me in
-    let tells : (s : St) (r : Ruled key s) → get_elem? s.views id ≡ some me.0 → (j : ℕ) → n ≡ j → IsToldBy v j (get_or s.words (lock_at key.locks n) 0) =
-    λ s r at j e. subst (λ (m : ℕ). IsToldBy v m (get_or s.words (lock_at key.locks n) 0)) e (told key s r id me at seated n low may.away) in
-    let won : (s : St) (r : Ruled key s) → get_elem? s.views id ≡ some me.0 → get_or s.words (lock_at key.locks n) 0 ≡ 0 → (w : Sight)
-    × (a : Act Cell) × Valid s.homes me.1 a × Ruled key (stepped s (lock_at key.locks n) new id me.1 w a) × then 0 (w, carried_after me.1 a) =
-    λ s r at hit. (
-      knowing me.0 (fast_taken v n),
-      keeps,
-      tt,
-      subst (λ (y : ℕ). Ruled key (stepped s (lock_at key.locks n) y id me.1 (knowing me.0 (fast_taken v n)) keeps)) (sym is)
-          (bare_makes key s r id me at seated n big low may hit).ruled,
-      (λ j there. let e : n ≡ j = same_lock key s r id me at seated n j there in (
-        subst (IsToldBy v j) hit (tells s r at j e),
-        (λ _. ap (λ (i : ℕ). let w : Sat = (knowing me.0 (fast_taken v i), me.1) in w) e),
-        (λ no. absurd (no refl)),
-        (λ no. absurd (no refl)),
-      )),
-    ) in elim (true_or_false (owns v n)) [
-      | inl own ↦ cas_told key slots id me (lock_at key.locks n) 0 new v then seated refl (λ m. refl) (λ c k. k) won
-          (λ s r at ne j there. let e : n ≡ j = same_lock key s r id me at seated n j there in (
-            tells s r at j e,
-            (λ z. absurd (ne z)),
-            (λ _ _. refl),
-            (λ _ no. absurd (true≢false (sym own ∙ ap (owns v) e ∙ no))),
-          ))
-      | inr lacks ↦ cas_told key slots id me (lock_at key.locks n) 0 new (fast_missed v) then seated refl (λ m. refl)
-          (λ c k. mine_missed c v k) won
-          (λ s r at ne j there. let e : n ≡ j = same_lock key s r id me at seated n j there in (
-            tells s r at j e,
-            (λ z. absurd (ne z)),
-            (λ _ own. absurd (true≢false (sym own ∙ sym (ap (owns v) e) ∙ lacks))),
-            (λ _ _. refl),
-          ))
-    ]
+  pub gives_bare : (n : ℕ) → length (first_graph key) ≤ n → n < key.locks → IsAway view
+      → Exchanges key slots id me (on_owner key n (packed (taker view)) 0) gives_bare_to
+  gives_bare n big low away = let t : Shot = on_owner key n (packed (taker view)) 0 in
+      let won : Hits key slots id me t gives_bare_to =
+      λ s r at hit. (
+        knowing me.0 (fast_given view n),
+        keeps,
+        tt,
+        (bare_give_makes key s r id me at seated n big low away
+            (told key s r id me at seated n low away ∙ ap (λ (y : ℕ). unflagged y == unflagged (packed (taker view))) hit
+            ∙ number_same (unflagged (packed (taker view))) (unflagged (packed (taker view))) refl) (taker_valid key s r id me at seated) hit).ruled,
+        (λ j there. let e : n ≡ j = same_lock key s r id me at seated n j there in (
+          subst (IsToldBy view j) hit (word_tells n low away s r at j e),
+          (λ _. ap (λ (i : ℕ). let w : Sat = (knowing me.0 (fast_given view i), me.1) in w) e),
+          (λ no. absurd (no refl)),
+          (λ no. absurd (no refl)),
+        )),
+      ) in elim (true_or_false (owns view n)) [
+        | inl own ↦ cas t gives_bare_to kept won (λ s r at ne j there. let e : n ≡ j = same_lock key s r id me at seated n j there in (
+          word_tells n low away s r at j e,
+          (λ z. absurd (ne z)),
+          (λ _ _. refl),
+          (λ _ no. absurd (true≢false (sym own ∙ ap (owns view) e ∙ no))),
+        ))
+        | inr lacks ↦ cas t gives_bare_to still won (λ s r at ne j there. let e : n ≡ j = same_lock key s r id me at seated n j there in (
+          word_tells n low away s r at j e,
+          (λ z. absurd (ne z)),
+          (λ _ own. absurd (true≢false (sym own ∙ sym (ap (owns view) e) ∙ lacks))),
+          (λ _ _. refl),
+        ))
+      ]
 
-pub takes_bare : (key : Start) (slots id : ℕ) (me : Sat) (n i new : ℕ) → i ≡ lock_at key.locks n
-    → length (first_graph key) ≤ n → n < key.locks → me.0.seated ≡ true → MayFast me.0.part.core
-    → new ≡ packed (taker me.0.part.core)
-    → Allows (Ruled key) slots id me i (λ x. either (eqb x 0) new x) (takes_bare_to (step slots i 0 new none) me)
-takes_bare key slots id me n i new at big low seated may is =
-    subst (λ (j : ℕ). Allows (Ruled key) slots id me j (λ x. either (eqb x 0) new x)
-    (takes_bare_to (step slots j 0 new none) me)) (sym at) (bares_there key slots id me n new big low seated may is)
+  -- a look from outside whether the seat owns a lock
+  pub owns_outside : (n i : ℕ) → i ≡ lock_at key.locks n → n < key.locks → IsAway view
+      → Allows (Ruled key) slots id me i (λ x. x) (owns_to (step slots i 0 0 none) me)
+  owns_outside n i is low away s r deep at small = (
+    me.0,
+    keeps,
+    tt,
+    looks key s r id me at seated i view refl (λ m. refl) (mine key s r id me at seated).part.knows,
+    (
+      refl,
+      (λ j there. subst (λ (k : ℕ). IsToldBy view j (get_or s.words k 0)) (sym is)
+          (word_tells n low away s r at j (same_lock key s r id me at seated n j (sym is ∙ there)))),
+    ),
+  )
 
-gives_bare_there : (key : Start) (slots id : ℕ) (me : Sat) (n old : ℕ) → length (first_graph key) ≤ n
-    → n < key.locks → me.0.seated ≡ true → IsAway me.0.part.core
-    → IsValid (taker me.0.part.core) → old ≡ packed (taker me.0.part.core)
-    → Allows (Ruled key) slots id me (lock_at key.locks n) (λ y. either (eqb y old) 0 y) (gives_bare_to (step slots (lock_at key.locks n) old 0 none) me)
-gives_bare_there key slots id me n old big low seated away valid is =
-    let v : View = me.0.part.core in
-    let then : ℕ → Sat → Type 0 = gives_bare_to (step slots (lock_at key.locks n) old 0 none) me in
-    let tells : (s : St) (r : Ruled key s) → get_elem? s.views id ≡ some me.0 → (j : ℕ) → n ≡ j → IsToldBy v j (get_or s.words (lock_at key.locks n) 0) =
-    λ s r at j e. subst (λ (m : ℕ). IsToldBy v m (get_or s.words (lock_at key.locks n) 0)) e (told key s r id me at seated n low away) in
-    let won : (s : St) (r : Ruled key s) → get_elem? s.views id ≡ some me.0 → get_or s.words (lock_at key.locks n) 0 ≡ old → (w : Sight)
-    × (a : Act Cell) × Valid s.homes me.1 a × Ruled key (stepped s (lock_at key.locks n) 0 id me.1 w a) × then old (w, carried_after me.1 a) =
-    λ s r at hit. (
-      knowing me.0 (fast_given v n),
-      keeps,
-      tt,
-      (bare_give_makes key s r id me at seated n big low away
-          (told key s r id me at seated n low away ∙ ap (λ (y : ℕ). unflagged y == unflagged (packed (taker v))) (hit ∙ is)
-          ∙ number_same (unflagged (packed (taker v))) (unflagged (packed (taker v))) refl) valid (hit ∙ is)).ruled,
-      (λ j there. let e : n ≡ j = same_lock key s r id me at seated n j there in (
-        subst (IsToldBy v j) hit (tells s r at j e),
-        (λ _. ap (λ (i : ℕ). let w : Sat = (knowing me.0 (fast_given v i), me.1) in w) e),
-        (λ no. absurd (no refl)),
-        (λ no. absurd (no refl)),
-      )),
-    ) in elim (true_or_false (owns v n)) [
-      | inl own ↦ cas_told key slots id me (lock_at key.locks n) old 0 (fast_kept v) then seated refl (λ m. refl)
-          (λ c k. mine_kept c v k) won
-          (λ s r at ne j there. let e : n ≡ j = same_lock key s r id me at seated n j there in (
-            tells s r at j e,
-            (λ z. absurd (ne z)),
-            (λ _ _. refl),
-            (λ _ no. absurd (true≢false (sym own ∙ ap (owns v) e ∙ no))),
-          ))
-      | inr lacks ↦ cas_told key slots id me (lock_at key.locks n) old 0 v then seated refl (λ m. refl) (λ c k. k) won
-          (λ s r at ne j there. let e : n ≡ j = same_lock key s r id me at seated n j there in (
-            tells s r at j e,
-            (λ z. absurd (ne z)),
-            (λ _ own. absurd (true≢false (sym own ∙ sym (ap (owns v) e) ∙ lacks))),
-            (λ _ _. refl),
-          ))
-    ]
+  pub ends : (i : ℕ) → i ≡ sign_at view.room view.who → MayEnd view
+      → Allows (Ruled key) slots id me i (λ x. x) (ends_to (step slots i 0 0 none) me)
+  ends i there may s r deep at small = let c : State = r.core in let v : View = view in
+      let k = (mine key s r id me at seated).part.knows in let x : ℕ = get_or s.words i 0 in
+      let is : i ≡ lock_at key.locks key.locks + 8 * v.who =
+      (let a = ap (λ (l : ℕ). lock_at l l) (room_is key s r id me at seated).0 in omega arith) in
+      let tells : x ≡ c.sign v.who = ap (λ (j : ℕ). get_or s.words j 0) is
+      ∙ r.words.signs v.who (let z = k.itself.seat in let y = r.places in omega arith) in
+      let known : (j : ℕ) → v.sign ≡ Some j → x ≡ j = λ j told. tells ∙ k.sign j told in dite (ℕ_discrete x 0)
+      (λ e. (
+        knowing me.0 (ended v),
+        keeps,
+        tt,
+        subst (λ (j : ℕ). Ruled key (stepped s j (get_or s.words j 0) id me.1 (knowing me.0 (ended v)) keeps))
+            (sym is) (end_makes key s r id me at seated may (ap (λ (j : ℕ). get_or s.words j 0) (sym is) ∙ e)).ruled,
+        λ _. ((λ _. refl), (λ no. absurd (no e)), known),
+      ))
+      (λ ne. (
+        knowing me.0 (has_read v x),
+        keeps,
+        tt,
+        looks key s r id me at seated i (has_read v x) refl (λ n. refl) (mine_read c v k x (sym tells) (λ z. absurd (ne z))),
+        λ _. ((λ z. absurd (ne z)), (λ _. refl), known),
+      ))
 
-pub gives_bare : (key : Start) (slots id : ℕ) (me : Sat) (n i old : ℕ) → i ≡ lock_at key.locks n
-    → length (first_graph key) ≤ n → n < key.locks → me.0.seated ≡ true → IsAway me.0.part.core
-    → IsValid (taker me.0.part.core) → old ≡ packed (taker me.0.part.core)
-    → Allows (Ruled key) slots id me i (λ y. either (eqb y old) 0 y) (gives_bare_to (step slots i old 0 none) me)
-gives_bare key slots id me n i old at big low seated away valid is =
-    subst (λ (j : ℕ). Allows (Ruled key) slots id me j (λ y. either (eqb y old) 0 y)
-    (gives_bare_to (step slots j old 0 none) me)) (sym at)
-    (gives_bare_there key slots id me n old big low seated away valid is)
-
--- a look from outside whether the seat owns a lock
-pub owns_outside : (key : Start) (slots id : ℕ) (me : Sat) (n i : ℕ) → i ≡ lock_at key.locks n → n < key.locks
-    → me.0.seated ≡ true → IsAway me.0.part.core
-    → Allows (Ruled key) slots id me i (λ x. x) (owns_to (step slots i 0 0 none) me)
-owns_outside key slots id me n i is low seated away s r deep at small = let v : View = me.0.part.core in (
-  me.0,
-  keeps,
-  tt,
-  looks key s r id me at seated i v refl (λ m. refl) (r.seats id me.0 at seated).part.knows,
-  (
-    refl,
-    (λ j there. let e : n ≡ j = same_lock key s r id me at seated n j (sym is ∙ there) in
-        subst (λ (m : ℕ). IsToldBy v m (get_or s.words i 0)) e
-        (subst (λ (k : ℕ). IsToldBy v n (get_or s.words k 0)) (sym is) (told key s r id me at seated n low away))),
-  ),
-)
-
--- ... of a slot that was brought to the front, by the number and stamp that the seat keeps
-pub gives_brought : (key : Start) (slots id : ℕ) (v : Sight) (me : Sat) (n i old who stamp : ℕ) (x : Node)
-    (others : List (ℕ × Cell)) → me.0 ≡ v → me.1 ≡ (n, Content x) ∷ others → i ≡ lock_at key.locks n
-    → n < length (first_graph key) → v.seated ≡ true
-    → IsAway v.part.core → owns v.part.core n ≡ true → get_elem? v.held n ≡ some (Some x) → v.part.core.who ≡ who
-    → v.part.core.stamp ≡ stamp → Fits who stamp
-    → old ≡ packed (record { seat = Some who; stamp = stamp; flags = 0 })
-    → Allows (Ruled key) slots id me i (λ y. either (eqb y old) 0 y) (gives_to (step slots i old 0 none) me)
-gives_brought key slots id v me n i old who stamp x others view top at small seated away own has is_who is_stamp fits is =
-    let same : taker me.0.part.core ≡ record { seat = Some who; stamp = stamp; flags = 0 } =
-    (λ j. record {
-      seat = Some ((ap (λ (w : Sight). w.part.core.who) view ∙ is_who) j);
-      stamp = (ap (λ (w : Sight). w.part.core.stamp) view ∙ is_stamp) j;
-      flags = 0;
-    }) in
-    let valid : IsValid (record { seat = Some who; stamp = stamp; flags = 0 }) = record { seating = fits; flags = inl refl } in
-    gives_free key slots id me n i old x at small (ap (λ (w : Sight). w.seated) view ∙ seated)
-    (subst (λ (w : Sight). IsAway w.part.core) (sym view) away)
-    (ap (λ (w : Sight). owns w.part.core n) view ∙ own)
-    (ap (λ (w : Sight). get_elem? w.held n) view ∙ has) (subst IsValid (sym same) valid)
-    (top ∙ ap (λ (l : List (ℕ × Cell)). (n, Content x) ∷ rest l) (sym top)) (is ∙ ap packed (sym same))
-
-pub ends : (key : Start) (slots id : ℕ) (me : Sat) (i : ℕ) → i ≡ lock_at me.0.part.core.room me.0.part.core.room + 8 * me.0.part.core.who → me.0.seated ≡ true
-    → MayEnd me.0.part.core → Allows (Ruled key) slots id me i (λ x. x) (ends_to (step slots i 0 0 none) me)
-ends key slots id me i there seated may s r deep at small = let c : State = r.core in let v : View = me.0.part.core in
-    let k = (r.seats id me.0 at seated).part.knows in
-    let is : i ≡ lock_at key.locks key.locks + 8 * v.who = (let a = ap (λ (l : ℕ). lock_at l l) (k.itself.room ∙ r.locks) in omega arith) in let x : ℕ = get_or s.words i 0 in
-    let tells : x ≡ c.sign v.who = ap (λ (j : ℕ). get_or s.words j 0) is
-    ∙ r.words.signs v.who (let z = k.itself.seat in let y = r.places in omega arith) in
-    let known : (j : ℕ) → v.sign ≡ Some j → x ≡ j = λ j told. tells ∙ k.sign j told in dite (ℕ_discrete x 0)
-    (λ e. (
-      knowing me.0 (ended v),
-      keeps,
-      tt,
-      subst (λ (j : ℕ). Ruled key (stepped s j (get_or s.words j 0) id me.1 (knowing me.0 (ended v)) keeps))
-          (sym is) (end_makes key s r id me at seated may (ap (λ (j : ℕ). get_or s.words j 0) (sym is) ∙ e)).ruled,
-      λ _. ((λ _. refl), (λ no. absurd (no e)), known),
-    ))
-    (λ ne. (
-      knowing me.0 (has_read v x),
-      keeps,
-      tt,
-      looks key s r id me at seated i (has_read v x) refl (λ n. refl) (mine_read c v k x (sym tells) (λ z. absurd (ne z))),
-      λ _. ((λ z. absurd (ne z)), (λ _. refl), known),
-    ))
-
-pub draws_one : (key : Start) (slots id : ℕ) (me : Sat) → me.0.seated ≡ true → MayDraw me.0.part
-    → Allows (Ruled key) slots id me 0 (λ z. (z + 1) % 2 ^ 64) (draws_to (step slots 0 1 0 none) me)
-draws_one key slots id me seated may s r deep at small = let x : ℕ = get_or s.words 0 0 in
-    let word = r.words.drawn in let most = all_room key s r in let up : (x + 1) % 2 ^ 64 ≡ x + 1 = omega arith in
-    let k = (r.seats id me.0 at seated).part.knows in
-    let same : me.0.part.core.seats ≡ key.places = k.itself.seats ∙ r.places in
-    let limit : most_for me.0.part.core.seats ≡ most_for key.places = ap most_for same in
-    let sixteen : me.0.part.core.seats ≡ 16 → x < most_for me.0.part.core.seats =
-    (λ is. let z = few_room key s r (sym same ∙ is) in omega arith) in
-    dite (dec_le (most_for key.places) x)
-    (λ spent. (
-      drawing_none me.0,
-      keeps,
-      tt,
-      subst (λ (y : ℕ). Ruled key (stepped s 0 y id me.1 (drawing_none me.0) keeps)) (sym up)
-          (draw_stays key s r id me at seated may spent).ruled,
-      λ _. ((omega arith), (λ room. absurd (omega arith)), (λ _. refl), sixteen),
-    ))
-    (λ left. (
-      drawing me.0 (x + 1),
-      keeps,
-      tt,
-      subst (λ (y : ℕ). Ruled key (stepped s 0 y id me.1 (drawing me.0 (x + 1)) keeps)) (sym up)
-          (draw_makes key s r id me at seated may (omega arith)).ruled,
-      λ _. ((omega arith), (λ _. refl), (λ spent. absurd (omega arith)), sixteen),
-    ))
+  pub draws_one : MayDraw me.0.part → Allows (Ruled key) slots id me 0 (λ z. (z + 1) % 2 ^ 64) (draws_to (step slots 0 1 0 none) me)
+  draws_one may s r deep at small = let x : ℕ = get_or s.words 0 0 in
+      let word = r.words.drawn in let most = all_room key s r in let up : (x + 1) % 2 ^ 64 ≡ x + 1 = omega arith in
+      let same : view.seats ≡ key.places = (room_is key s r id me at seated).1 in
+      let limit : most_for view.seats ≡ most_for key.places = ap most_for same in
+      let sixteen : view.seats ≡ 16 → x < most_for view.seats =
+      (λ is. let z = few_room key s r (sym same ∙ is) in omega arith) in
+      dite (dec_le (most_for key.places) x)
+      (λ spent. (
+        drawing_none me.0,
+        keeps,
+        tt,
+        subst (λ (y : ℕ). Ruled key (stepped s 0 y id me.1 (drawing_none me.0) keeps)) (sym up)
+            (draw_stays key s r id me at seated may spent).ruled,
+        λ _. ((omega arith), (λ room. absurd (omega arith)), (λ _. refl), sixteen),
+      ))
+      (λ left. (
+        drawing me.0 (x + 1),
+        keeps,
+        tt,
+        subst (λ (y : ℕ). Ruled key (stepped s 0 y id me.1 (drawing me.0 (x + 1)) keeps)) (sym up)
+            (draw_makes key s r id me at seated may (omega arith)).ruled,
+        λ _. ((omega arith), (λ _. refl), (λ spent. absurd (omega arith)), sixteen),
+      ))

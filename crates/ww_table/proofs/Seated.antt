@@ -121,12 +121,6 @@ IsTold wins n o m found m' = (found ≡ packed o → wins n o m m') × (found �
 pub own_taker : (table : TableId) (s : Stepper) → IsSeated table s → s.own ≡ packed (taker s.seat.me.0.part.core)
 own_taker table s is = is.own ∙ (λ i. packed (record { seat = Some (sym is.who i); stamp = sym is.stamp i; flags = 0 }))
 
-pub taker_valid : (table : TableId) (s : Stepper) → IsSeated table s → IsValid (taker s.seat.me.0.part.core)
-taker_valid table s is = record {
-  seating = subst (λ (x : ℕ × ℕ). Fits x.0 x.1) (λ i. (sym is.who i, sym is.stamp i)) is.fits;
-  flags = inl refl;
-}
-
 -- ---- where the words lie
 
 -- those of a lock, by the number of locks that the board keeps: it is that of the rule, and that of the view

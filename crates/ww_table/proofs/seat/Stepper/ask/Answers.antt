@@ -1,8 +1,9 @@
 use Rattle.std.proofs.Common.{◌==◌, ap, sym, refl, ◌∙◌, eq-eqb, inl}
 use Rattle.ww_word.specs.AnySeats.{packed}
 use Rattle.ww_invariant.specs.Guards.{lost}
-use Rattle.ww_invariant.specs.Waiting.{asking}
+use Rattle.ww_invariant.specs.Waiting.{tries_to, asks, asking}
 use Rattle.ww_invariant.proofs.InsideSteps.{asks_lock}
+use Rattle.ww_invariant.proofs.Moves.{same_shot}
 use Rattle.ww_table.specs.Steps.{IsEither}
 use Rattle.ww_table.proofs.Seated.{has_lock, either, by_rule, by_view}
 use Rattle.ww_table.proofs.seat.Stepper.ask.Goals as goal
@@ -11,8 +12,8 @@ pub compare_exchange-requires : goal.compare_exchange-requires
 compare_exchange-requires c = let may = c.requires.may in (
   c.requires.at.home,
   has_lock c.args.board.now c.args.lock _ may.lock c.owner_word.ensures,
-  asks_lock _ _ _ _ c.args.lock c.args.seen _ _ _ (c.owner_word.ensures ∙ by_rule c.args.board.now c.args.lock) c.pack-old.ensures
-      (c.pack-new.ensures ∙ ap packed c.with_flags.ensures) c.requires.at.seated may.may may.valid,
+  same_shot _ _ _ (tries_to asks) refl (c.owner_word.ensures ∙ by_rule c.args.board.now c.args.lock) c.pack-old.ensures
+      (c.pack-new.ensures ∙ ap packed c.with_flags.ensures) (asks_lock _ _ _ _ c.requires.at.seated c.args.lock c.args.seen may.may may.valid),
 )
 
 pub returns : goal.returns

@@ -5,4 +5,4 @@ use Rattle.ww_table.proofs.seat.Stepper.begun.Goals as goal
 
 pub load-requires : goal.load-requires
 load-requires c = let s = c.requires.at in
-    (s.home, has_count c.args.board.now _ (omega arith), counts_outside _ _ _ _ _ s.seated)
+    (s.home, has_count c.args.board.now _ (omega arith), counts_outside _ _ _ _ s.seated _)

@@ -7,5 +7,5 @@ pub store-requires : goal.store-requires
 store-requires c = let s = c.requires.at in (
   s.home,
   has_sign c.args.board.now c.args.self.now c.args.self.now.who _ s s.few (let word = s.sign in omega arith),
-  clears _ _ _ _ _ (own_sign_by_view s) s.seated c.requires.may,
+  clears _ _ _ _ s.seated _ (own_sign_by_view s) c.requires.may,
 )

@@ -1,14 +1,15 @@
 use Rattle.std.proofs.Common.{ℕ, ◌==◌, ◌+◌, arith, ap, sym, refl, ◌∙◌, subst, ◌∷◌, inr}
 use Rattle.atomic_table.specs.Table.{rest}
-use Rattle.ww_word.specs.AnySeats.{IsValid}
+use Rattle.ww_word.specs.AnySeats.{IsValid, packed}
 use Rattle.ww_view.specs.Word.{given_word}
 use Rattle.ww_invariant.specs.declared.cells.Cell.TheVariants.{Content, Line}
 use Rattle.ww_invariant.specs.declared.cells.Sight.{Sight}
 use Rattle.ww_invariant.specs.Rule.{Sat}
 use Rattle.ww_invariant.specs.Out.{numbers_of, AreOthers}
-use Rattle.ww_invariant.specs.Waiting.{IsStillThere, giving_inside}
-use Rattle.ww_invariant.proofs.InsideSteps.{gives_with_list}
+use Rattle.ww_invariant.specs.Waiting.{IsStillThere, tries_to, gives_inside, giving_inside}
+use Rattle.ww_invariant.proofs.InsideSteps.{gives_lock}
 use Rattle.ww_invariant.proofs.InsideTurning.{given_valid}
+use Rattle.ww_invariant.proofs.Moves.{same_shot}
 use Rattle.ww_invariant.proofs.Turning.{popped}
 use Rattle.ww_table.specs.declared.seat.Stepper.{Stepper}
 use Rattle.ww_table.proofs.OnTop.{node_out, node_brought}
@@ -28,9 +29,10 @@ compare_exchange-requires c = let r = c.next_owner-owner.ensures in let b = c.br
     let n = node_brought _ _ c.args.lock out.0 r.read _ _ _ out.1 b.slots.2 b.slots.3 b.slots.4 in (
       b.home.0 ∙ r.seat.home,
       has_lock c.args.board.now c.args.lock _ (let fits = c.args.board.now.fits in let low = may.lock in omega arith) c.owner_word.ensures,
-      gives_with_list _ _ _ c.args.self.now.seat.me.0 _ c.args.lock c.args.seen c.next_owner-owner.result out.0
-          b.slots.1 _ _ _ (b.view ∙ ap (λ (m : Sat). m.0) r.read.now) n.1 (c.owner_word.ensures ∙ by_rule c.args.board.now c.args.lock) c.pack-old.ensures
-          c.pack-new.ensures (r.owner ∙ ap (λ (f : ℕ). given_word (f == 3) c.args.self.now.seat.me.0.part.core.list) c.flags.ensures) c.requires.at.seated may.may out.2 may.valid,
+      same_shot _ _ _ (tries_to gives_inside) (λ i. ((b.view ∙ ap (λ (m : Sat). m.0) r.read.now) i, n.1 i))
+          (c.owner_word.ensures ∙ by_rule c.args.board.now c.args.lock) c.pack-old.ensures
+          (c.pack-new.ensures ∙ ap packed (r.owner ∙ ap (λ (f : ℕ). given_word (f == 3) c.args.self.now.seat.me.0.part.core.list) c.flags.ensures))
+          (gives_lock _ _ _ _ c.requires.at.seated c.args.lock c.args.seen out.0 may.may out.2 may.valid refl),
     )
 
 pub returns : goal.returns

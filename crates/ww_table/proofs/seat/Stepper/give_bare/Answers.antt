@@ -2,9 +2,9 @@ use Rattle.std.proofs.Common.{refl, ◌∙◌, inl, inr, rules}
 use Rattle.ww_plain.proofs.Members.{true_or_false}
 use Rattle.ww_view.specs.View.{owns}
 use Rattle.ww_view.specs.Made.{fast_given}
-use Rattle.ww_invariant.specs.Steps.{knowing, keeping}
-use Rattle.ww_invariant.proofs.Moves.{gives_bare}
-use Rattle.ww_table.proofs.Seated.{has_lock, stepped, own_taker, taker_valid, by_rule, by_view, many_locks}
+use Rattle.ww_invariant.specs.Steps.{gives_bare_to, knowing, keeping}
+use Rattle.ww_invariant.proofs.Moves.{same_shot, gives_bare}
+use Rattle.ww_table.proofs.Seated.{has_lock, stepped, own_taker, by_rule, by_view, many_locks}
 use Rattle.ww_table.proofs.seat.Stepper.give_bare.Goals as goal
 
 pub compare_exchange-found-requires : goal.compare_exchange-found-requires
@@ -12,8 +12,8 @@ compare_exchange-found-requires c = let s = c.requires.at in let lock = c.requir
     let word = c.packed_word.ensures b.locks (many_locks b lock.packed) in (
       s.home,
       has_lock b c.args.lock _ lock.lock word,
-      gives_bare _ _ _ _ c.args.lock _ _ (word ∙ by_rule b c.args.lock) lock.bare lock.lock s.seated c.requires.may.1
-          (taker_valid _ c.args.self.now s) (own_taker _ c.args.self.now s),
+      same_shot _ _ _ gives_bare_to refl (word ∙ by_rule b c.args.lock) (own_taker _ c.args.self.now s) refl
+          (gives_bare _ _ _ _ s.seated c.args.lock lock.bare lock.lock c.requires.may.1),
     )
 
 pub returns-then-found-own : goal.returns-then-found-own

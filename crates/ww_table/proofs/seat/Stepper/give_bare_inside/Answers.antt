@@ -1,11 +1,13 @@
 use Rattle.std.proofs.Common.{ℕ, ◌==◌, ap, sym, refl, ◌∙◌, subst, inr}
-use Rattle.ww_word.specs.AnySeats.{IsValid}
+use Rattle.ww_word.specs.AnySeats.{IsValid, packed}
 use Rattle.ww_view.specs.Made.{given}
 use Rattle.ww_view.specs.Word.{given_word}
 use Rattle.ww_invariant.specs.Rule.{Sat}
 use Rattle.ww_invariant.specs.Steps.{knowing}
-use Rattle.ww_invariant.proofs.InsideSteps.{gives_bare_with_list}
+use Rattle.ww_invariant.specs.Waiting.{tries_to, gives_bare_inside}
+use Rattle.ww_invariant.proofs.InsideSteps.{gives_lock_bare}
 use Rattle.ww_invariant.proofs.InsideTurning.{given_valid}
+use Rattle.ww_invariant.proofs.Moves.{same_shot}
 use Rattle.ww_table.specs.declared.seat.Stepper.{Stepper}
 use Rattle.ww_table.proofs.OnTop.{still_there}
 use Rattle.ww_table.proofs.Seated.{has_lock, expected, stepped, by_rule}
@@ -19,10 +21,9 @@ pub compare_exchange-requires : goal.compare_exchange-requires
 compare_exchange-requires c = let r = c.next_owner-owner.ensures in let may = c.requires.may in (
   r.seat.home,
   has_lock c.args.board.now c.args.lock _ may.lock.1 c.owner_word.ensures,
-  gives_bare_with_list _ _ _ c.args.self.now.seat.me.0 _ c.args.lock c.args.seen c.next_owner-owner.result _ _ _
-      (ap (λ (m : Sat). m.0) r.read.now) (c.owner_word.ensures ∙ by_rule c.args.board.now c.args.lock) c.pack-old.ensures c.pack-new.ensures
-      (r.owner ∙ ap (λ (f : ℕ). given_word (f == 3) c.args.self.now.seat.me.0.part.core.list) c.flags.ensures)
-      may.lock.0 c.requires.at.seated may.may may.valid,
+  same_shot _ _ _ (tries_to gives_bare_inside) r.read.now (c.owner_word.ensures ∙ by_rule c.args.board.now c.args.lock) c.pack-old.ensures
+      (c.pack-new.ensures ∙ ap packed (r.owner ∙ ap (λ (f : ℕ). given_word (f == 3) c.args.self.now.seat.me.0.part.core.list) c.flags.ensures))
+      (gives_lock_bare _ _ _ _ c.requires.at.seated c.args.lock c.args.seen may.lock.0 may.may may.valid),
 )
 
 pub returns : goal.returns

@@ -3,11 +3,11 @@ use Rattle.atomic_table.specs.Table.{rest}
 use Rattle.ww_invariant.specs.declared.cells.Cell.TheVariants.{Content}
 use Rattle.ww_invariant.specs.declared.cells.Sight.{Sight}
 use Rattle.ww_invariant.specs.Out.{numbers_of, AreOthers}
-use Rattle.ww_invariant.specs.Steps.{giving, keeping}
-use Rattle.ww_invariant.proofs.Moves.{gives_brought}
+use Rattle.ww_invariant.specs.Steps.{gives_to, giving, keeping}
+use Rattle.ww_invariant.proofs.Moves.{same_shot, gives_free}
 use Rattle.ww_invariant.proofs.Turning.{popped}
 use Rattle.ww_table.proofs.OnTop.{node_up}
-use Rattle.ww_table.proofs.Seated.{has_lock, seated_as, by_rule, by_view, few_locks}
+use Rattle.ww_table.proofs.Seated.{has_lock, seated_as, own_taker, by_rule, by_view, few_locks}
 use Rattle.ww_table.proofs.seat.Stepper.give_free.Goals as goal
 
 pub compare_exchange-found-requires : goal.compare_exchange-found-requires
@@ -16,8 +16,8 @@ compare_exchange-found-requires c = let s = c.requires.at in let may = c.require
     let word = c.spread_word.ensures b.locks (few_locks b c.args.lock may.lock) in (
       c.bring.ensures.home.0 ∙ s.home,
       has_lock b c.args.lock _ (let fits = b.fits in let low = may.lock in omega arith) word,
-      gives_brought _ _ _ c.args.self.now.seat.me.0 _ c.args.lock _ _ _ _ out.0 up.0 c.bring.ensures.view up.2
-          (word ∙ by_rule b c.args.lock) may.lock s.seated may.away may.owner out.2 s.who s.stamp s.fits s.own,
+      same_shot _ _ _ gives_to (λ i. (c.bring.ensures.view i, up.2 i)) (word ∙ by_rule b c.args.lock) (own_taker _ c.args.self.now s) refl
+          (gives_free _ _ _ _ s.seated c.args.lock out.0 may.lock may.away may.owner out.2 refl),
     )
 
 pub returns-then-found-own : goal.returns-then-found-own

@@ -10,7 +10,7 @@ pub swap-requires : goal.swap-requires
 swap-requires c = let s = c.requires.at in (
   s.home,
   has_sign c.args.board.now c.args.self.now c.args.self.now.who _ s s.few (let word = c.cancel_word.ensures in omega arith),
-  heeds _ _ _ _ c.args.lock _ (c.cancel_word.ensures ∙ own_cancel_by_view s) s.seated c.requires.may,
+  heeds _ _ _ _ s.seated c.args.lock _ (c.cancel_word.ensures ∙ own_cancel_by_view s) c.requires.may,
 )
 
 pub returns : goal.returns

@@ -10,9 +10,10 @@ use Rattle.ww_invariant.specs.declared.cells.Cell.TheVariants.{Line}
 use Rattle.ww_invariant.specs.Rule.{Sat}
 use Rattle.ww_invariant.specs.Out.{numbers_of, slot_of, AreOthers}
 use Rattle.ww_invariant.specs.Guards.{lost}
-use Rattle.ww_invariant.specs.Waiting.{joins, joining}
+use Rattle.ww_invariant.specs.Waiting.{tries_to, joins, joining}
 use Rattle.ww_invariant.proofs.InsideSteps.{joins_list}
 use Rattle.ww_invariant.proofs.InsideTurning.{list_brought, on_top}
+use Rattle.ww_invariant.proofs.Moves.{same_shot}
 use Rattle.ww_table.proofs.Seated.{IsTold, has_lock, stepped, seated_paged, by_rule, by_view}
 use Rattle.ww_table.proofs.seat.Stepper.join.Goals.{After-compare_exchange-found, After-bring}
 use Rattle.ww_table.proofs.seat.Stepper.join.Goals as goal
@@ -21,8 +22,8 @@ pub compare_exchange-found-requires : goal.compare_exchange-found-requires
 compare_exchange-found-requires c = let may = c.requires.may in (
   c.requires.at.home,
   has_lock c.args.board.now c.args.lock _ may.lock c.owner_word.ensures,
-  joins_list _ _ _ _ c.args.lock c.args.seen _ _ _ (c.owner_word.ensures ∙ by_rule c.args.board.now c.args.lock) c.pack-old.ensures
-      (c.pack-new.ensures ∙ ap packed c.with_waiters.ensures.same) c.requires.at.seated may.may may.valid,
+  same_shot _ _ _ (tries_to joins) refl (c.owner_word.ensures ∙ by_rule c.args.board.now c.args.lock) c.pack-old.ensures
+      (c.pack-new.ensures ∙ ap packed c.with_waiters.ensures.same) (joins_list _ _ _ _ c.requires.at.seated c.args.lock c.args.seen may.may may.valid),
 )
 
 told : (c : After-compare_exchange-found) → IsTold joins c.args.lock c.args.seen c.args.self.now.seat.me

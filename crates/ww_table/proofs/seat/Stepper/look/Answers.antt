@@ -9,7 +9,7 @@ pub load-word-requires : goal.load-word-requires
 load-word-requires c = let s = c.requires.at in let low = c.requires.may.0 in let inside = c.requires.may.1 in (
   s.home,
   has_lock c.args.board.now c.args.lock _ low c.owner_word.ensures,
-  looks_inside _ _ _ _ c.args.lock _ (c.owner_word.ensures ∙ by_rule c.args.board.now c.args.lock) s.seated (omega arith),
+  looks_inside _ _ _ _ s.seated c.args.lock _ (c.owner_word.ensures ∙ by_rule c.args.board.now c.args.lock) (omega arith),
 )
 
 pub returns : goal.returns

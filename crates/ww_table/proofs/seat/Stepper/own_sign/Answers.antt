@@ -7,7 +7,7 @@ pub load-requires : goal.load-requires
 load-requires c = let s = c.requires.at in (
   s.home,
   has_sign c.args.board.now c.args.self.now c.args.self.now.who _ s s.few (let word = s.sign in omega arith),
-  reads _ _ _ _ _ (own_sign_by_view s) s.seated,
+  reads _ _ _ _ s.seated _ (own_sign_by_view s),
 )
 
 pub returns : goal.returns

@@ -1,10 +1,12 @@
 use Rattle.std.proofs.Common.{ap, sym, refl, ◌∙◌}
+use Rattle.ww_word.specs.AnySeats.{packed}
 use Rattle.ww_invariant.specs.declared.cells.Sight.{Sight}
 use Rattle.ww_invariant.specs.Rule.{Sat}
 use Rattle.ww_view.specs.Made.{taken}
 use Rattle.ww_invariant.specs.Steps.{knowing}
-use Rattle.ww_invariant.specs.Waiting.{takes_bare_inside}
-use Rattle.ww_invariant.proofs.InsideSteps.{takes_bare_brought}
+use Rattle.ww_invariant.specs.Waiting.{tries_to, takes_bare_inside}
+use Rattle.ww_invariant.proofs.InsideSteps.{takes_lock_bare}
+use Rattle.ww_invariant.proofs.Moves.{same_shot}
 use Rattle.ww_table.specs.declared.seat.Stepper.{Stepper}
 use Rattle.ww_table.proofs.OnTop.{list_there, in_vain, went}
 use Rattle.ww_table.proofs.Seated.{IsTold, has_lock, expected, by_rule}
@@ -15,9 +17,8 @@ pub compare_exchange-found-requires : goal.compare_exchange-found-requires
 compare_exchange-found-requires c = let r = c.own_left-owner.ensures in let may = c.requires.may in (
   r.seat.home,
   has_lock c.args.board.now c.args.lock _ may.lock.1 c.owner_word.ensures,
-  takes_bare_brought _ _ _ c.args.self.now.seat.me.0 _ c.args.lock c.args.seen c.own_left-owner.result _ _ _
-      (ap (λ (m : Sat). m.0) r.read.now) (c.owner_word.ensures ∙ by_rule c.args.board.now c.args.lock) c.pack-old.ensures
-      c.pack-new.ensures r.owner may.lock.0 c.requires.at.seated may.may may.valid,
+  same_shot _ _ _ (tries_to takes_bare_inside) r.read.now (c.owner_word.ensures ∙ by_rule c.args.board.now c.args.lock) c.pack-old.ensures
+      (c.pack-new.ensures ∙ ap packed r.owner) (takes_lock_bare _ _ _ _ c.requires.at.seated c.args.lock c.args.seen may.lock.0 may.may may.valid),
 )
 
 told : (c : After-compare_exchange-found) → IsTold takes_bare_inside c.args.lock c.args.seen c.own_left-owner.new.self.seat.me
