@@ -41,22 +41,22 @@ pub there_else : (vs : List Sight) (id : ℕ) (w : Sight) (j t : ℕ) → j ≢ 
 there_else vs id w j t isnt x = record { view = x.view; stands = set_else vs id j w isnt ∙ x.stands; seated = x.seated; speaks = x.speaks }
 
 -- a view changes, and speaks of the number as before
-pub there_set : (vs : List Sight) (id : ℕ) (v w : Sight) (j t : ℕ) → get_elem? vs id ≡ some v → w.seated ≡ v.seated
+pub there_set : {vs : List Sight} {v : Sight} (id : ℕ) (w : Sight) {j : ℕ} (t : ℕ) → get_elem? vs id ≡ some v → w.seated ≡ v.seated
     → (Speaks v t → Speaks w t) → IsThere vs j t → IsThere (set vs id w) j t
-there_set vs id v w j t here seated speaks x = dite (ℕ_discrete j id)
-    (λ is. let same : v ≡ x.view = some-injective v x.view (sym here ∙ ap (get_elem? vs) (sym is) ∙ x.stands) in record {
+there_set {vs} id w {j} t here seated speaks x = dite (ℕ_discrete j id)
+    (λ is. let same = some-injective _ x.view (sym here ∙ ap (get_elem? vs) (sym is) ∙ x.stands) in record {
       view = w;
-      stands = ap (get_elem? (set vs id w)) is ∙ set_here vs id w (place_low vs id v here);
+      stands = ap (get_elem? (set vs id w)) is ∙ set_here vs id w (place_low vs id _ here);
       seated = seated ∙ ap (λ (y : Sight). y.seated) same ∙ x.seated;
       speaks = speaks (subst (λ (y : Sight). Speaks y t) (sym same) x.speaks);
     })
     (λ isnt. there_else vs id w j t isnt x)
 
 -- a view changes that has this number and these idle ones before and after
-pub there_kept : (vs : List Sight) (id : ℕ) (v w : Sight) (j t : ℕ) → get_elem? vs id ≡ some v → w.seated ≡ v.seated
+pub there_kept : {vs : List Sight} {v : Sight} (id : ℕ) (w : Sight) {j : ℕ} (t : ℕ) → get_elem? vs id ≡ some v → w.seated ≡ v.seated
     → w.part.core.who ≡ v.part.core.who → w.idle ≡ v.idle → IsThere vs j t → IsThere (set vs id w) j t
-there_kept vs id v w j t here seated who idle =
-    there_set vs id v w j t here seated (⊎_elim (λ is. inl (who ∙ is))
+there_kept id w t here seated who idle =
+    there_set id w t here seated (⊎_elim (λ is. inl (who ∙ is))
     (λ more. inr (more.0, more.1, ap (λ l. get_elem? l more.0) idle ∙ more.2, more.3)))
 
 pub there_longer : (vs ws : List Sight) (j t : ℕ) → IsThere vs j t → IsThere (vs ++ ws) j t

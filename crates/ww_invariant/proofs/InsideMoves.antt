@@ -137,7 +137,7 @@ module _ (key : Start) (s : St) (r : Ruled key s) (id : ℕ) (me : Sat) (here : 
       (owner_set c (Join v.who n) can.base law.base key.locks key.places r.all s.words r.words n (packed (with_waiters o)) low
       (λ m far. far) refl refl refl refl refl
       (ap (λ (x : Owner). packed (with_waiters x)) is ∙ ap packed (sym (word_join c v.who n law.base))))
-      (list_inside key.locks graph c.owner c.queue c.guard s.homes v.who n (joined (c.queue n) (waiter_of c v.who))
+      (list_inside c.queue c.guard v.who n (joined (c.queue n) (waiter_of c v.who))
       can.base.inside.guard r.homes)
 
   -- die: the owner word has no flag if nobody is left in the list
@@ -152,7 +152,7 @@ module _ (key : Start) (s : St) (r : Ruled key s) (id : ℕ) (me : Sat) (here : 
       (owner_set c (Die v.who n) can.base law.base key.locks key.places r.all s.words r.words n x low (λ m far. far) refl refl refl refl refl
       ((λ i. packed (rest_word (left (k.queues.list n may.inside i) v.who) (is i)))
       ∙ ap packed (sym (word_die c v.who n law.base can.base))))
-      (list_inside key.locks graph c.owner c.queue c.guard s.homes v.who n (left (c.queue n) v.who) can.base.inside.guard r.homes)
+      (list_inside c.queue c.guard v.who n (left (c.queue n) v.who) can.base.inside.guard r.homes)
 
   -- ask: HANDOFF stands beside WAITERS now
   pub ask_makes : (n : ℕ) (o : Owner) → MayAsk me.0.part.core n o → IsValid o → get_or s.words (lock_at key.locks n) 0 ≡ packed o
@@ -194,7 +194,7 @@ module _ (key : Start) (s : St) (r : Ruled key s) (id : ℕ) (me : Sat) (here : 
       (subst (λ (z : List (ℕ × Cell)). AtHome key.locks graph (put c.owner n (Taken v.who)) (put c.queue n q)
       c.guard (homes_after s.homes z act)) (sym top)
       (let h1 = set s.homes (64 + n) (some y) in let h2 = set h1 n none in
-      list_inside key.locks graph (put c.owner n (Taken v.who)) c.queue c.guard (set h2 (64 + n) none) v.who n q
+      list_inside c.queue c.guard v.who n q
       can.base.inside.guard (record {
         deep = length-set h2 (64 + n) none ∙ length-set h1 n none ∙ length-set s.homes (64 + n) (some y) ∙ r.homes.deep;
         nodes = λ m l. put_cases c.owner n (Taken v.who) m
@@ -269,7 +269,7 @@ module _ (key : Start) (s : St) (r : Ruled key s) (id : ℕ) (me : Sat) (here : 
       (owner_set c (Take v.who n) can.base law.base key.locks key.places r.all s.words r.words n w low (λ m far. far) refl refl refl refl refl
       ((λ i. packed (taken_word v.who (k.itself.stamp i) (left (k.queues.list n may.inside i) v.who)))
       ∙ ap packed (sym (word_take c v.who n))))
-      (list_inside key.locks graph (put c.owner n (Taken v.who)) c.queue c.guard s.homes v.who n q can.base.inside.guard (record {
+      (list_inside c.queue c.guard v.who n q can.base.inside.guard (record {
         deep = r.homes.deep;
         nodes = λ m low'. put_cases c.owner n (Taken v.who) m
             (λ p. ((t : ℕ) → p ≢ Taken t) → get_elem? s.homes m ≡ some (some (Content (node_at graph m))))
@@ -315,7 +315,7 @@ module _ (key : Start) (s : St) (r : Ruled key s) (id : ℕ) (me : Sat) (here : 
       (owner_set c (Leave v.who n) can.base law.base key.locks key.places r.all s.words r.words n x low (λ m far. far) refl refl refl refl refl
       ((λ i. packed (rest_word (left (k.queues.list n may.inside i) v.who) (is i)))
       ∙ ap packed (sym (word_leave c v.who n law.base can.base))))
-      (list_inside key.locks graph c.owner c.queue c.guard s.homes v.who n (left (c.queue n) v.who) can.base.inside.guard r.homes)
+      (list_inside c.queue c.guard v.who n (left (c.queue n) v.who) can.base.inside.guard r.homes)
 
   -- ---- cancels
 

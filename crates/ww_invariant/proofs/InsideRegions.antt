@@ -89,10 +89,10 @@ module _ (c : State) (e : Event) (can : BasePossible c e) (l : IsBase c) (locks 
   }
 
 -- the list of a guarded lock changes
-pub list_inside : (locks : ℕ) (graph : List Node) (owner : ℕ → Holder) (queue : ℕ → List Entry) (guard : ℕ → ℕ)
-    (homes : List (maybe.Option Cell)) (s n : ℕ) (q : List Entry) → guard n ≡ suc s
+pub list_inside : {locks : ℕ} {graph : List Node} {owner : ℕ → Holder} {homes : List (maybe.Option Cell)} (queue : ℕ → List Entry)
+    (guard : ℕ → ℕ) (s n : ℕ) (q : List Entry) → guard n ≡ suc s
     → AtHome locks graph owner queue guard homes → AtHome locks graph owner (put queue n q) guard homes
-list_inside locks graph owner queue guard homes s n q inside h = record {
+list_inside queue guard s n q inside h = record {
   deep = h.deep;
   nodes = h.nodes;
   lists = λ m low free. h.lists m low free

@@ -1,10 +1,9 @@
 -- Each step at a guard, inside it, on a sign or on a cancel, as the table asks for it.
-use Rattle.std.proofs.Common.{◌≡◌, ◌≢◌, ℕ, zero, suc, ◌+◌, ◌*◌, ◌<◌, ◌≤◌, ◌==◌, ◌⊎◌, eqb, true, false, true≢false, List, [], ◌∷◌, length, get_or, set, sym, refl, ap, ◌∙◌, subst, inl, inr, ⊎_elim, arith, Bool, Some}
+use Rattle.std.proofs.Common.{◌≡◌, ◌≢◌, ℕ, zero, suc, ◌+◌, ◌*◌, ◌<◌, ◌≤◌, ◌==◌, ◌⊎◌, true, false, true≢false, List, [], ◌∷◌, length, get_or, set, sym, refl, ap, ◌∙◌, subst, inl, inr, ⊎_elim, arith, Bool, Some}
 use mathlib.Core.Logic.{dite}
 use mathlib.Core.Option.{none, some}
 use native.Mathlib.Decide.{ℕ_discrete}
 use lib.ListN.{get_elem?}
-use prog.Atomic.{either}
 use Rattle.atomic_table.specs.Table.{Step, step, Act, keeps, takes, gives, chain, stepped, carried_after, Valid, Allows, rest}
 use Rattle.atomic_table.proofs.Lists.{set_here, set_else, exchanged}
 use Rattle.ww_word.specs.declared.owner.Owner.{Owner}
@@ -36,7 +35,6 @@ use Rattle.ww_view.proofs.Inside.{mine_look, mine_lost_sign, mine_read, mine_rea
 use Rattle.ww_view.proofs.Written.{HaveRoom, wide_word_is_valid}
 use Rattle.ww_invariant.specs.declared.cells.Cell.{Cell}
 use Rattle.ww_invariant.specs.declared.cells.Cell.TheVariants.{Content, Line}
-use Rattle.ww_invariant.specs.declared.cells.Sight.{Sight}
 use Rattle.ww_invariant.specs.declared.cells.Start.{Start}
 use Rattle.ww_invariant.specs.Layout.{lock_at, guard_at, sign_at, cancel_at}
 use Rattle.ww_invariant.specs.Rule.{St, Sat, first_graph, Ruled}

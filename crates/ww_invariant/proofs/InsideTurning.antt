@@ -19,20 +19,19 @@ use Rattle.ww_invariant.specs.Waiting.{HaveOnly, IsOut, HasListOnTop}
 same_slot : (slots : List (ℕ × Cell)) (n : ℕ) (x y : Cell) → slot_of slots n ≡ Some y → slot_of slots n ≡ Some x → y ≡ x
 same_slot slots n x y there is = let e : Some y ≡ Some x = sym there ∙ is in cc
 
--- a slot that was brought to the front has what it had
-pub slot_brought : (slots same now others : List (ℕ × Cell)) (n m : ℕ) (x y : Cell) → same ≡ slots → m ≡ n
-    → slot_of slots n ≡ Some x → slot_of same m ≡ Some y → AreOthers same m y others
-    → now ≡ (m, y) ∷ others → AreOthers slots n x others × (now ≡ (n, x) ∷ others)
-slot_brought slots same now others n m x y as_was at is there others_are top =
-    let has : y ≡ x = same_slot same m x y there (ap (slot_of same) at ∙ ap (λ (l : List (ℕ × Cell)). slot_of l n) as_was ∙ is) in (
-      subst (λ (p : List (ℕ × Cell) × (ℕ × Cell)). AreOthers p.0 p.1.0 p.1.1 others) (λ i. (as_was i, (at i, has i))) others_are,
-      top ∙ (λ i. (at i, has i) ∷ others),
-    )
+-- slot m was brought to the front: what it has, and the others
+abbrev pub IsBrought : List (ℕ × Cell) → ℕ → List (ℕ × Cell) → Type 0
+IsBrought slots m now = (y : Cell) × (others : List (ℕ × Cell)) × (slot_of slots m ≡ Some y) × AreOthers slots m y others
+    × (now ≡ (m, y) ∷ others)
 
-pub list_brought : (slots same now others : List (ℕ × Cell)) (n m : ℕ) (q : List Entry) (y : Cell) → same ≡ slots
-    → m ≡ 64 + n → slot_of slots (64 + n) ≡ Some (Line q) → slot_of same m ≡ Some y → AreOthers same m y others
-    → now ≡ (m, y) ∷ others → AreOthers slots (64 + n) (Line q) others × (now ≡ (64 + n, Line q) ∷ others)
-list_brought slots same now others n m q = slot_brought slots same now others (64 + n) m (Line q)
+-- ... and that is what it had
+pub slot_brought : (slots same : List (ℕ × Cell)) {now : List (ℕ × Cell)} (n m : ℕ) (x : Cell) → same ≡ slots → m ≡ n
+    → slot_of slots n ≡ Some x → (b : IsBrought same m now) → AreOthers slots n x b.1 × (now ≡ (n, x) ∷ b.1)
+slot_brought slots same n m x as_was at is b =
+    let has : b.0 ≡ x = same_slot same m x b.0 b.2 (ap (slot_of same) at ∙ ap (λ (l : List (ℕ × Cell)). slot_of l n) as_was ∙ is) in (
+      subst (λ (p : List (ℕ × Cell) × (ℕ × Cell)). AreOthers p.0 p.1.0 p.1.1 b.1) (λ i. (as_was i, (at i, has i))) b.3,
+      b.4 ∙ (λ i. (at i, has i) ∷ b.1),
+    )
 
 -- the slot that was taken last, by its number
 pub on_top : (now others : List (ℕ × Cell)) (n k : ℕ) (y : Cell) → now ≡ (n, y) ∷ others → k ≡ n → now ≡ (k, y) ∷ rest now

@@ -176,7 +176,7 @@ module _ (key : Start) (s : St) (r : Ruled key s) (id : ℕ) (me : Sat) (here : 
           })
           (λ j d far there on. sits_on key r.core e law can r.log log r.at r.counts counts me.0.part.core.who acts
           spares id j d mine.part.place far (r.seats j d there on));
-      there = λ t small. there_kept s.views id me.0 (record me.0 { part = p; held = held }) (r.at t) t here refl
+      there = λ t small. there_kept id (record me.0 { part = p; held = held }) t here refl
           same refl (r.there t small);
     };
   }
@@ -440,7 +440,7 @@ module _ (key : Start) (s : St) (r : Ruled key s) (id : ℕ) (me : Sat) (here : 
                 apart = f.apart;
                 differ = f.differ;
               });
-          there = λ t small. there_kept s.views id me.0 w (r.at t) t here refl refl refl (r.there t small);
+          there = λ t small. there_kept id w t here refl refl refl (r.there t small);
         };
       }
     where
@@ -477,7 +477,7 @@ module _ (key : Start) (s : St) (r : Ruled key s) (id : ℕ) (me : Sat) (here : 
         differ = mine.differ;
       })
       (λ j d _ there. r.seats j d there))
-      (λ t small. there_kept s.views id me.0 (knowing me.0 w) (r.at t) t here refl same refl (r.there t small))
+      (λ t small. there_kept id (knowing me.0 w) t here refl same refl (r.there t small))
 
   pub looks : (i : ℕ) (w : View) → w.who ≡ me.0.part.core.who → ((n : ℕ) → owns w n ≡ owns me.0.part.core n)
       → Knows r.core w → Ruled key (stepped s i (get_or s.words i 0) id me.1 (knowing me.0 w) keeps)
@@ -608,67 +608,58 @@ module _ (key : Start) (slots id : ℕ) (me : Sat) (seated : me.0.seated ≡ tru
   word_tells n low away s r at j e = subst (λ (m : ℕ). IsToldBy view m (get_or s.words (lock_at key.locks n) 0)) e
       (told key s r id me at seated n low away)
 
-  pub takes_bare : (n : ℕ) → length (first_graph key) ≤ n → n < key.locks → MayFast view
-      → Exchanges key slots id me (on_owner key n 0 (packed (taker view))) takes_bare_to
-  takes_bare n big low may = let t : Shot = on_owner key n 0 (packed (taker view)) in
-      let won : Hits key slots id me t takes_bare_to =
+  -- of a lock that guards no node: its view where the word is the one expected; and where it is another, if it owns the lock and if not
+  abbrev bare_to : ℕ → (ℕ → View) → View → View → Step Cell → Sat → ℕ → Sat → Type 0
+  bare_to old won owner other st m found m' = (j : ℕ) → st.word ≡ lock_at view.room j → IsToldBy view j found
+      × (found ≡ old → m' ≡ (knowing me.0 (won j), me.1))
+      × (found ≢ old → owns view j ≡ true → m' ≡ (knowing me.0 owner, me.1))
+      × (found ≢ old → owns view j ≡ false → m' ≡ (knowing me.0 other, me.1))
+
+  tries_bare : (n old new : ℕ) (won : ℕ → View) (owner other : Vain view) → n < key.locks → IsAway view
+      → ((s : St) (r : Ruled key s) → get_elem? s.views id ≡ some me.0 → get_or s.words (lock_at key.locks n) 0 ≡ old
+      → Ruled key (stepped s (lock_at key.locks n) new id me.1 (knowing me.0 (won n)) keeps))
+      → Exchanges key slots id me (on_owner key n old new) (bare_to old won owner.view other.view)
+  tries_bare n old new won owner other low away keeps_rule = let t : Shot = on_owner key n old new in
+      let hits : Hits key slots id me t (bare_to old won owner.view other.view) =
       λ s r at hit. (
-        knowing me.0 (fast_taken view n),
+        knowing me.0 (won n),
         keeps,
         tt,
-        (bare_makes key s r id me at seated n big low may hit).ruled,
+        keeps_rule s r at hit,
         (λ j there. let e : n ≡ j = same_lock key s r id me at seated n j there in (
-          subst (IsToldBy view j) hit (word_tells n low may.away s r at j e),
-          (λ _. ap (λ (i : ℕ). let w : Sat = (knowing me.0 (fast_taken view i), me.1) in w) e),
+          subst (IsToldBy view j) hit (word_tells n low away s r at j e),
+          (λ _. ap (λ (i : ℕ). let w : Sat = (knowing me.0 (won i), me.1) in w) e),
           (λ no. absurd (no refl)),
           (λ no. absurd (no refl)),
         )),
       ) in elim (true_or_false (owns view n)) [
-        | inl own ↦ cas t takes_bare_to still won (λ s r at ne j there. let e : n ≡ j = same_lock key s r id me at seated n j there in (
-          word_tells n low may.away s r at j e,
-          (λ z. absurd (ne z)),
-          (λ _ _. refl),
-          (λ _ no. absurd (true≢false (sym own ∙ ap (owns view) e ∙ no))),
-        ))
-        | inr lacks ↦ cas t takes_bare_to missed won (λ s r at ne j there. let e : n ≡ j = same_lock key s r id me at seated n j there in (
-          word_tells n low may.away s r at j e,
-          (λ z. absurd (ne z)),
-          (λ _ own. absurd (true≢false (sym own ∙ sym (ap (owns view) e) ∙ lacks))),
-          (λ _ _. refl),
-        ))
+        | inl own ↦ cas t (bare_to old won owner.view other.view) owner hits
+            (λ s r at ne j there. let e : n ≡ j = same_lock key s r id me at seated n j there in (
+              word_tells n low away s r at j e,
+              (λ z. absurd (ne z)),
+              (λ _ _. refl),
+              (λ _ no. absurd (true≢false (sym own ∙ ap (owns view) e ∙ no))),
+            ))
+        | inr lacks ↦ cas t (bare_to old won owner.view other.view) other hits
+            (λ s r at ne j there. let e : n ≡ j = same_lock key s r id me at seated n j there in (
+              word_tells n low away s r at j e,
+              (λ z. absurd (ne z)),
+              (λ _ own. absurd (true≢false (sym own ∙ sym (ap (owns view) e) ∙ lacks))),
+              (λ _ _. refl),
+            ))
       ]
+
+  pub takes_bare : (n : ℕ) → length (first_graph key) ≤ n → n < key.locks → MayFast view
+      → Exchanges key slots id me (on_owner key n 0 (packed (taker view))) takes_bare_to
+  takes_bare n big low may = tries_bare n 0 (packed (taker view)) (fast_taken view) still missed low may.away
+      (λ s r at hit. (bare_makes key s r id me at seated n big low may hit).ruled)
 
   pub gives_bare : (n : ℕ) → length (first_graph key) ≤ n → n < key.locks → IsAway view
       → Exchanges key slots id me (on_owner key n (packed (taker view)) 0) gives_bare_to
-  gives_bare n big low away = let t : Shot = on_owner key n (packed (taker view)) 0 in
-      let won : Hits key slots id me t gives_bare_to =
-      λ s r at hit. (
-        knowing me.0 (fast_given view n),
-        keeps,
-        tt,
-        (bare_give_makes key s r id me at seated n big low away
-            (told key s r id me at seated n low away ∙ ap (λ (y : ℕ). unflagged y == unflagged (packed (taker view))) hit
-            ∙ number_same (unflagged (packed (taker view))) (unflagged (packed (taker view))) refl) (taker_valid key s r id me at seated) hit).ruled,
-        (λ j there. let e : n ≡ j = same_lock key s r id me at seated n j there in (
-          subst (IsToldBy view j) hit (word_tells n low away s r at j e),
-          (λ _. ap (λ (i : ℕ). let w : Sat = (knowing me.0 (fast_given view i), me.1) in w) e),
-          (λ no. absurd (no refl)),
-          (λ no. absurd (no refl)),
-        )),
-      ) in elim (true_or_false (owns view n)) [
-        | inl own ↦ cas t gives_bare_to kept won (λ s r at ne j there. let e : n ≡ j = same_lock key s r id me at seated n j there in (
-          word_tells n low away s r at j e,
-          (λ z. absurd (ne z)),
-          (λ _ _. refl),
-          (λ _ no. absurd (true≢false (sym own ∙ ap (owns view) e ∙ no))),
-        ))
-        | inr lacks ↦ cas t gives_bare_to still won (λ s r at ne j there. let e : n ≡ j = same_lock key s r id me at seated n j there in (
-          word_tells n low away s r at j e,
-          (λ z. absurd (ne z)),
-          (λ _ own. absurd (true≢false (sym own ∙ sym (ap (owns view) e) ∙ lacks))),
-          (λ _ _. refl),
-        ))
-      ]
+  gives_bare n big low away = tries_bare n (packed (taker view)) 0 (fast_given view) kept still low away
+      (λ s r at hit. (bare_give_makes key s r id me at seated n big low away
+      (told key s r id me at seated n low away ∙ ap (λ (y : ℕ). unflagged y == unflagged (packed (taker view))) hit
+      ∙ number_same (unflagged (packed (taker view))) (unflagged (packed (taker view))) refl) (taker_valid key s r id me at seated) hit).ruled)
 
   -- a look from outside whether the seat owns a lock
   pub owns_outside : (n i : ℕ) → i ≡ lock_at key.locks n → n < key.locks → IsAway view

@@ -203,7 +203,7 @@ module _ (key : Start) (s : St) (r : Ruled key s) (id : ℕ) (me : Sat) (here : 
 pub places : (key : Start) (slots id : ℕ) (me : Sat) (about : Option Record) (x : Record) → me.0.seated ≡ true
     → about ≡ Some x → MayPlace me.0 (recorded_of x)
     → Allows (Ruled key) slots id me 8 (λ z. (z + 1) % 2 ^ 64) (places_to about (step slots 8 1 0 none) me)
-places key slots id me about x seated is may s r deep at small = let n : ℕ = get_or s.words 8 0 in
+places key slots id me about x seated is may = λ s r deep at small. let n : ℕ = get_or s.words 8 0 in
     let same = r.words.front in let was = r.counted.front in let few = many key s r id me at seated x may in
     let up : (n + 1) % 2 ^ 64 ≡ n + 1 = omega arith in (
       placing me.0 n x,

@@ -165,7 +165,7 @@ module _ (key : Start) where
       })
       (λ isnt. there_longer (set s.views id left) (seat_of (length v.held) p ∷ []) (to t) t
       (subst (λ (k : ℕ). IsThere (set s.views id left) k t) (sym (put_else r.at p.core.who n t isnt))
-      (there_set s.views id v left (r.at t) t at refl (speaks_later v p ps t is isnt) (r.there t small)))))
+      (there_set id left t at refl (speaks_later v p ps t is isnt) (r.there t small)))))
 
   -- the first of the idle numbers gets a seat of its own
   pub splits_on : (id : ℕ) (v : Sight) (p : Part) (ps : List Part) → v.seated ≡ true → v.idle ≡ p ∷ ps
@@ -252,7 +252,7 @@ module _ (key : Start) where
       })))
       (λ isnt. subst (λ (k : ℕ). IsThere (set (set s.views id both) other nobody) k t) (sym (aimed_else other id r.at t isnt))
       (there_else (set s.views id both) other nobody (r.at t) t isnt
-      (there_set s.views id v both (r.at t) t at refl (speaks_both v w t) x))))
+      (there_set id both t at refl (speaks_both v w t) x))))
 
   pub joins : (id : ℕ) (v : Sight) (other : ℕ) (w : Sight) → v.seated ≡ true → w.seated ≡ true → IsBare w.part.core
       → Joins (Ruled key) id v other w (with_seat v w) nobody

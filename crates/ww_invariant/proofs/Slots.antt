@@ -40,11 +40,13 @@ take_on taken count filled are = record {
     set_false (f ∷ fs) zero = refl
     set_false (f ∷ fs) (suc i) = set_false fs i
 
+-- the nodes of the slots below n are these
+abbrev pub AreNodesBelow : List Cell → ℕ → List Node → Type 0
+AreNodesBelow slots n nodes = (k : ℕ) (x : Node) → k < n → get_elem? slots k ≡ some (Content x) → get_elem? nodes k ≡ some x
+
 pub node_more : (nodes : List Node) (slots : List Cell) (n : ℕ) (node : Node) → length nodes ≡ n
-    → get_elem? slots n ≡ some (Content node)
-    → ((k : ℕ) (x : Node) → k < n → get_elem? slots k ≡ some (Content x) → get_elem? nodes k ≡ some x)
-    → (k : ℕ) (x : Node) → k < n + 1 → get_elem? slots k ≡ some (Content x) → get_elem? (nodes ++ node ∷ []) k ≡ some x
-node_more nodes slots n node long here are k x low e = dite (ℕ_discrete k n)
+    → get_elem? slots n ≡ some (Content node) → AreNodesBelow slots n nodes → AreNodesBelow slots (n + 1) (nodes ++ node ∷ [])
+node_more nodes slots n node long here are = λ k x low e. dite (ℕ_discrete k n)
     (λ is. ap (get_elem? (nodes ++ node ∷ [])) is ∙ at_last nodes node n long
     ∙ ap some (let z : some (Content node) ≡ some (Content x) = sym here ∙ sym (ap (get_elem? slots) is) ∙ e in
     let y : Content node ≡ Content x = some-injective _ _ z in let w : node ≡ x = cc in w))

@@ -16,7 +16,7 @@ use Rattle.ww_invariant.specs.Guards.{lost}
 use Rattle.ww_invariant.specs.Rule.{Sat}
 use Rattle.ww_invariant.specs.Out.{slot_of, numbers_of, AreOthers}
 use Rattle.ww_invariant.specs.Waiting.{StandsIfWaiting, HasListOnTop, IsOut, IsStillThere}
-use Rattle.ww_invariant.proofs.InsideTurning.{on_top, slot_brought, still_out}
+use Rattle.ww_invariant.proofs.InsideTurning.{IsBrought, on_top, slot_brought, still_out}
 use Rattle.ww_invariant.proofs.Turning.{brought}
 use Rattle.ww_table.specs.declared.board.Board.{Board}
 use Rattle.ww_table.specs.declared.seat.Stepper.{Stepper}
@@ -37,14 +37,6 @@ pub stamp_before : (table : TableId) (m : Sat) (n : ℕ) (s : Stepper) → IsSea
     → m.0.part.core.stamp ≡ s.stamp
 stamp_before table m n s seated t = ap (λ (w : Sat). w.0.part.core.stamp) (sym t.now) ∙ seated.stamp
 
--- the list of lock n in slot k, once w has left it
-pub has_left : (slots others new : List (ℕ × Cell)) (n k who w : ℕ) (q : List Entry)
-    → slots ≡ (64 + n, Line q) ∷ others → k ≡ 64 + n → who ≡ w
-    → ((p : List Entry) → slots ≡ (k, Line p) ∷ rest slots → new ≡ (k, Line (left p w)) ∷ rest slots)
-    → new ≡ (64 + n, Line (left q who)) ∷ others
-has_left slots others new n k who w q top at is leaves = leaves q (on_top slots others (64 + n) k (Line q) top at)
-    ∙ (λ i. (at i, Line (left q (sym is i))) ∷ rest (top i))
-
 -- a seat that leaves the list has its page: the one that it had, or the one that the list gives it
 pub has_page : (table : TableId) (m : Sat) (n : ℕ) (s : Stepper) (page : Option (Unit {0})) → IsSeated table s
     → HasListOnTop m n s.seat.me → StandsIfWaiting s.seat.me.0.part.core → page ≡ s.page → IsSome page
@@ -59,18 +51,15 @@ pub node_out : (m now : Sat) (n : ℕ) (x : Node) (t : HasListOnTop m n now) →
 node_out m now n x t out = ap (λ (w : Sat). slot_of w.1 n) t.now
     ∙ still_out m.1 (64 + n) (Line m.0.part.core.list) t.others n (Content x) (λ z. omega arith) t.apart out
 
-pub node_brought : (m now : Sat) (n : ℕ) (x : Node) (t : HasListOnTop m n now) (new others : List (ℕ × Cell))
-    (y : Cell) → IsOut m.1 n (Content x) → slot_of now.1 n ≡ Some y → AreOthers now.1 n y others
-    → new ≡ (n, y) ∷ others
-    → AreOthers ((64 + n, Line m.0.part.core.list) ∷ t.others) n (Content x) others × (new ≡ (n, Content x) ∷ others)
-node_brought m now n x t new others y out is apart top =
-    slot_brought ((64 + n, Line m.0.part.core.list) ∷ t.others) now.1 new others n n (Content x) y
+pub node_brought : (m now : Sat) (n : ℕ) (x : Node) (t : HasListOnTop m n now) {new : List (ℕ × Cell)} → IsOut m.1 n (Content x)
+    → (b : IsBrought now.1 n new)
+    → AreOthers ((64 + n, Line m.0.part.core.list) ∷ t.others) n (Content x) b.1 × (new ≡ (n, Content x) ∷ b.1)
+node_brought m now n x t out = slot_brought ((64 + n, Line m.0.part.core.list) ∷ t.others) now.1 n n (Content x)
     (ap (λ (w : Sat). w.1) t.now) refl
-    (still_out m.1 (64 + n) (Line m.0.part.core.list) t.others n (Content x) (λ z. omega arith) t.apart out) is apart top
+    (still_out m.1 (64 + n) (Line m.0.part.core.list) t.others n (Content x) (λ z. omega arith) t.apart out)
 
 -- a node that was brought on top, of whatever was found there
-pub node_up : (slots now : List (ℕ × Cell)) (n : ℕ) (x : Node) → slot_of slots n ≡ Some (Content x)
-    → ((y : Cell) × (others : List (ℕ × Cell)) × (slot_of slots n ≡ Some y) × AreOthers slots n y others × (now ≡ (n, y) ∷ others))
+pub node_up : (slots now : List (ℕ × Cell)) (n : ℕ) (x : Node) → slot_of slots n ≡ Some (Content x) → IsBrought slots n now
     → (others : List (ℕ × Cell)) × AreOthers slots n (Content x) others × (now ≡ (n, Content x) ∷ others) × (now ≡ (n, Content x) ∷ rest now)
 node_up slots now n x is found = let same = brought slots n x found.0 found.2 is in
     let up = found.4 ∙ ap (λ (y : Cell). (n, y) ∷ found.1) same in
@@ -119,11 +108,10 @@ module _ {table : TableId} {m : Sat} {now : Stepper} {n : ℕ} (is : IsSeated ta
       → new.order.items ≡ numbers_of under ++ k ∷ []
       → IsSeated table new × (new.seat.me ≡ (w m.0, (64 + n, Line (left m.0.part.core.list m.0.part.core.who)) ∷ under))
   gone_over token {under} {k} {page} new w home view top stands knows at same g still order =
-      let list = has_left token.me.1 under new.seat.me.1 n k m.0.part.core.who now.who m.0.part.core.list top at
-      (number_before table m n now is t) g.list in (
+      let q = m.0.part.core.list in let up = on_top token.me.1 under (64 + n) k (Line q) top at in let who = number_before table m n now is t in
+      let list = g.list q up ∙ (λ i. (at i, Line (left q (sym who i))) ∷ rest (top i)) in (
         seated_paged (w now.seat.me.0) is (g.home ∙ home) (g.view ∙ view) knows
-            (λ _. (g.page m.0.part.core.list (on_top token.me.1 under (64 + n) k (Line m.0.part.core.list) top at)).1
-            (has_page table m n now page is t stands same)) still
+            (λ _. (g.page q up).1 (has_page table m n now page is t stands same)) still
             (order ∙ ap (λ (i : ℕ). numbers_of under ++ i ∷ []) at ∙ ap numbers_of (sym list)),
         λ i. ((g.view ∙ view ∙ ap (λ (x : Sat). w x.0) t.now) i, list i),
       )

@@ -1,7 +1,7 @@
-use Rattle.std.proofs.Common.{ap, refl, ◌∙◌}
+use Rattle.std.proofs.Common.{◌+◌, ap, refl, ◌∙◌}
 use Rattle.ww_invariant.specs.declared.cells.Cell.TheVariants.{Line}
 use Rattle.ww_invariant.specs.Out.{slot_of}
-use Rattle.ww_invariant.proofs.InsideTurning.{list_brought}
+use Rattle.ww_invariant.proofs.InsideTurning.{slot_brought}
 use Rattle.ww_table.proofs.Seated.{seated_as}
 use Rattle.ww_table.proofs.seat.Stepper.bring_list.Goals as goal
 
@@ -13,9 +13,8 @@ bring-requires-clause-out c = (
 
 pub returns : goal.returns
 returns c = let b = c.bring.ensures in let was = c.args.self.now.seat.me.1 in
-    let l = list_brought was was c.bring.new.seat.me.1 b.slots.1 c.args.lock c.list_slot-slot.result
-    c.args.self.now.seat.me.0.part.core.list b.slots.0 refl c.list_slot-slot.ensures c.requires.may.list b.slots.2
-    b.slots.3 b.slots.4 in record {
+    let l = slot_brought was was (64 + c.args.lock) c.list_slot-slot.result (Line c.args.self.now.seat.me.0.part.core.list) refl
+    c.list_slot-slot.ensures c.requires.may.list b.slots in record {
       slot = c.list_slot-slot.ensures;
       same = refl;
       seat = λ t was. seated_as c.args.self.now.seat.me.0 was b.home.0 b.view refl refl b.order;

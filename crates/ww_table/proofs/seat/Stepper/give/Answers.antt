@@ -26,7 +26,7 @@ pack-new-requires c = subst IsValid (sym (c.next_owner-owner.ensures.owner ∙ a
 
 pub compare_exchange-requires : goal.compare_exchange-requires
 compare_exchange-requires c = let r = c.next_owner-owner.ensures in let b = c.bring.ensures in let may = c.requires.may in let out = may.out in
-    let n = node_brought _ _ c.args.lock out.0 r.read _ _ _ out.1 b.slots.2 b.slots.3 b.slots.4 in (
+    let n = node_brought _ _ c.args.lock out.0 r.read out.1 b.slots in (
       b.home.0 ∙ r.seat.home,
       has_lock c.args.board.now c.args.lock _ (let fits = c.args.board.now.fits in let low = may.lock in omega arith) c.owner_word.ensures,
       same_shot _ _ _ (tries_to gives_inside) (λ i. ((b.view ∙ ap (λ (m : Sat). m.0) r.read.now) i, n.1 i))
@@ -37,7 +37,7 @@ compare_exchange-requires c = let r = c.next_owner-owner.ensures in let b = c.br
 
 pub returns : goal.returns
 returns c = let r = c.next_owner-owner.ensures in let t = r.read in let b = c.bring.ensures in let may = c.requires.may in let out = may.out in
-    let n = node_brought _ _ c.args.lock out.0 t _ _ _ out.1 b.slots.2 b.slots.3 b.slots.4 in let view = b.view
+    let n = node_brought _ _ c.args.lock out.0 t out.1 b.slots in let view = b.view
     ∙ ap (λ (m : Sat). m.0) t.now in
     let told = c.compare_exchange.ensures.2 c.args.lock c.args.seen
     (c.owner_word.ensures ∙ by_view c.args.board.now _ c.requires.at c.args.lock _ view, may.valid, c.pack-old.ensures) in

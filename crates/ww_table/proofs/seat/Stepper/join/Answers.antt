@@ -12,7 +12,7 @@ use Rattle.ww_invariant.specs.Out.{numbers_of, slot_of, AreOthers}
 use Rattle.ww_invariant.specs.Guards.{lost}
 use Rattle.ww_invariant.specs.Waiting.{tries_to, joins, joining}
 use Rattle.ww_invariant.proofs.InsideSteps.{joins_list}
-use Rattle.ww_invariant.proofs.InsideTurning.{list_brought, on_top}
+use Rattle.ww_invariant.proofs.InsideTurning.{slot_brought, on_top}
 use Rattle.ww_invariant.proofs.Moves.{same_shot}
 use Rattle.ww_table.proofs.Seated.{IsTold, has_lock, stepped, seated_paged, by_rule, by_view}
 use Rattle.ww_table.proofs.seat.Stepper.join.Goals.{After-compare_exchange-found, After-bring}
@@ -62,9 +62,8 @@ up : (c : After-bring) → let list = c.args.self.now.seat.me.0.part.core.list i
 up c = let b = c.bring.ensures in let won = (c.compare_exchange-found.ensures.2 c.args.lock c.args.seen
     (c.owner_word.ensures ∙ by_view c.args.board.now _ c.requires.at c.args.lock _ refl, c.requires.may.valid, c.pack-old.ensures)).0
     (c.if-found-old.false ∙ c.pack-old.ensures) in
-    list_brought c.args.self.now.seat.me.1 c.compare_exchange-found.new.seat.me.1 c.bring.new.seat.me.1
-    b.slots.1 c.args.lock c.list_slot-slot.result c.args.self.now.seat.me.0.part.core.list b.slots.0 (ap (λ (m : Sat). m.1) won.0)
-    c.list_slot-slot.ensures c.requires.may.list b.slots.2 b.slots.3 b.slots.4
+    slot_brought c.args.self.now.seat.me.1 c.compare_exchange-found.new.seat.me.1 (64 + c.args.lock) c.list_slot-slot.result
+    (Line c.args.self.now.seat.me.0.part.core.list) (ap (λ (m : Sat). m.1) won.0) c.list_slot-slot.ensures c.requires.may.list b.slots
 
 top : (c : After-bring) → c.bring.new.seat.me.1
     ≡ (c.list_slot-slot.result, Line c.args.self.now.seat.me.0.part.core.list) ∷ rest c.bring.new.seat.me.1
