@@ -43,7 +43,7 @@ use Rattle.ww_invariant.specs.Guards.{lost, AreSeats, IsSeenBy, entering, exitin
 use Rattle.ww_invariant.specs.Waiting.{HasListOnTop, StandsIfWaiting, Expects, IsStillThere, tries_to, HasPlace, joining, joins, taking_inside, below, takes_inside, giving_inside, gives_inside, takes_bare_inside, gives_bare_inside, asking, asks, dying, dies, dies_to}
 use Rattle.ww_invariant.specs.Signs.{condemning, noting, reading, finding_none, clearing, signs_to, reads_to, clears_to}
 use Rattle.ww_invariant.specs.Cancels.{cancelling, heeding, stopping, stops, leaves_to, cancels_to, heeds_to}
-use Rattle.ww_invariant.proofs.Moves.{Shot, on_owner, Exchanges, Hits, cas, looks, low, node_there, have_room, room_is, at_room, same_lock}
+use Rattle.ww_invariant.proofs.Moves.{Shot, on_owner, as_step, Exchanges, Hits, cas, looks, low, node_there, have_room, room_is, at_room, same_lock}
 use Rattle.ww_invariant.proofs.Told.{stands_as, stands_there, seen_by, death_is_older}
 use Rattle.ww_invariant.proofs.InsideMoves.{enter_makes, exit_makes, join_makes, take_makes, give_makes, take_bare_makes, give_bare_makes, ask_makes, die_makes, sign_makes, clear_makes, leave_makes, cancel_makes, heed_makes, mine, inside_low}
 
@@ -131,7 +131,7 @@ module _ (key : Start) (slots id : ℕ) (me : Sat) (seated : me.0.seated ≡ tru
 
   pub enters : (n : ℕ) → n < key.locks → MayEnter view n
       → Exchanges key slots id me (record { word = guard_at key.locks n; old = 0; new = suc view.who }) enters_to
-  enters n small may = cas key slots id me seated (record { word = guard_at key.locks n; old = 0; new = suc view.who }) enters_to
+  enters n small may = cas key slots id me seated
       (record { view = made.shut_out view; same = refl; has = λ m. refl; knows = λ c k. mine_shut_out c view k })
       (λ s r at hit. let q : List Entry = r.core.queue n in (
         entering me.0 n q,
@@ -215,8 +215,8 @@ module _ (key : Start) (slots id : ℕ) (me : Sat) (seated : me.0.seated ≡ tru
   expecting : (n : ℕ) (o p : Owner) (wins : ℕ → Owner → Sat → Sat → Type 0) → IsValid o
       → Hits key slots id me (on_owner key n (packed o) (packed p)) (λ _ m _. wins n o m)
       → Exchanges key slots id me (on_owner key n (packed o) (packed p)) (tries_to wins)
-  expecting n o p wins valid hit s r deep at small = let t : Shot = on_owner key n (packed o) (packed p) in
-      let ended = cas key slots id me seated t (ends_as wins)
+  expecting n o p wins valid hit = let ended : Exchanges key slots id me (on_owner key n (packed o) (packed p)) (ends_as wins) =
+      cas key slots id me seated
       (record { view = made.stepped view; same = refl; has = λ m. refl; knows = λ c k. mine_stepped c view k })
       (λ s r at found. let h = hit s r at found in (
         h.0,
@@ -228,23 +228,27 @@ module _ (key : Start) (slots id : ℕ) (me : Sat) (seated : me.0.seated ≡ tru
           λ no. absurd (no told.2),
         )),
       ))
-      (λ s r at ne j q told. ((λ z. absurd (ne (z ∙ sym told.2))), λ _. refl)) s r deep at small in (
-        ended.0,
-        ended.1,
-        ended.2,
-        ended.3,
-        λ j q told. (
-          (ended.4 j q told).0,
-          (ended.4 j q told).1,
-          λ sees. ap (λ (i : ℕ). get_or s.words i 0) (told.0 ∙ at_room key s r id me at seated j) ∙ word_is_seen key s r id me at seated j q sees,
-        ),
-      )
+      (λ s r at ne j q told. ((λ z. absurd (ne (z ∙ sym told.2))), λ _. refl)) in record {
+        allowed = λ s r deep at small. let done = ended.allowed s r deep at small in (
+          done.0,
+          done.1,
+          done.2,
+          done.3,
+          λ j q told. (
+            (done.4 j q told).0,
+            (done.4 j q told).1,
+            λ sees. ap (λ (i : ℕ). get_or s.words i 0) (told.0 ∙ at_room key s r id me at seated j) ∙ word_is_seen key s r id me at seated j q sees,
+          ),
+        );
+      }
 
   -- what a step tells its caller, and what follows of the number that it finds from the rule before it
-  and_finds : (t : Shot) (then : Step Cell → Sat → ℕ → Sat → Type 0) (Q : ℕ → Type 0)
-      → ((s : St) (r : Ruled key s) → get_elem? s.views id ≡ some me.0 → Q (get_or s.words t.word 0))
-      → Exchanges key slots id me t then → Exchanges key slots id me t (λ st m x m'. then st m x m' × Q x)
-  and_finds t then Q tells step s r deep at small = let h = step s r deep at small in (h.0, h.1, h.2, h.3, (h.4, tells s r at))
+  and_finds : (t : Shot) (then : Step Cell → Sat → ℕ → Sat → Type 0) (Q : Step Cell → Sat → ℕ → Type 0)
+      → ((s : St) (r : Ruled key s) → get_elem? s.views id ≡ some me.0 → Q (as_step slots t) me (get_or s.words t.word 0))
+      → Exchanges key slots id me t then → Exchanges key slots id me t (λ st m x m'. then st m x m' × Q st m x)
+  and_finds t then Q tells e = record {
+    allowed = λ s r deep at small. let h = e.allowed s r deep at small in (h.0, h.1, h.2, h.3, (h.4, tells s r at));
+  }
 
   pub joins_list : (n : ℕ) (o : Owner) → MayJoin view n o → IsValid o
       → Exchanges key slots id me (on_owner key n (packed o) (packed (with_waiters o))) (tries_to joins)
@@ -326,7 +330,7 @@ module _ (key : Start) (slots id : ℕ) (me : Sat) (seated : me.0.seated ≡ tru
       → Exchanges key slots id me (on_owner key n (packed o) (packed (rest_word (left view.list view.who) o))) dies_to
   dies_waiting n o k may valid = let p : Owner = rest_word (left view.list view.who) o in
       and_finds (on_owner key n (packed o) (packed p)) (tries_to dies)
-      (λ _. (m : ℕ) (p : Owner) (j : ℕ) → MayDie view m p j → j < view.stamp)
+      (λ _ me _. (m : ℕ) (p : Owner) (j : ℕ) → MayDie me.0.part.core m p j → j < me.0.part.core.stamp)
       (λ s r at m p j dies. death_is_older r.core view (reached_is_lawful r.core r.reached) (mine key s r id me at seated).part.knows m p j dies)
       (expecting n o p dies valid
       (λ s r at hit. (
@@ -343,7 +347,7 @@ module _ (key : Start) (slots id : ℕ) (me : Sat) (seated : me.0.seated ≡ tru
       → Exchanges key slots id me (on_owner key n (packed o) (packed (rest_word (left view.list view.who) o))) leaves_to
   stops_waiting n o may valid = let p : Owner = rest_word (left view.list view.who) o in
       and_finds (on_owner key n (packed o) (packed p)) (tries_to stops)
-      (λ x. (m : ℕ) (q : Owner) → MayStop view m → view.seen ≡ Some q → lock_at key.locks n ≡ lock_at view.room m → x ≡ packed q)
+      (λ st me x. (m : ℕ) (q : Owner) → MayStop me.0.part.core m → me.0.part.core.seen ≡ Some q → st.word ≡ lock_at me.0.part.core.room m → x ≡ packed q)
       (λ s r at m q stop saw there. let k = (mine key s r id me at seated).part.knows in let h = k.queues.waited m stop.waits in
       ap (λ (j : ℕ). get_or s.words j 0) (there ∙ at_room key s r id me at seated m) ∙ word_is_seen key s r id me at seated m q
       (record {
@@ -362,7 +366,7 @@ module _ (key : Start) (slots id : ℕ) (me : Sat) (seated : me.0.seated ≡ tru
 
   pub cancels : (u : ℕ) → u < view.seats → IsAway view
       → Exchanges key slots id me (record { word = cancel_at view.room u; old = 0; new = view.who + 1 }) cancels_to
-  cancels u low away = cas key slots id me seated (record { word = cancel_at view.room u; old = 0; new = view.who + 1 }) cancels_to
+  cancels u low away = cas key slots id me seated
       (record { view = made.found_pending view; same = refl; has = λ m. refl; knows = λ c k. mine_found_pending c view k })
       (λ s r at hit. let same = room_is key s r id me at seated in
       let here : cancel_at key.locks u ≡ cancel_at view.room u = (let z = ap (λ (l : ℕ). lock_at l l) same.0 in omega arith) in (
@@ -409,32 +413,34 @@ module _ (key : Start) (slots id : ℕ) (me : Sat) (seated : me.0.seated ≡ tru
 
   pub signs : (n u k : ℕ) → u < view.seats → MaySign view n u k
       → Exchanges key slots id me (record { word = sign_at view.room u; old = 0; new = k }) signs_to
-  signs n u k below may s r deep at small = let x : ℕ = get_or s.words (sign_at view.room u) 0 in let v : View = view in
-      let same_room = room_is key s r id me at seated in
-      let is : sign_at v.room u ≡ lock_at key.locks key.locks + 8 * u = (let z = ap (λ (l : ℕ). lock_at l l) same_room.0 in omega arith) in
-      let low : u < key.places = (let z = same_room.1 in omega arith) in
-      let tells : x ≡ r.core.sign u = ap (λ (j : ℕ). get_or s.words j 0) is ∙ r.words.signs u low in
-      let same : (w : ℕ) → sign_at v.room u ≡ sign_at v.room w → u ≡ w = λ w there. omega arith in dite (ℕ_discrete x 0)
-      (λ e. (
-        condemning me.0 u,
-        keeps,
-        tt,
-        exchanged x 0 k (λ y. Ruled key (stepped s (sign_at v.room u) y id me.1 (condemning me.0 u) keeps))
-            (λ _. subst (λ (j : ℕ). Ruled key (stepped s j k id me.1 (condemning me.0 u) keeps)) (sym is)
-            (sign_makes key s r id me at seated n u k may low
-            (ap (λ (j : ℕ). get_or s.words j 0) (sym is) ∙ e)).ruled)
-            (λ ne. absurd (ne e)),
-        (λ w there. ((λ _. ap (λ (t : ℕ). let m : Sat = (condemning me.0 t, me.1) in m) (same w there)), λ ne. absurd (ne e))),
-      ))
-      (λ ne. (
-        noting me.0 u,
-        keeps,
-        tt,
-        exchanged x 0 k (λ y. Ruled key (stepped s (sign_at v.room u) y id me.1 (noting me.0 u) keeps)) (λ e. absurd (ne e))
-            (λ _. looks key s r id me at seated (sign_at v.room u) (made.noted v u) refl (λ m. refl)
-            (mine_lost_sign r.core v (mine key s r id me at seated).part.knows u (λ z. ne (tells ∙ z)))),
-        (λ w there. ((λ e. absurd (ne e)), λ _. ap (λ (t : ℕ). let m : Sat = (noting me.0 t, me.1) in m) (same w there))),
-      ))
+  signs n u k below may = record {
+    allowed = λ s r deep at small. let x : ℕ = get_or s.words (sign_at view.room u) 0 in let v : View = view in
+        let same_room = room_is key s r id me at seated in
+        let is : sign_at v.room u ≡ lock_at key.locks key.locks + 8 * u = (let z = ap (λ (l : ℕ). lock_at l l) same_room.0 in omega arith) in
+        let low : u < key.places = (let z = same_room.1 in omega arith) in
+        let tells : x ≡ r.core.sign u = ap (λ (j : ℕ). get_or s.words j 0) is ∙ r.words.signs u low in
+        let same : (w : ℕ) → sign_at v.room u ≡ sign_at v.room w → u ≡ w = λ w there. omega arith in dite (ℕ_discrete x 0)
+        (λ e. (
+          condemning me.0 u,
+          keeps,
+          tt,
+          exchanged x 0 k (λ y. Ruled key (stepped s (sign_at v.room u) y id me.1 (condemning me.0 u) keeps))
+              (λ _. subst (λ (j : ℕ). Ruled key (stepped s j k id me.1 (condemning me.0 u) keeps)) (sym is)
+              (sign_makes key s r id me at seated n u k may low
+              (ap (λ (j : ℕ). get_or s.words j 0) (sym is) ∙ e)).ruled)
+              (λ ne. absurd (ne e)),
+          (λ w there. ((λ _. ap (λ (t : ℕ). let m : Sat = (condemning me.0 t, me.1) in m) (same w there)), λ ne. absurd (ne e))),
+        ))
+        (λ ne. (
+          noting me.0 u,
+          keeps,
+          tt,
+          exchanged x 0 k (λ y. Ruled key (stepped s (sign_at v.room u) y id me.1 (noting me.0 u) keeps)) (λ e. absurd (ne e))
+              (λ _. looks key s r id me at seated (sign_at v.room u) (made.noted v u) refl (λ m. refl)
+              (mine_lost_sign r.core v (mine key s r id me at seated).part.knows u (λ z. ne (tells ∙ z)))),
+          (λ w there. ((λ e. absurd (ne e)), λ _. ap (λ (t : ℕ). let m : Sat = (noting me.0 t, me.1) in m) (same w there))),
+        ));
+  }
 
   pub reads : (i : ℕ) → i ≡ sign_at view.room view.who → Allows (Ruled key) slots id me i (λ x. x) (reads_to (step slots i 0 0 none) me)
   reads i there s r deep at small = let x : ℕ = get_or s.words i 0 in

@@ -511,17 +511,21 @@ abbrev pub as_step : ℕ → Shot → Step Cell
 as_step slots t = step slots t.word t.old t.new none
 
 -- the rule allows it to seat `id`, which is this one, at a table of so many slots; and then it is told this
-abbrev pub Exchanges : Start → ℕ → ℕ → Sat → Shot → (Step Cell → Sat → ℕ → Sat → Type 0) → Type 0
-Exchanges key slots id me t then = Allows (Ruled key) slots id me t.word (λ x. either (eqb x t.old) t.new x) (then (as_step slots t) me)
+abbrev pub Allowed : Start → ℕ → ℕ → Sat → Shot → (Step Cell → Sat → ℕ → Sat → Type 0) → Type 0
+Allowed key slots id me t then = Allows (Ruled key) slots id me t.word (λ x. either (eqb x t.old) t.new x) (then (as_step slots t) me)
+
+-- ... as a record, so that whoever takes it knows of which seat and numbers it is
+pub record Exchanges (key : Start) (slots id : ℕ) (me : Sat) (t : Shot) (then : Step Cell → Sat → ℕ → Sat → Type 0) : Type 0 where
+  pub allowed : Allowed key slots id me t then
 
 -- ... and so to a seat that equals it, by numbers that equal those
-pub same_shot : (key : Start) (slots id : ℕ) (then : Step Cell → Sat → ℕ → Sat → Type 0) {m me : Sat} {i j old was new is : ℕ}
+pub same_shot : {key : Start} {slots id : ℕ} {then : Step Cell → Sat → ℕ → Sat → Type 0} {m me : Sat} {i j old was new is : ℕ}
     → me ≡ m → i ≡ j → old ≡ was → new ≡ is → Exchanges key slots id m (record { word = j; old = was; new = is }) then
-    → Exchanges key slots id me (record { word = i; old = old; new = new }) then
-same_shot key slots id then same at before after = subst (λ (x : Sat × Shot). Exchanges key slots id x.0 x.1 then)
-    (λ k. (sym same k, record { word = sym at k; old = sym before k; new = sym after k }))
+    → Allowed key slots id me (record { word = i; old = old; new = new }) then
+same_shot {key} {slots} {id} {then} same at before after e = (subst (λ (x : Sat × Shot). Exchanges key slots id x.0 x.1 then)
+    (λ k. (sym same k, record { word = sym at k; old = sym before k; new = sym after k })) e).allowed
 
--- what comes of it where the word is the one expected
+-- where the word is the one expected, the table that keeps the rule may go on so
 abbrev pub Hits : Start → ℕ → ℕ → Sat → Shot → (Step Cell → Sat → ℕ → Sat → Type 0) → Type 0
 Hits key slots id me t then = (s : St) (r : Ruled key s) → get_elem? s.views id ≡ some me.0 → get_or s.words t.word 0 ≡ t.old → (w : Sight)
     × (a : Act Cell) × Valid s.homes me.1 a × Ruled key (stepped s t.word t.new id me.1 w a)
@@ -538,26 +542,28 @@ module _ (key : Start) (slots id : ℕ) (me : Sat) (seated : me.0.seated ≡ tru
   abbrev view : View
   view = me.0.part.core
 
-  -- by its two cases; where it is lost only what the view knows changes
-  pub cas : (t : Shot) (then : Step Cell → Sat → ℕ → Sat → Type 0) (vain : Vain view) → Hits key slots id me t then
+  -- a compare-exchange by its two cases; where it is lost only what the view knows changes
+  pub cas : {t : Shot} {then : Step Cell → Sat → ℕ → Sat → Type 0} (vain : Vain view) → Hits key slots id me t then
       → ((s : St) (r : Ruled key s) → get_elem? s.views id ≡ some me.0 → get_or s.words t.word 0 ≢ t.old
       → then (as_step slots t) me (get_or s.words t.word 0) (knowing me.0 vain.view, me.1)) → Exchanges key slots id me t then
-  cas t then vain hit miss s r deep at small = let x : ℕ = get_or s.words t.word 0 in dite (ℕ_discrete x t.old)
-      (λ e. let h = hit s r at e in (
-        h.0,
-        h.1,
-        h.2,
-        exchanged x t.old t.new (λ y. Ruled key (stepped s t.word y id me.1 h.0 h.1)) (λ _. h.3) (λ ne. absurd (ne e)),
-        subst (λ y. then (as_step slots t) me y (h.0, carried_after me.1 h.1)) (sym e) h.4,
-      ))
-      (λ ne. (
-        knowing me.0 vain.view,
-        keeps,
-        tt,
-        exchanged x t.old t.new (λ y. Ruled key (stepped s t.word y id me.1 (knowing me.0 vain.view) keeps)) (λ e. absurd (ne e))
-            (λ _. looks key s r id me at seated t.word vain.view vain.same vain.has (vain.knows r.core (mine key s r id me at seated).part.knows)),
-        miss s r at ne,
-      ))
+  cas {t} {then} vain hit miss = record {
+    allowed = λ s r deep at small. let x : ℕ = get_or s.words t.word 0 in dite (ℕ_discrete x t.old)
+        (λ e. let h = hit s r at e in (
+          h.0,
+          h.1,
+          h.2,
+          exchanged x t.old t.new (λ y. Ruled key (stepped s t.word y id me.1 h.0 h.1)) (λ _. h.3) (λ ne. absurd (ne e)),
+          subst (λ y. then (as_step slots t) me y (h.0, carried_after me.1 h.1)) (sym e) h.4,
+        ))
+        (λ ne. (
+          knowing me.0 vain.view,
+          keeps,
+          tt,
+          exchanged x t.old t.new (λ y. Ruled key (stepped s t.word y id me.1 (knowing me.0 vain.view) keeps)) (λ e. absurd (ne e))
+              (λ _. looks key s r id me at seated t.word vain.view vain.same vain.has (vain.knows r.core (mine key s r id me at seated).part.knows)),
+          miss s r at ne,
+        ));
+  }
 
   abbrev missed : Vain view
   missed = record { view = fast_missed view; same = refl; has = λ m. refl; knows = λ c k. mine_missed c view k }
@@ -570,7 +576,7 @@ module _ (key : Start) (slots id : ℕ) (me : Sat) (seated : me.0.seated ≡ tru
 
   pub takes_free : (n : ℕ) → n < length (first_graph key) → MayFast view
       → Exchanges key slots id me (on_owner key n 0 (packed (taker view))) takes_to
-  takes_free n small may = cas (on_owner key n 0 (packed (taker view))) takes_to missed
+  takes_free n small may = cas missed
       (λ s r at hit. let x : Node = node_at (last_graph (first_graph key) r.log) n in
       let m = fast_makes key s r id me at seated n small may hit in (
         taking me.0 n x,
@@ -591,7 +597,7 @@ module _ (key : Start) (slots id : ℕ) (me : Sat) (seated : me.0.seated ≡ tru
   pub gives_free : (n : ℕ) (x : Node) → n < length (first_graph key) → IsAway view → owns view n ≡ true
       → get_elem? me.0.held n ≡ some (Some x) → me.1 ≡ (n, Content x) ∷ rest me.1
       → Exchanges key slots id me (on_owner key n (packed (taker view)) 0) gives_to
-  gives_free n x small away own has top = cas (on_owner key n (packed (taker view)) 0) gives_to kept
+  gives_free n x small away own has top = cas kept
       (λ s r at hit. (
         giving me.0 n,
         gives,
@@ -609,8 +615,8 @@ module _ (key : Start) (slots id : ℕ) (me : Sat) (seated : me.0.seated ≡ tru
       (told key s r id me at seated n low away)
 
   -- of a lock that guards no node: its view where the word is the one expected; and where it is another, if it owns the lock and if not
-  abbrev bare_to : ℕ → (ℕ → View) → View → View → Step Cell → Sat → ℕ → Sat → Type 0
-  bare_to old won owner other st m found m' = (j : ℕ) → st.word ≡ lock_at view.room j → IsToldBy view j found
+  abbrev bare_to : ℕ → (ℕ → View) → View → View → ℕ → ℕ → Sat → Type 0
+  bare_to old won owner other word found m' = (j : ℕ) → word ≡ lock_at view.room j → IsToldBy view j found
       × (found ≡ old → m' ≡ (knowing me.0 (won j), me.1))
       × (found ≢ old → owns view j ≡ true → m' ≡ (knowing me.0 owner, me.1))
       × (found ≢ old → owns view j ≡ false → m' ≡ (knowing me.0 other, me.1))
@@ -618,9 +624,10 @@ module _ (key : Start) (slots id : ℕ) (me : Sat) (seated : me.0.seated ≡ tru
   tries_bare : (n old new : ℕ) (won : ℕ → View) (owner other : Vain view) → n < key.locks → IsAway view
       → ((s : St) (r : Ruled key s) → get_elem? s.views id ≡ some me.0 → get_or s.words (lock_at key.locks n) 0 ≡ old
       → Ruled key (stepped s (lock_at key.locks n) new id me.1 (knowing me.0 (won n)) keeps))
-      → Exchanges key slots id me (on_owner key n old new) (bare_to old won owner.view other.view)
+      → Exchanges key slots id me (on_owner key n old new) (λ st _. bare_to old won owner.view other.view st.word)
   tries_bare n old new won owner other low away keeps_rule = let t : Shot = on_owner key n old new in
-      let hits : Hits key slots id me t (bare_to old won owner.view other.view) =
+      let then : Step Cell → Sat → ℕ → Sat → Type 0 = λ st _. bare_to old won owner.view other.view st.word in
+      let hits : Hits key slots id me t then =
       λ s r at hit. (
         knowing me.0 (won n),
         keeps,
@@ -633,14 +640,14 @@ module _ (key : Start) (slots id : ℕ) (me : Sat) (seated : me.0.seated ≡ tru
           (λ no. absurd (no refl)),
         )),
       ) in elim (true_or_false (owns view n)) [
-        | inl own ↦ cas t (bare_to old won owner.view other.view) owner hits
+        | inl own ↦ cas owner hits
             (λ s r at ne j there. let e : n ≡ j = same_lock key s r id me at seated n j there in (
               word_tells n low away s r at j e,
               (λ z. absurd (ne z)),
               (λ _ _. refl),
               (λ _ no. absurd (true≢false (sym own ∙ ap (owns view) e ∙ no))),
             ))
-        | inr lacks ↦ cas t (bare_to old won owner.view other.view) other hits
+        | inr lacks ↦ cas other hits
             (λ s r at ne j there. let e : n ≡ j = same_lock key s r id me at seated n j there in (
               word_tells n low away s r at j e,
               (λ z. absurd (ne z)),
@@ -651,15 +658,19 @@ module _ (key : Start) (slots id : ℕ) (me : Sat) (seated : me.0.seated ≡ tru
 
   pub takes_bare : (n : ℕ) → length (first_graph key) ≤ n → n < key.locks → MayFast view
       → Exchanges key slots id me (on_owner key n 0 (packed (taker view))) takes_bare_to
-  takes_bare n big low may = tries_bare n 0 (packed (taker view)) (fast_taken view) still missed low may.away
-      (λ s r at hit. (bare_makes key s r id me at seated n big low may hit).ruled)
+  takes_bare n big low may = record {
+    allowed = (tries_bare n 0 (packed (taker view)) (fast_taken view) still missed low may.away
+        (λ s r at hit. (bare_makes key s r id me at seated n big low may hit).ruled)).allowed;
+  }
 
   pub gives_bare : (n : ℕ) → length (first_graph key) ≤ n → n < key.locks → IsAway view
       → Exchanges key slots id me (on_owner key n (packed (taker view)) 0) gives_bare_to
-  gives_bare n big low away = tries_bare n (packed (taker view)) 0 (fast_given view) kept still low away
-      (λ s r at hit. (bare_give_makes key s r id me at seated n big low away
-      (told key s r id me at seated n low away ∙ ap (λ (y : ℕ). unflagged y == unflagged (packed (taker view))) hit
-      ∙ number_same (unflagged (packed (taker view))) (unflagged (packed (taker view))) refl) (taker_valid key s r id me at seated) hit).ruled)
+  gives_bare n big low away = record {
+    allowed = (tries_bare n (packed (taker view)) 0 (fast_given view) kept still low away
+        (λ s r at hit. (bare_give_makes key s r id me at seated n big low away
+        (told key s r id me at seated n low away ∙ ap (λ (y : ℕ). unflagged y == unflagged (packed (taker view))) hit
+        ∙ number_same (unflagged (packed (taker view))) (unflagged (packed (taker view))) refl) (taker_valid key s r id me at seated) hit).ruled)).allowed;
+  }
 
   -- a look from outside whether the seat owns a lock
   pub owns_outside : (n i : ℕ) → i ≡ lock_at key.locks n → n < key.locks → IsAway view

@@ -6,6 +6,7 @@ use mathlib.Core.Logic.{dite}
 use native.Mathlib.Decide.{ℕ_discrete}
 use Rattle.atomic_table.specs.declared.shared.Seat.{Seat}
 use Rattle.atomic_table.specs.Seated.{TableId}
+use Rattle.atomic_table.specs.Table.{Step}
 use Rattle.ww_plain.specs.declared.history.Record.{Record}
 use Rattle.ww_word.specs.declared.wide.Owner.{Owner}
 use Rattle.ww_word.specs.AnySeats.{Fits, IsValid, packed, most_for}
@@ -16,6 +17,7 @@ use Rattle.ww_invariant.specs.declared.cells.Cell.{Cell}
 use Rattle.ww_invariant.specs.declared.cells.Part.{Part}
 use Rattle.ww_invariant.specs.declared.cells.Sight.{Sight}
 use Rattle.ww_invariant.proofs.Lies.{lock_next, lock_low}
+use Rattle.ww_invariant.proofs.Moves.{Allowed, Exchanges, on_owner, same_shot}
 use Rattle.ww_invariant.specs.Rule.{Sat, IsSize}
 use Rattle.ww_invariant.specs.Out.{numbers_of}
 use Rattle.ww_invariant.specs.Guards.{lost}
@@ -141,6 +143,14 @@ has_word b n i low at = let z = b.sized.0 in let few = b.few in let many = b.man
 
 pub has_lock : (b : Board) (n i : ℕ) → n < locks_of b → i ≡ lock_at b.locks n → i < b.table.shared.table_id.words
 has_lock b n i low at = let same = at ∙ by_rule b n in has_word b n i low (omega arith)
+
+-- a compare-exchange on a lock's word is the one that the rule allows, by the numbers and the seat that it is made with
+pub on_lock : (b : Board) (n : ℕ) {home : TableId} {slots id : ℕ} {then : Step Cell → Sat → ℕ → Sat → Type 0} {m me : Sat} {i old new was is : ℕ}
+    → home ≡ b.table.shared.table_id → n < locks_of b → me ≡ m → i ≡ lock_at b.locks n → old ≡ was → new ≡ is
+    → Exchanges b.table.shared.key slots id m (on_owner b.table.shared.key n was is) then
+    → (home ≡ b.table.shared.table_id) × (i < b.table.shared.table_id.words)
+    × Allowed b.table.shared.key slots id me (record { word = i; old = old; new = new }) then
+on_lock b n home low same at before after e = (home, has_lock b n _ low at, same_shot same (at ∙ by_rule b n) before after e)
 
 -- those of a seat, by its own number of locks and by that of its view
 pub sign_by_view : {table : TableId} {s : Stepper} (k : ℕ) → IsSeated table s → sign_at s.room k ≡ sign_at (view_of s).room k

@@ -1,20 +1,16 @@
 use Rattle.std.proofs.Common.{◌==◌, ap, sym, refl, ◌∙◌, eq-eqb, inl}
 use Rattle.ww_word.specs.AnySeats.{packed}
 use Rattle.ww_invariant.specs.Guards.{lost}
-use Rattle.ww_invariant.specs.Waiting.{tries_to, asks, asking}
+use Rattle.ww_invariant.specs.Waiting.{asking}
 use Rattle.ww_invariant.proofs.InsideSteps.{asks_lock}
-use Rattle.ww_invariant.proofs.Moves.{same_shot}
 use Rattle.ww_table.specs.Steps.{IsEither}
-use Rattle.ww_table.proofs.Seated.{has_lock, either, by_rule, by_view}
+use Rattle.ww_table.proofs.Seated.{on_lock, either, by_view}
 use Rattle.ww_table.proofs.seat.Stepper.ask.Goals as goal
 
 pub compare_exchange-requires : goal.compare_exchange-requires
-compare_exchange-requires c = let may = c.requires.may in (
-  c.requires.at.home,
-  has_lock c.args.board.now c.args.lock _ may.lock c.owner_word.ensures,
-  same_shot _ _ _ (tries_to asks) refl (c.owner_word.ensures ∙ by_rule c.args.board.now c.args.lock) c.pack-old.ensures
-      (c.pack-new.ensures ∙ ap packed c.with_flags.ensures) (asks_lock _ _ _ _ c.requires.at.seated c.args.lock c.args.seen may.may may.valid),
-)
+compare_exchange-requires c = let may = c.requires.may in
+    on_lock c.args.board.now c.args.lock c.requires.at.home may.lock refl c.owner_word.ensures c.pack-old.ensures
+    (c.pack-new.ensures ∙ ap packed c.with_flags.ensures) (asks_lock _ _ _ _ c.requires.at.seated c.args.lock c.args.seen may.may may.valid)
 
 pub returns : goal.returns
 returns c = let s = c.requires.at in let may = c.requires.may in let e = c.compare_exchange.ensures in

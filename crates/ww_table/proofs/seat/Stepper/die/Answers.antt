@@ -3,22 +3,18 @@ use Rattle.ww_word.specs.AnySeats.{packed}
 use Rattle.ww_view.specs.May.{MayDie}
 use Rattle.ww_invariant.specs.declared.cells.Sight.{Sight}
 use Rattle.ww_invariant.specs.Rule.{Sat}
-use Rattle.ww_invariant.specs.Waiting.{dies, dies_to, dying}
+use Rattle.ww_invariant.specs.Waiting.{dies, dying}
 use Rattle.ww_invariant.proofs.InsideSteps.{dies_waiting}
-use Rattle.ww_invariant.proofs.Moves.{same_shot}
 use Rattle.ww_table.specs.declared.seat.Stepper.{Stepper}
 use Rattle.ww_table.proofs.OnTop.{list_there, in_vain, went}
-use Rattle.ww_table.proofs.Seated.{IsTold, has_lock, expected, by_rule}
+use Rattle.ww_table.proofs.Seated.{IsTold, on_lock, expected}
 use Rattle.ww_table.proofs.seat.Stepper.die.Goals.{After-compare_exchange-found}
 use Rattle.ww_table.proofs.seat.Stepper.die.Goals as goal
 
 pub compare_exchange-found-requires : goal.compare_exchange-found-requires
-compare_exchange-found-requires c = let r = c.owner_left-rest.ensures in let may = c.requires.may in (
-  r.seat.home,
-  has_lock c.args.board.now c.args.lock _ may.lock c.owner_word.ensures,
-  same_shot _ _ _ dies_to r.read.now (c.owner_word.ensures ∙ by_rule c.args.board.now c.args.lock) c.pack-old.ensures
-      (c.pack-new.ensures ∙ ap packed r.owner) (dies_waiting _ _ _ _ c.requires.at.seated c.args.lock c.args.seen _ may.may.1 may.valid),
-)
+compare_exchange-found-requires c = let r = c.owner_left-rest.ensures in let may = c.requires.may in
+    on_lock c.args.board.now c.args.lock r.seat.home may.lock r.read.now c.owner_word.ensures c.pack-old.ensures
+    (c.pack-new.ensures ∙ ap packed r.owner) (dies_waiting _ _ _ _ c.requires.at.seated c.args.lock c.args.seen _ may.may.1 may.valid)
 
 told : (c : After-compare_exchange-found) → IsTold dies c.args.lock c.args.seen c.owner_left-rest.new.self.seat.me
     c.compare_exchange-found.result c.compare_exchange-found.new.seat.me

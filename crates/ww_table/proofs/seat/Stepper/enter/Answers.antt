@@ -1,6 +1,6 @@
 use Rattle.std.proofs.Common.{arith, ℕ, List, [], ◌∷◌, ◌++◌, length, ap, sym, refl, ◌∙◌, ◌+◌}
 use Rattle.ww_invariant.specs.Out.{numbers_of}
-use Rattle.ww_invariant.specs.Guards.{enters_to, entering, shutting_out}
+use Rattle.ww_invariant.specs.Guards.{entering, shutting_out}
 use Rattle.ww_invariant.proofs.InsideSteps.{enters}
 use Rattle.ww_invariant.proofs.Moves.{same_shot}
 use Rattle.ww_invariant.proofs.Turning.{numbers_long}
@@ -12,7 +12,7 @@ compare_exchange-found-requires c = let s = c.requires.at in let may = c.require
     let word = c.guard_word.ensures ∙ ap (λ (i : ℕ). i + 1) (by_rule c.args.board.now c.args.lock) in (
       s.home,
       has_word c.args.board.now c.args.lock _ may.lock (omega (arith, word)),
-      same_shot _ _ _ enters_to refl word refl (let z = s.who in omega arith) (enters _ _ _ _ s.seated c.args.lock may.lock may.may),
+      same_shot refl word refl (let z = s.who in omega arith) (enters _ _ _ _ s.seated c.args.lock may.lock may.may),
     )
 
 pub push-requires : goal.push-requires

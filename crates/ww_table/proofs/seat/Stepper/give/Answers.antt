@@ -6,14 +6,13 @@ use Rattle.ww_invariant.specs.declared.cells.Cell.TheVariants.{Content, Line}
 use Rattle.ww_invariant.specs.declared.cells.Sight.{Sight}
 use Rattle.ww_invariant.specs.Rule.{Sat}
 use Rattle.ww_invariant.specs.Out.{numbers_of, AreOthers}
-use Rattle.ww_invariant.specs.Waiting.{IsStillThere, tries_to, gives_inside, giving_inside}
+use Rattle.ww_invariant.specs.Waiting.{IsStillThere, giving_inside}
 use Rattle.ww_invariant.proofs.InsideSteps.{gives_lock}
 use Rattle.ww_invariant.proofs.InsideTurning.{given_valid}
-use Rattle.ww_invariant.proofs.Moves.{same_shot}
 use Rattle.ww_invariant.proofs.Turning.{popped}
 use Rattle.ww_table.specs.declared.seat.Stepper.{Stepper}
 use Rattle.ww_table.proofs.OnTop.{node_out, node_brought}
-use Rattle.ww_table.proofs.Seated.{has_lock, seated_as, by_rule, by_view}
+use Rattle.ww_table.proofs.Seated.{on_lock, seated_as, by_view}
 use Rattle.ww_table.proofs.seat.Stepper.give.Goals as goal
 
 pub bring-requires-clause-out : goal.bring-requires-clause-out
@@ -26,14 +25,11 @@ pack-new-requires c = subst IsValid (sym (c.next_owner-owner.ensures.owner ∙ a
 
 pub compare_exchange-requires : goal.compare_exchange-requires
 compare_exchange-requires c = let r = c.next_owner-owner.ensures in let b = c.bring.ensures in let may = c.requires.may in let out = may.out in
-    let n = node_brought _ _ c.args.lock out.0 r.read out.1 b.slots in (
-      b.home.0 ∙ r.seat.home,
-      has_lock c.args.board.now c.args.lock _ (let fits = c.args.board.now.fits in let low = may.lock in omega arith) c.owner_word.ensures,
-      same_shot _ _ _ (tries_to gives_inside) (λ i. ((b.view ∙ ap (λ (m : Sat). m.0) r.read.now) i, n.1 i))
-          (c.owner_word.ensures ∙ by_rule c.args.board.now c.args.lock) c.pack-old.ensures
-          (c.pack-new.ensures ∙ ap packed (r.owner ∙ ap (λ (f : ℕ). given_word (f == 3) c.args.self.now.seat.me.0.part.core.list) c.flags.ensures))
-          (gives_lock _ _ _ _ c.requires.at.seated c.args.lock c.args.seen out.0 may.may out.2 may.valid refl),
-    )
+    let n = node_brought _ _ c.args.lock out.0 r.read out.1 b.slots in
+    on_lock c.args.board.now c.args.lock (b.home.0 ∙ r.seat.home) (let fits = c.args.board.now.fits in let low = may.lock in omega arith)
+    (λ i. ((b.view ∙ ap (λ (m : Sat). m.0) r.read.now) i, n.1 i)) c.owner_word.ensures c.pack-old.ensures
+    (c.pack-new.ensures ∙ ap packed (r.owner ∙ ap (λ (f : ℕ). given_word (f == 3) c.args.self.now.seat.me.0.part.core.list) c.flags.ensures))
+    (gives_lock _ _ _ _ c.requires.at.seated c.args.lock c.args.seen out.0 may.may out.2 may.valid refl)
 
 pub returns : goal.returns
 returns c = let r = c.next_owner-owner.ensures in let t = r.read in let b = c.bring.ensures in let may = c.requires.may in let out = may.out in

@@ -4,13 +4,11 @@ use Rattle.ww_view.specs.Made.{given}
 use Rattle.ww_view.specs.Word.{given_word}
 use Rattle.ww_invariant.specs.Rule.{Sat}
 use Rattle.ww_invariant.specs.Steps.{knowing}
-use Rattle.ww_invariant.specs.Waiting.{tries_to, gives_bare_inside}
 use Rattle.ww_invariant.proofs.InsideSteps.{gives_lock_bare}
 use Rattle.ww_invariant.proofs.InsideTurning.{given_valid}
-use Rattle.ww_invariant.proofs.Moves.{same_shot}
 use Rattle.ww_table.specs.declared.seat.Stepper.{Stepper}
 use Rattle.ww_table.proofs.OnTop.{still_there}
-use Rattle.ww_table.proofs.Seated.{has_lock, expected, stepped, by_rule}
+use Rattle.ww_table.proofs.Seated.{on_lock, expected, stepped}
 use Rattle.ww_table.proofs.seat.Stepper.give_bare_inside.Goals as goal
 
 pub pack-new-requires : goal.pack-new-requires
@@ -18,13 +16,10 @@ pack-new-requires c = subst IsValid (sym (c.next_owner-owner.ensures.owner ∙ a
     (given_valid (c.args.seen.flags == 3) c.args.self.now.seat.me.0.part.core.seats c.args.self.now.seat.me.0.part.core.list c.requires.may.waiters)
 
 pub compare_exchange-requires : goal.compare_exchange-requires
-compare_exchange-requires c = let r = c.next_owner-owner.ensures in let may = c.requires.may in (
-  r.seat.home,
-  has_lock c.args.board.now c.args.lock _ may.lock.1 c.owner_word.ensures,
-  same_shot _ _ _ (tries_to gives_bare_inside) r.read.now (c.owner_word.ensures ∙ by_rule c.args.board.now c.args.lock) c.pack-old.ensures
-      (c.pack-new.ensures ∙ ap packed (r.owner ∙ ap (λ (f : ℕ). given_word (f == 3) c.args.self.now.seat.me.0.part.core.list) c.flags.ensures))
-      (gives_lock_bare _ _ _ _ c.requires.at.seated c.args.lock c.args.seen may.lock.0 may.may may.valid),
-)
+compare_exchange-requires c = let r = c.next_owner-owner.ensures in let may = c.requires.may in
+    on_lock c.args.board.now c.args.lock r.seat.home may.lock.1 r.read.now c.owner_word.ensures c.pack-old.ensures
+    (c.pack-new.ensures ∙ ap packed (r.owner ∙ ap (λ (f : ℕ). given_word (f == 3) c.args.self.now.seat.me.0.part.core.list) c.flags.ensures))
+    (gives_lock_bare _ _ _ _ c.requires.at.seated c.args.lock c.args.seen may.lock.0 may.may may.valid)
 
 pub returns : goal.returns
 returns c = let r = c.next_owner-owner.ensures in let t = r.read in let may = c.requires.may in let e = c.compare_exchange.ensures in

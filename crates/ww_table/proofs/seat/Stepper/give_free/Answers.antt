@@ -3,22 +3,19 @@ use Rattle.atomic_table.specs.Table.{rest}
 use Rattle.ww_invariant.specs.declared.cells.Cell.TheVariants.{Content}
 use Rattle.ww_invariant.specs.declared.cells.Sight.{Sight}
 use Rattle.ww_invariant.specs.Out.{numbers_of, AreOthers}
-use Rattle.ww_invariant.specs.Steps.{gives_to, giving, keeping}
-use Rattle.ww_invariant.proofs.Moves.{same_shot, gives_free}
+use Rattle.ww_invariant.specs.Steps.{giving, keeping}
+use Rattle.ww_invariant.proofs.Moves.{gives_free}
 use Rattle.ww_invariant.proofs.Turning.{popped}
 use Rattle.ww_table.proofs.OnTop.{node_up}
-use Rattle.ww_table.proofs.Seated.{has_lock, seated_as, own_taker, by_rule, by_view, few_locks}
+use Rattle.ww_table.proofs.Seated.{on_lock, seated_as, own_taker, by_view, few_locks}
 use Rattle.ww_table.proofs.seat.Stepper.give_free.Goals as goal
 
 pub compare_exchange-found-requires : goal.compare_exchange-found-requires
 compare_exchange-found-requires c = let s = c.requires.at in let may = c.requires.may in let out = may.out in let b = c.args.board.now in
     let up = node_up c.args.self.now.seat.me.1 c.bring.new.seat.me.1 c.args.lock out.0 out.1 c.bring.ensures.slots in
-    let word = c.spread_word.ensures b.locks (few_locks b c.args.lock may.lock) in (
-      c.bring.ensures.home.0 ∙ s.home,
-      has_lock b c.args.lock _ (let fits = b.fits in let low = may.lock in omega arith) word,
-      same_shot _ _ _ gives_to (λ i. (c.bring.ensures.view i, up.2 i)) (word ∙ by_rule b c.args.lock) (own_taker _ c.args.self.now s) refl
-          (gives_free _ _ _ _ s.seated c.args.lock out.0 may.lock may.away may.owner out.2 refl),
-    )
+    on_lock b c.args.lock (c.bring.ensures.home.0 ∙ s.home) (let fits = b.fits in let low = may.lock in omega arith)
+    (λ i. (c.bring.ensures.view i, up.2 i)) (c.spread_word.ensures b.locks (few_locks b c.args.lock may.lock)) (own_taker _ c.args.self.now s) refl
+    (gives_free _ _ _ _ s.seated c.args.lock out.0 may.lock may.away may.owner out.2 refl)
 
 pub returns-then-found-own : goal.returns-then-found-own
 returns-then-found-own c = let s = c.requires.at in let out = c.requires.may.out in let b = c.bring.ensures in let e = c.compare_exchange-found.ensures in

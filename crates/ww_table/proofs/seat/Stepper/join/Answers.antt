@@ -10,21 +10,17 @@ use Rattle.ww_invariant.specs.declared.cells.Cell.TheVariants.{Line}
 use Rattle.ww_invariant.specs.Rule.{Sat}
 use Rattle.ww_invariant.specs.Out.{numbers_of, slot_of, AreOthers}
 use Rattle.ww_invariant.specs.Guards.{lost}
-use Rattle.ww_invariant.specs.Waiting.{tries_to, joins, joining}
+use Rattle.ww_invariant.specs.Waiting.{joins, joining}
 use Rattle.ww_invariant.proofs.InsideSteps.{joins_list}
 use Rattle.ww_invariant.proofs.InsideTurning.{slot_brought, on_top}
-use Rattle.ww_invariant.proofs.Moves.{same_shot}
-use Rattle.ww_table.proofs.Seated.{IsTold, has_lock, stepped, seated_paged, by_rule, by_view}
+use Rattle.ww_table.proofs.Seated.{IsTold, on_lock, stepped, seated_paged, by_view}
 use Rattle.ww_table.proofs.seat.Stepper.join.Goals.{After-compare_exchange-found, After-bring}
 use Rattle.ww_table.proofs.seat.Stepper.join.Goals as goal
 
 pub compare_exchange-found-requires : goal.compare_exchange-found-requires
-compare_exchange-found-requires c = let may = c.requires.may in (
-  c.requires.at.home,
-  has_lock c.args.board.now c.args.lock _ may.lock c.owner_word.ensures,
-  same_shot _ _ _ (tries_to joins) refl (c.owner_word.ensures ∙ by_rule c.args.board.now c.args.lock) c.pack-old.ensures
-      (c.pack-new.ensures ∙ ap packed c.with_waiters.ensures.same) (joins_list _ _ _ _ c.requires.at.seated c.args.lock c.args.seen may.may may.valid),
-)
+compare_exchange-found-requires c = let may = c.requires.may in
+    on_lock c.args.board.now c.args.lock c.requires.at.home may.lock refl c.owner_word.ensures c.pack-old.ensures
+    (c.pack-new.ensures ∙ ap packed c.with_waiters.ensures.same) (joins_list _ _ _ _ c.requires.at.seated c.args.lock c.args.seen may.may may.valid)
 
 told : (c : After-compare_exchange-found) → IsTold joins c.args.lock c.args.seen c.args.self.now.seat.me
     c.compare_exchange-found.result c.compare_exchange-found.new.seat.me

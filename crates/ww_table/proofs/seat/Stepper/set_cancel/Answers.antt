@@ -1,5 +1,4 @@
 use Rattle.std.proofs.Common.{ℕ, ◌+◌, arith, ap, refl, ◌∙◌}
-use Rattle.ww_invariant.specs.Cancels.{cancels_to}
 use Rattle.ww_invariant.proofs.InsideSteps.{cancels}
 use Rattle.ww_invariant.proofs.Moves.{same_shot}
 use Rattle.ww_table.proofs.Seated.{either, has_sign, sign_by_view}
@@ -9,7 +8,7 @@ pub compare_exchange-requires : goal.compare_exchange-requires
 compare_exchange-requires c = let s = c.requires.at in let few = c.requires.may.0 in (
   s.home,
   has_sign c.args.board.now c.args.self.now c.args.victim _ s (let same = s.seats in omega arith) (let word = c.cancel_word.ensures in omega arith),
-  same_shot _ _ _ cancels_to refl (c.cancel_word.ensures ∙ ap (λ (i : ℕ). i + 1) (sign_by_view c.args.victim s)) refl
+  same_shot refl (c.cancel_word.ensures ∙ ap (λ (i : ℕ). i + 1) (sign_by_view c.args.victim s)) refl
       (let w = s.who in omega arith) (cancels _ _ _ _ s.seated c.args.victim few c.requires.may.1),
 )
 

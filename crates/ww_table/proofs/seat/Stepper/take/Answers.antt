@@ -6,24 +6,21 @@ use Rattle.ww_invariant.specs.declared.cells.Cell.TheVariants.{Content}
 use Rattle.ww_invariant.specs.declared.cells.Sight.{Sight}
 use Rattle.ww_invariant.specs.Rule.{Sat}
 use Rattle.ww_invariant.specs.Out.{numbers_of}
-use Rattle.ww_invariant.specs.Waiting.{tries_to, takes_inside, taking_inside, below}
+use Rattle.ww_invariant.specs.Waiting.{takes_inside, taking_inside, below}
 use Rattle.ww_invariant.proofs.InsideSteps.{takes_lock}
 use Rattle.ww_invariant.proofs.InsideTurning.{others_long}
-use Rattle.ww_invariant.proofs.Moves.{same_shot}
 use Rattle.ww_invariant.proofs.Turning.{numbers_long, popped}
 use Rattle.ww_table.specs.declared.seat.Stepper.{Stepper}
 use Rattle.ww_table.proofs.OnTop.{list_there, gone_over, only_tried, still_there}
-use Rattle.ww_table.proofs.Seated.{IsTold, has_lock, expected, by_rule}
+use Rattle.ww_table.proofs.Seated.{IsTold, on_lock, expected}
 use Rattle.ww_table.proofs.seat.Stepper.take.Goals.{After-compare_exchange-found, After-pop}
 use Rattle.ww_table.proofs.seat.Stepper.take.Goals as goal
 
 pub compare_exchange-found-requires : goal.compare_exchange-found-requires
-compare_exchange-found-requires c = let r = c.own_left-owner.ensures in let may = c.requires.may in (
-  r.seat.home,
-  has_lock c.args.board.now c.args.lock _ (let fits = c.args.board.now.fits in let low = may.lock in omega arith) c.owner_word.ensures,
-  same_shot _ _ _ (tries_to takes_inside) r.read.now (c.owner_word.ensures ∙ by_rule c.args.board.now c.args.lock) c.pack-old.ensures
-      (c.pack-new.ensures ∙ ap packed r.owner) (takes_lock _ _ _ _ c.requires.at.seated c.args.lock c.args.seen may.lock may.may may.valid refl),
-)
+compare_exchange-found-requires c = let r = c.own_left-owner.ensures in let may = c.requires.may in
+    on_lock c.args.board.now c.args.lock r.seat.home (let fits = c.args.board.now.fits in let low = may.lock in omega arith) r.read.now
+    c.owner_word.ensures c.pack-old.ensures (c.pack-new.ensures ∙ ap packed r.owner)
+    (takes_lock _ _ _ _ c.requires.at.seated c.args.lock c.args.seen may.lock may.may may.valid refl)
 
 told : (c : After-compare_exchange-found) → IsTold takes_inside c.args.lock c.args.seen c.own_left-owner.new.self.seat.me
     c.compare_exchange-found.result c.compare_exchange-found.new.seat.me

@@ -2,19 +2,15 @@ use Rattle.std.proofs.Common.{refl, ◌∙◌, inl, inr, rules}
 use Rattle.ww_plain.proofs.Members.{true_or_false}
 use Rattle.ww_view.specs.View.{owns}
 use Rattle.ww_view.specs.Made.{fast_taken, fast_missed}
-use Rattle.ww_invariant.specs.Steps.{takes_bare_to, knowing}
-use Rattle.ww_invariant.proofs.Moves.{same_shot, takes_bare}
-use Rattle.ww_table.proofs.Seated.{has_lock, stepped, own_taker, by_rule, by_view, many_locks}
+use Rattle.ww_invariant.specs.Steps.{knowing}
+use Rattle.ww_invariant.proofs.Moves.{takes_bare}
+use Rattle.ww_table.proofs.Seated.{on_lock, stepped, own_taker, by_view, many_locks}
 use Rattle.ww_table.proofs.seat.Stepper.take_bare.Goals as goal
 
 pub compare_exchange-found-requires : goal.compare_exchange-found-requires
 compare_exchange-found-requires c = let s = c.requires.at in let lock = c.requires.may.0 in let b = c.args.board.now in
-    let word = c.packed_word.ensures b.locks (many_locks b lock.packed) in (
-      s.home,
-      has_lock b c.args.lock _ lock.lock word,
-      same_shot _ _ _ takes_bare_to refl (word ∙ by_rule b c.args.lock) refl (own_taker _ c.args.self.now s)
-          (takes_bare _ _ _ _ s.seated c.args.lock lock.bare lock.lock c.requires.may.1),
-    )
+    on_lock b c.args.lock s.home lock.lock refl (c.packed_word.ensures b.locks (many_locks b lock.packed)) refl (own_taker _ c.args.self.now s)
+    (takes_bare _ _ _ _ s.seated c.args.lock lock.bare lock.lock c.requires.may.1)
 
 pub returns : goal.returns
 returns c = let e = c.compare_exchange-found.ensures in let b = c.args.board.now in

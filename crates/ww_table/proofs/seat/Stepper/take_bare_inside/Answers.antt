@@ -4,22 +4,18 @@ use Rattle.ww_invariant.specs.declared.cells.Sight.{Sight}
 use Rattle.ww_invariant.specs.Rule.{Sat}
 use Rattle.ww_view.specs.Made.{taken}
 use Rattle.ww_invariant.specs.Steps.{knowing}
-use Rattle.ww_invariant.specs.Waiting.{tries_to, takes_bare_inside}
+use Rattle.ww_invariant.specs.Waiting.{takes_bare_inside}
 use Rattle.ww_invariant.proofs.InsideSteps.{takes_lock_bare}
-use Rattle.ww_invariant.proofs.Moves.{same_shot}
 use Rattle.ww_table.specs.declared.seat.Stepper.{Stepper}
 use Rattle.ww_table.proofs.OnTop.{list_there, in_vain, went}
-use Rattle.ww_table.proofs.Seated.{IsTold, has_lock, expected, by_rule}
+use Rattle.ww_table.proofs.Seated.{IsTold, on_lock, expected}
 use Rattle.ww_table.proofs.seat.Stepper.take_bare_inside.Goals.{After-compare_exchange-found}
 use Rattle.ww_table.proofs.seat.Stepper.take_bare_inside.Goals as goal
 
 pub compare_exchange-found-requires : goal.compare_exchange-found-requires
-compare_exchange-found-requires c = let r = c.own_left-owner.ensures in let may = c.requires.may in (
-  r.seat.home,
-  has_lock c.args.board.now c.args.lock _ may.lock.1 c.owner_word.ensures,
-  same_shot _ _ _ (tries_to takes_bare_inside) r.read.now (c.owner_word.ensures ∙ by_rule c.args.board.now c.args.lock) c.pack-old.ensures
-      (c.pack-new.ensures ∙ ap packed r.owner) (takes_lock_bare _ _ _ _ c.requires.at.seated c.args.lock c.args.seen may.lock.0 may.may may.valid),
-)
+compare_exchange-found-requires c = let r = c.own_left-owner.ensures in let may = c.requires.may in
+    on_lock c.args.board.now c.args.lock r.seat.home may.lock.1 r.read.now c.owner_word.ensures c.pack-old.ensures
+    (c.pack-new.ensures ∙ ap packed r.owner) (takes_lock_bare _ _ _ _ c.requires.at.seated c.args.lock c.args.seen may.lock.0 may.may may.valid)
 
 told : (c : After-compare_exchange-found) → IsTold takes_bare_inside c.args.lock c.args.seen c.own_left-owner.new.self.seat.me
     c.compare_exchange-found.result c.compare_exchange-found.new.seat.me

@@ -1,20 +1,17 @@
 use Rattle.std.proofs.Common.{arith, ℕ, List, [], ◌∷◌, ◌++◌, length, ap, sym, refl, ◌∙◌}
 use Rattle.ww_view.specs.Made.{fast_missed}
 use Rattle.ww_invariant.specs.Out.{numbers_of}
-use Rattle.ww_invariant.specs.Steps.{takes_to, knowing, taking}
-use Rattle.ww_invariant.proofs.Moves.{same_shot, takes_free}
+use Rattle.ww_invariant.specs.Steps.{knowing, taking}
+use Rattle.ww_invariant.proofs.Moves.{takes_free}
 use Rattle.ww_invariant.proofs.Turning.{numbers_long}
-use Rattle.ww_table.proofs.Seated.{has_lock, seated_as, stepped, own_taker, by_rule, by_view, few_locks}
+use Rattle.ww_table.proofs.Seated.{on_lock, seated_as, stepped, own_taker, by_view, few_locks}
 use Rattle.ww_table.proofs.seat.Stepper.take_free.Goals as goal
 
 pub compare_exchange-found-requires : goal.compare_exchange-found-requires
 compare_exchange-found-requires c = let s = c.requires.at in let may = c.requires.may in let b = c.args.board.now in
-    let word = c.spread_word.ensures b.locks (few_locks b c.args.lock may.lock) in (
-      s.home,
-      has_lock b c.args.lock _ (let fits = b.fits in let low = may.lock in omega arith) word,
-      same_shot _ _ _ takes_to refl (word ∙ by_rule b c.args.lock) refl (own_taker _ c.args.self.now s)
-          (takes_free _ _ _ _ s.seated c.args.lock may.lock may.may),
-    )
+    on_lock b c.args.lock s.home (let fits = b.fits in let low = may.lock in omega arith) refl
+    (c.spread_word.ensures b.locks (few_locks b c.args.lock may.lock)) refl (own_taker _ c.args.self.now s)
+    (takes_free _ _ _ _ s.seated c.args.lock may.lock may.may)
 
 pub push-requires : goal.push-requires
 push-requires c = let long = numbers_long c.args.self.now.seat.me.1 in
