@@ -6,17 +6,23 @@ use Rattle.atomic_table.specs.Seated.{TableId}
 use Rattle.std.specs.Prelude.{slice_get}
 use Rattle.ww_seat.specs.Bells.{leads_to}
 use Rattle.ww_lock.specs.Opened.{fresh, home_at, AreFresh, AreRests}
-use Rattle.ww_lock.proofs.Openings.{next_is, new_carries, new_holding, new_idle, fresh_more}
+use Rattle.ww_lock.proofs.Openings.{IsNext, next_is, new_carries, new_holding, new_idle, fresh_more}
+use Rattle.ww_lock.proofs.world.fresh.Goals.{In-Some-pop}
 use Rattle.ww_lock.proofs.world.fresh.Goals as goal
+
+-- the next of the seats, and what it gets
+next_seat : (c : In-Some-pop) → let shared = c.args.board.now.table.shared in IsNext shared.table_id shared.key (map leads_to c.args.wires.now)
+    c.args.seats.items c.loop-seat.yielded c.next.new.self.rest.items c.in-Some.seat c.pop.new.self.items c.in-Some-pop.field-0
+next_seat c = let shared = c.args.board.now.table.shared in
+    next_is shared.table_id shared.key (map leads_to c.args.wires.now) c.args.seats.items
+    c.loop-seat.yielded c.loop-seat.seat-iterator.rest.items c.next.new.self.rest.items c.in-Some.seat
+    c.loop-seat.rests.items c.pop.new.self.items c.in-Some-pop.field-0
+    c.requires.seats.new c.loop-seat.invariant.2 (search rules) c.loop-seat.invariant.3 (search rules)
 
 pub new-requires : goal.new-requires
 new-requires c =
-    let i = c.loop-seat.invariant in
     let shared = c.args.board.now.table.shared in
-    let next = next_is shared.table_id shared.key (map leads_to c.args.wires.now) c.args.seats.items
-    c.loop-seat.yielded c.loop-seat.seat-iterator.rest.items c.next.new.self.rest.items c.in-Some.seat
-    c.loop-seat.rests.items c.pop.new.self.items c.in-Some-pop.field-0
-    c.requires.seats.new i.2 (search rules) i.3 (search rules) in
+    let next = next_seat (goal.at.new-requires c).In-Some-pop in
     record {
       new = (
         shared.table_id,
@@ -30,12 +36,8 @@ new-requires c =
 
 pub invariant_of-hand : goal.invariant_of-hand
 invariant_of-hand c =
-    let i = c.loop-seat.invariant in
     let shared = c.args.board.now.table.shared in
-    let next = next_is shared.table_id shared.key (map leads_to c.args.wires.now) c.args.seats.items
-    c.loop-seat.yielded c.loop-seat.seat-iterator.rest.items c.next.new.self.rest.items c.in-Some.seat
-    c.loop-seat.rests.items c.pop.new.self.items c.in-Some-pop.field-0
-    c.requires.seats.new i.2 (search rules) i.3 (search rules) in
+    let next = next_seat (goal.at.invariant_of-hand c).In-Some-pop in
     let hand : Inside = record {
       seat = c.new.result;
       left = c.args.budget;
@@ -51,12 +53,8 @@ invariant_of-hand c =
 
 pub invariant_of-push_reserved : goal.invariant_of-push_reserved
 invariant_of-push_reserved c =
-    let i = c.loop-seat.invariant in
     let shared = c.args.board.now.table.shared in
-    let next = next_is shared.table_id shared.key (map leads_to c.args.wires.now) c.args.seats.items
-    c.loop-seat.yielded c.loop-seat.seat-iterator.rest.items c.next.new.self.rest.items c.in-Some.seat
-    c.loop-seat.rests.items c.pop.new.self.items c.in-Some-pop.field-0
-    c.requires.seats.new i.2 (search rules) i.3 (search rules) in
+    let next = next_seat (goal.at.invariant_of-push_reserved c).In-Some-pop in
     subst (λ (v : Carried). (stamp_of v ≡ 0) × (held_of v ≡ [])) (sym c.in-Ok-new.ensures.ok)
     (new_idle shared.table_id shared.key (length c.loop-seat.yielded) c.in-Some.seat c.new.result next.new c.new.ensures)
 
@@ -64,10 +62,7 @@ pub loop-seat-preserved : goal.loop-seat-preserved
 loop-seat-preserved c =
     let i = c.loop-seat.invariant in
     let shared = c.args.board.now.table.shared in
-    let next = next_is shared.table_id shared.key (map leads_to c.args.wires.now) c.args.seats.items
-    c.loop-seat.yielded c.loop-seat.seat-iterator.rest.items c.next.new.self.rest.items c.in-Some.seat
-    c.loop-seat.rests.items c.pop.new.self.items c.in-Some-pop.field-0
-    c.requires.seats.new i.2 (search rules) i.3 (search rules) in
+    let next = next_seat (goal.at.loop-seat-preserved c).In-Some-pop in
     let more : length (c.loop-seat.yielded ++ c.in-Some.seat ∷ []) ≡ length c.loop-seat.yielded + 1 =
     length-append c.loop-seat.yielded (c.in-Some.seat ∷ []) in
     let after : suc (length c.loop-seat.yielded) ≡ length (c.loop-seat.yielded ++ c.in-Some.seat ∷ []) = omega (arith, more) in
@@ -99,10 +94,5 @@ loop-seat-preserved c =
 
 pub returns-in-Err-clause-err : goal.returns-in-Err-clause-err
 returns-in-Err-clause-err c =
-    let i = c.loop-seat.invariant in
-    let shared = c.args.board.now.table.shared in
-    let next = next_is shared.table_id shared.key (map leads_to c.args.wires.now) c.args.seats.items
-    c.loop-seat.yielded c.loop-seat.seat-iterator.rest.items c.next.new.self.rest.items c.in-Some.seat
-    c.loop-seat.rests.items c.pop.new.self.items c.in-Some-pop.field-0
-    c.requires.seats.new i.2 (search rules) i.3 (search rules) in
+    let next = next_seat (goal.at.returns-in-Err-clause-err c).In-Some-pop in
     ap (λ (v : Carried). v.seen) (c.hand.view_is ∙ c.in-Err.ensures.value_returned) ∙ next.seen
