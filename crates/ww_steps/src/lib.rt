@@ -18,6 +18,3 @@ mod turn;
 pub use desk::Desk;
 pub use opening::{MAX_CONTEXTS, MAX_LOCKS, OpenFault, open};
 pub use turn::{Answer, Turn};
-
-#[cfg(test)]
-mod tests;

@@ -1,13 +1,11 @@
 //! What no clause says: that calls come to their ends, and who is told what where two desks meet. One thread has both.
-use crate::desk::Desk;
-use crate::opening::{OpenFault, open};
-use crate::turn::Answer;
 use std::alloc::{AllocError, Global};
 use std::process::Abort;
 use std::test::Fail;
 use ww_queue::Kind;
 use ww_seat::Rest;
 use ww_seat::Waits::{ToTheEnd, UntilCancelled};
+use ww_steps::{Answer, Desk, open};
 
 /// A rest that is too short to let another thread run.
 fn shortly(pauses: u32) -> Answer {
