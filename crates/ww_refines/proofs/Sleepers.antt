@@ -2,9 +2,7 @@
 use Rattle.std.proofs.Common.{◌≡◌, ◌≢◌, ⊎_elim, inr, ℕ, zero, suc, ◌+◌, ◌≤◌, Bool, true, false, true≢false, [], Option, Some, None, refl, sym, ap, ◌∙◌, subst, arith}
 use native.Mathlib.Decide.{ℕ_discrete}
 use Rattle.ww_queue.specs.declared.kind.Kind.{Kind}
-use Rattle.ww_model.specs.declared.event.Event.TheVariants.{Unguard}
 use Rattle.ww_model.specs.State.{State, put}
-use Rattle.ww_model.specs.Event.{after}
 use Rattle.ww_model.proofs.Puts.{put_was}
 use Rattle.ww_invariant.specs.declared.cells.Part.{Part}
 use Rattle.ww_wakes.specs.Scene.{Step, wakes, rises}
@@ -13,22 +11,23 @@ use Rattle.ww_refines.specs.Moment.{Moment, wakes_owed, HasToWake}
 use Rattle.ww_refines.specs.Moves.{Follows}
 use Rattle.ww_refines.specs.Endless.{IsEndlessThere, SleepsForEverThere, SleepsInVainThere, SleepersAreInEndlessRuns}
 use Rattle.ww_refines.proofs.Standstill.{idles}
-use Rattle.ww_refines.proofs.Small.{small, at_rest, at_11, part_there, holder_2, holder_5, waiter_5, core_10, second}
+use Rattle.ww_refines.proofs.Pictures.{seated, part_is}
+use Rattle.ww_refines.proofs.Small.{small, second_sleeps, first_exits, p_11, holder_2, holder_5, waiter_5, second}
 
 -- ---- a thread that sleeps for ever
 
-nothing_owed : (kind : Kind) (s u : ℕ) → ¬ HasToWake (at_rest kind).moment s u
-nothing_owed kind zero u has = let a = at_rest kind in
-    let part = part_there a 1 (holder_2 kind, []) refl refl (omega arith) in
+nothing_owed : (kind : Kind) (s u : ℕ) → ¬ HasToWake (second_sleeps kind).moment s u
+nothing_owed kind zero u has = let a = second_sleeps kind in
+    let part = part_is a 1 0 (holder_2 kind) (seated refl refl refl (omega arith)) in
     let owed = ap (λ (p : Part). wakes_owed p u) part in let few = has.owed in omega arith
-nothing_owed kind (suc zero) u has = let a = at_rest kind in
-    let part = part_there a 0 (waiter_5 kind, []) refl refl (omega arith) in
+nothing_owed kind (suc zero) u has = let a = second_sleeps kind in
+    let part = part_is a 0 1 (waiter_5 kind) (seated refl refl refl (omega arith)) in
     let owed = ap (λ (p : Part). wakes_owed p u) part in let few = has.owed in omega arith
 nothing_owed kind (suc (suc s)) u has = let low = has.waker in omega arith
 
 sleeps_on : (kind : Kind) → IsEndlessThere kind SleepsForEverThere
 unfolding put ℕ_discrete
-sleeps_on kind = let a = at_rest kind in let m = a.moment in record {
+sleeps_on kind = let a = second_sleeps kind in let m = a.moment in record {
   key = small kind;
   moment = λ _. m;
   move = λ _. None;
@@ -53,7 +52,7 @@ sleeps_on kind = let a = at_rest kind in let m = a.moment in record {
 
 module _ (kind : Kind) where
   abbrev given_up : Moment (small kind)
-  given_up = (at_11 kind).moment
+  given_up = (first_exits kind).moment
 
   abbrev rung : Moment (small kind)
   rung = record given_up {
@@ -69,10 +68,10 @@ module _ (kind : Kind) where
   }
 
   first_part : (holder_5 kind).part ≡ given_up.part 0
-  first_part = part_there (at_11 kind) 1 (holder_5 kind, []) refl refl (omega arith)
+  first_part = part_is (first_exits kind) 1 0 (holder_5 kind) (seated refl refl refl (omega arith))
 
   second_part : (waiter_5 kind).part ≡ given_up.part 1
-  second_part = part_there (at_11 kind) 0 (waiter_5 kind, []) refl refl (omega arith)
+  second_part = part_is (first_exits kind) 0 1 (waiter_5 kind) (seated refl refl refl (omega arith))
 
   -- the first owes the second a wake, and nobody anything else
   only_owed : (s u : ℕ) → HasToWake given_up s u → (s ≡ 0) × (u ≡ 1)
@@ -90,7 +89,7 @@ module _ (kind : Kind) where
     sleeper = omega arith;
     other = λ same. omega arith;
     owed = let owed = ap (λ (p : Part). wakes_owed p 1) first_part in
-        let none = ap (λ (f : ℕ → ℕ → ℕ). f 0 1) (at_11 kind).rung in omega arith;
+        let none = ap (λ (f : ℕ → ℕ → ℕ). f 0 1) (first_exits kind).rung in omega arith;
   }
 
   none_owed : (s u : ℕ) → ¬ HasToWake rung s u
@@ -98,14 +97,14 @@ module _ (kind : Kind) where
   none_owed zero zero has = let owed = ap (λ (p : Part). wakes_owed p 0) first_part in let few = has.owed in
       omega arith
   none_owed zero (suc zero) has = let owed = ap (λ (p : Part). wakes_owed p 1) first_part in let few = has.owed in
-      let none = ap (λ (f : ℕ → ℕ → ℕ). f 0 1) (at_11 kind).rung in omega arith
+      let none = ap (λ (f : ℕ → ℕ → ℕ). f 0 1) (first_exits kind).rung in omega arith
   none_owed zero (suc (suc u)) has = let low = has.sleeper in omega arith
   none_owed (suc zero) u has = let owed = ap (λ (p : Part). wakes_owed p u) second_part in let few = has.owed in
       omega arith
   none_owed (suc (suc s)) u has = let low = has.waker in omega arith
 
   no_token : (s : ℕ) → given_up.token s ≢ true
-  no_token s token = true≢false (sym token ∙ ap (λ (f : ℕ → Bool). f s) (at_11 kind).token)
+  no_token s token = true≢false (sym token ∙ ap (λ (f : ℕ → Bool). f s) (first_exits kind).token)
 
   only_token : (s : ℕ) → rung.token s ≡ true → s ≡ 1
   only_token s token = ⊎_elim (λ here. here.0) (λ else. absurd (no_token s else.1))
@@ -127,18 +126,18 @@ module _ (kind : Kind) where
 
   sleeping : given_up.asleep 1 ≡ true
   unfolding put ℕ_discrete
-  sleeping = ap (λ (f : ℕ → Bool). f 1) (at_11 kind).asleep
+  sleeping = ap (λ (f : ℕ → Bool). f 1) (first_exits kind).asleep
 
   -- the first is awake and outside, and has risen each time; the second has yet to
   first_awake : given_up.asleep 0 ≡ false
   unfolding put ℕ_discrete
-  first_awake = ap (λ (f : ℕ → Bool). f 0) (at_11 kind).asleep
+  first_awake = ap (λ (f : ℕ → Bool). f 0) (first_exits kind).asleep
 
   first_outside : (given_up.part 0).core.inside ≡ 0
   first_outside = ap (λ (p : Part). p.core.inside) (sym first_part)
 
   second_due : given_up.risen 1 + 1 ≡ (given_up.part 1).core.naps
-  second_due = ap (λ (f : ℕ → ℕ). f 1 + 1) (at_11 kind).risen ∙ ap (λ (p : Part). p.core.naps) second_part
+  second_due = ap (λ (f : ℕ → ℕ). f 1 + 1) (first_exits kind).risen ∙ ap (λ (p : Part). p.core.naps) second_part
 
   follows : (i : ℕ) → Follows (waking i) (waking (suc i)) (waking_move i)
   unfolding put ℕ_discrete
@@ -175,7 +174,7 @@ module _ (kind : Kind) where
   heard (suc zero) s token = (1, omega arith, ap (λ x. Some (rises x)) (sym (only_token s token)))
   heard (suc (suc i)) s token = absurd (none_token s token)
 
-  due : IsDue (after (core_10 kind) (Unguard 0 0)) 1 0
+  due : IsDue (p_11 kind).core 1 0
   unfolding put ℕ_discrete
   due = inr (refl, (second, [], refl, refl))
 
@@ -187,12 +186,12 @@ module _ (kind : Kind) where
     seat = 1;
     of_kind = refl;
     low = omega arith;
-    endless = record { begins = (at_11 kind).run; goes_on = follows };
+    endless = record { begins = (first_exits kind).run; goes_on = follows };
     arrive = record { made = made; heard = λ i s low token sleeps. heard i s token };
     holds = record {
       sleeps = sleeping;
       needs_not = λ waits. waits.waits.not_due 0
-          (subst (λ (c : State). IsDue c 1 0) (sym (waits.shows.shown.core ∙ (at_11 kind).is_core)) due);
+          (subst (λ (c : State). IsDue c 1 0) (sym (waits.shows.shown.core ∙ (first_exits kind).is_core)) due);
     };
   }
 
