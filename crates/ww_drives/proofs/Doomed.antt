@@ -9,7 +9,7 @@ use Rattle.ww_invariant.specs.declared.cells.Sight.{Sight}
 use Rattle.ww_wakes.specs.Scene.{performs}
 use Rattle.ww_refines.proofs.Pictures.{Picture, At}
 use Rattle.ww_refines.proofs.Small.{small}
-use Rattle.ww_refines.proofs.Doomed.{died_out, IsAboutToDie, dies, comes_out, is_out, moment, pending, sleeper_is_scheduled, dying_is_scheduled, are_dead}
+use Rattle.ww_refines.proofs.Doomed.{died_out, IsAboutToDie, dies, comes_out, sit_out, moment, pending, sleeper_is_scheduled, dying_is_scheduled, are_dead}
 use Rattle.ww_seat.specs.Marks.{is_marked}
 use Rattle.ww_seat.specs.declared.look.Arrival.TheVariants.{Came}
 use Rattle.ww_seat.specs.declared.waits.Waits.TheVariants.{ToTheEnd}
@@ -59,9 +59,9 @@ module _ {kind : Kind} {p : Picture} {a : At (small kind) p} {q : Desks} (g : Sh
   deed (suc (suc (suc i))) = halts
 
   goes_on : (i : ℕ) → Does (stage i) (stage (suc i)) (deed i)
-  goes_on zero = steps_does a q (dies a v w d) h.calling (sym h.alike.1 ∙ d.younger.rested)
-  goes_on (suc zero) = steps_does (dies a v w d).at q (comes_out a v w d) h.calling (sym h.alike.1 ∙ d.younger.rested)
-  goes_on (suc (suc zero)) = answers_does (comes_out a v w d).at q 0 1 (died_out w) (is_out a v w d) h.calling go_on (Deadlk 1)
+  goes_on zero = steps_does a q (dies a v w d) h.calling (sym h.alike.1 ∙ d.rested)
+  goes_on (suc zero) = steps_does (dies a v w d).at q (comes_out a v w d) h.calling (sym h.alike.1 ∙ d.rested)
+  goes_on (suc (suc zero)) = answers_does (comes_out a v w d).at q 0 1 (died_out w) (sit_out a v w d).second h.calling go_on (Deadlk 1)
       (told_by q w) (record {
         done = backs_off (q.desk 1) 0 1 Came ToTheEnd (died_out w).part.core h.turn
             (wakes_none (q.desk 1) (told_by q w) refl h.condemned, h.backs_off) h.alike;

@@ -169,7 +169,7 @@ module _ {key : Start} {p : Picture} {a : At key p} {q : Desks} (g : Shown a q) 
     });
   }
 
-  pub wakes_then : {p' : Picture} (d u : ℕ) (b : Beside p' (woken a.moment d u)) → d < key.seats → q.calling d ≡ false →
+  pub wakes_then : {x : Option Step} {p' : Picture} (d u : ℕ) (b : Beside a x (woken a.moment d u) p') → d < key.seats → q.calling d ≡ false →
       p.asleep d ≡ false → is_inside (q.desk d).turn ≡ false → Shown b.at (rid_of q d u)
   wakes_then d u b low idle awake outside = record {
     driven = drive.goes_on (staged a.moment q) (staged b.at.moment (rid_of q d u)) (drive.wakes d u) g.driven (record {
@@ -179,7 +179,7 @@ module _ {key : Start} {p : Picture} {a : At key p} {q : Desks} (g : Shown a q) 
     });
   }
 
-  pub parks_then : {p' : Picture} (d : ℕ) (b : Beside p' (slept a.moment d)) → d < key.seats → q.calling d ≡ false →
+  pub parks_then : {x : Option Step} {p' : Picture} (d : ℕ) (b : Beside a x (slept a.moment d) p') → d < key.seats → q.calling d ≡ false →
       p.asleep d ≡ false → q.to_sleep d ≡ true → ((u : ℕ) → ¬ IsMarked (q.desk d).wakes u) → ((u : ℕ) → q.named d u ≡ false) →
       Shown b.at q
   parks_then d b low idle awake told unmarked unnamed = record {

@@ -25,8 +25,8 @@ use Rattle.ww_refines.specs.Moves.{Follows}
 use Rattle.ww_refines.specs.Plays as play
 use Rattle.ww_refines.specs.Deadlocks.{IsScheduledThere, HoldersGoOnThere, WaitsAreInEndlessRuns}
 use Rattle.ww_refines.proofs.Standstill.{idles}
-use Rattle.ww_refines.proofs.Pictures.{Picture, At, Next, played, seated, acting, part_is, word_there, plays_then, list_out, misses_as, misses_then, glances_as, glances_then, enters_as, enters_then, joins_as, joins_then, exits_as, exits_then}
-use Rattle.ww_refines.proofs.Small.{least, small, owner, waiter_1, holder_2, p_4, first_locks, bare, unsigned_inside, is_valid, is_valid_waited, first_not_second}
+use Rattle.ww_refines.proofs.Pictures.{Picture, At, Next, played, seated, acting, word_there, plays_then, list_out, misses_as, misses_then, glances_as, glances_then, enters_as, enters_then, joins_as, joins_then, exits_as, exits_then}
+use Rattle.ww_refines.proofs.Small.{least, small, AreSeated, first_is, second_is, nothing_owed, owner, waiter_1, holder_2, p_4, first_locks, bare, unsigned_inside, is_valid, is_valid_waited, first_not_second}
 
 -- ---- what the second knows after each play: it cancels itself, misses the lock, looks at it, goes inside the guard, joins,
 -- heeds, leaves the list, and comes out
@@ -175,31 +175,22 @@ pub record IsCalm {kind : Kind} (m : Moment (small kind)) (waits : ℕ) : Type 0
   pub first : (view m 0).waits ≡ 0
   pub second : (view m 1).waits ≡ waits
 
-module _ {kind : Kind} {p : Picture} (a : At (small kind) p) (v w : Sight) (no_token : (s : ℕ) → p.token s ≡ false)
-    (first : v.part ≡ a.moment.part 0) (second : w.part ≡ a.moment.part 1)
-    (owes_none : (u : ℕ) → wakes_owed v.part u ≡ 0) (owes_itself : wakes_owed w.part 0 ≡ 0)
+module _ {kind : Kind} {p : Picture} (a : At (small kind) p) {v w : Sight} (sit : AreSeated kind p v w)
+    (no_token : (s : ℕ) → p.token s ≡ false) (paid_1 : p.rung 0 1 ≡ wakes_owed v.part 1) (paid_0 : p.rung 1 0 ≡ wakes_owed w.part 0)
     (v_naps : v.part.core.naps ≡ 0) (w_naps : w.part.core.naps ≡ 0) (v_waits : v.part.core.waits ≡ 0) where
-  nothing_owed : (s u : ℕ) → ¬ HasToWake a.moment s u
-  nothing_owed zero u h = let few = h.owed in let none = owes_none u in let is = ap (λ (p : Part). wakes_owed p u) first in
-      omega arith
-  nothing_owed (suc zero) zero h = let few = h.owed in let is = ap (λ (p : Part). wakes_owed p 0) second in omega arith
-  nothing_owed (suc zero) (suc zero) h = h.other refl
-  nothing_owed (suc zero) (suc (suc u)) h = let low = h.sleeper in omega arith
-  nothing_owed (suc (suc s)) u h = let low = h.waker in omega arith
-
   no_naps : (s : ℕ) → s < 2 → (view a.moment s).naps ≡ 0
-  no_naps zero low = ap (λ (p : Part). p.core.naps) (sym first) ∙ v_naps
-  no_naps (suc zero) low = ap (λ (p : Part). p.core.naps) (sym second) ∙ w_naps
+  no_naps zero low = ap (λ (q : Part). q.core.naps) (sym (first_is a sit)) ∙ v_naps
+  no_naps (suc zero) low = ap (λ (q : Part). q.core.naps) (sym (second_is a sit)) ∙ w_naps
   no_naps (suc (suc s)) low = absurd (omega arith)
 
   is_calm : (waits : ℕ) → w.part.core.waits ≡ waits → IsCalm a.moment waits
   is_calm waits stands = record {
     token = λ s. ap (λ (f : ℕ → Bool). f s) a.token ∙ no_token s;
-    unowed = nothing_owed;
+    unowed = nothing_owed a sit paid_1 paid_0;
     risen = λ s. ap (λ (f : ℕ → ℕ). f s) a.risen;
     naps = no_naps;
-    first = ap (λ (p : Part). p.core.waits) (sym first) ∙ v_waits;
-    second = ap (λ (p : Part). p.core.waits) (sym second) ∙ stands;
+    first = ap (λ (q : Part). q.core.waits) (sym (first_is a sit)) ∙ v_waits;
+    second = ap (λ (q : Part). q.core.waits) (sym (second_is a sit)) ∙ stands;
   }
 
 module _ (kind : Kind) where
@@ -215,21 +206,13 @@ module _ (kind : Kind) where
   move (suc (suc zero)) = Some (performs (FastGive 0 0))
   move (suc (suc (suc i))) = None
 
-  first_before : (holder_2 kind).part ≡ (heeds kind).at.moment.part 0
+  sit_before : AreSeated kind (p_10 kind) (holder_2 kind) (off_6 kind)
   unfolding put ℕ_discrete lock_at
-  first_before = part_is (heeds kind).at 1 0 (holder_2 kind) (seated refl refl refl (omega arith))
+  sit_before = record { first = seated refl refl refl (omega arith); second = seated refl refl refl (omega arith) }
 
-  second_before : (off_6 kind).part ≡ (heeds kind).at.moment.part 1
+  sit_then : AreSeated kind (p_13 kind) (free kind) (off_8 kind)
   unfolding put ℕ_discrete lock_at
-  second_before = part_is (heeds kind).at 0 1 (off_6 kind) (seated refl refl refl (omega arith))
-
-  first_then : (free kind).part ≡ (releases kind).at.moment.part 0
-  unfolding put ℕ_discrete lock_at
-  first_then = part_is (releases kind).at 1 0 (free kind) (seated refl refl refl (omega arith))
-
-  second_then : (off_8 kind).part ≡ (releases kind).at.moment.part 1
-  unfolding put ℕ_discrete lock_at
-  second_then = part_is (releases kind).at 0 1 (off_8 kind) (seated refl refl refl (omega arith))
+  sit_then = record { first = seated refl refl refl (omega arith); second = seated refl refl refl (omega arith) }
 
   abbrev waits_at : ℕ → ℕ
   waits_at zero = 1
@@ -243,16 +226,16 @@ module _ (kind : Kind) where
 
   pub calm : (i : ℕ) → IsCalm (moment i) (waits_at i)
   unfolding put ℕ_discrete lock_at
-  calm zero = is_calm (heeds kind).at (holder_2 kind) (off_6 kind) (λ s. refl) first_before second_before (λ u. refl) refl refl refl
-      refl 1 refl
-  calm (suc zero) = let a = (leaves_list kind).at in is_calm a (holder_2 kind) (off_7 kind) (λ s. refl)
-      (part_is a 1 0 (holder_2 kind) (seated refl refl refl (omega arith)))
-      (part_is a 0 1 (off_7 kind) (seated refl refl refl (omega arith))) (λ u. refl) refl refl refl refl 0 refl
-  calm (suc (suc zero)) = let a = (comes_out kind).at in is_calm a (holder_2 kind) (off_8 kind) (λ s. refl)
-      (part_is a 1 0 (holder_2 kind) (seated refl refl refl (omega arith)))
-      (part_is a 0 1 (off_8 kind) (seated refl refl refl (omega arith))) (λ u. refl) refl refl refl refl 0 refl
-  calm (suc (suc (suc i))) = is_calm (releases kind).at (free kind) (off_8 kind) (λ s. refl) first_then second_then (λ u. refl) refl
-      refl refl refl 0 refl
+  calm zero = is_calm (heeds kind).at sit_before (λ s. refl) refl refl refl refl refl 1 refl
+  calm (suc zero) = is_calm (leaves_list kind).at {v = holder_2 kind} {w = off_7 kind} (record {
+    first = seated refl refl refl (omega arith);
+    second = seated refl refl refl (omega arith);
+  }) (λ s. refl) refl refl refl refl refl 0 refl
+  calm (suc (suc zero)) = is_calm (comes_out kind).at {v = holder_2 kind} {w = off_8 kind} (record {
+    first = seated refl refl refl (omega arith);
+    second = seated refl refl refl (omega arith);
+  }) (λ s. refl) refl refl refl refl refl 0 refl
+  calm (suc (suc (suc i))) = is_calm (releases kind).at sit_then (λ s. refl) refl refl refl refl refl 0 refl
 
   -- only the second waits, at the first moment alone, inside the guard of the lock
   waits_once : (i s n : ℕ) → s < 2 → (view (moment i) s).waits ≡ suc n → (i ≡ 0) × (s ≡ 1) × (n ≡ 0)
@@ -270,7 +253,8 @@ module _ (kind : Kind) where
       i,
       omega arith,
       subst (λ x. (view (moment x) s).inside ≡ suc n) (sym h.0)
-          (subst (λ x. (view (moment 0) x).inside ≡ suc n) (sym h.1) (let a = h.2 in let b = ap (λ (q : Part). q.core.inside) (sym second_before) in omega arith)),
+          (subst (λ x. (view (moment 0) x).inside ≡ suc n) (sym h.1)
+          (let a = h.2 in let b = ap (λ (q : Part). q.core.inside) (sym (second_is (heeds kind).at sit_before)) in omega arith)),
     );
     leaves = λ i n waits inside. let h = waits_once i s n low waits in (
       1,
@@ -280,8 +264,8 @@ module _ (kind : Kind) where
   }
 
   bare_then : (s n : ℕ) → s < 2 → owns (view (releases kind).at.moment s) n ≡ false
-  bare_then zero n low = ap (λ (q : Part). slice_index_or q.core.owned n false) (sym first_then) ∙ bare n
-  bare_then (suc zero) n low = ap (λ (q : Part). slice_index_or q.core.owned n false) (sym second_then) ∙ bare n
+  bare_then zero n low = ap (λ (q : Part). slice_index_or q.core.owned n false) (sym (first_is (releases kind).at sit_then)) ∙ bare n
+  bare_then (suc zero) n low = ap (λ (q : Part). slice_index_or q.core.owned n false) (sym (second_is (releases kind).at sit_then)) ∙ bare n
   bare_then (suc (suc s)) n low = absurd (omega arith)
 
   pub go_on : HoldersGoOnThere moment

@@ -1,5 +1,5 @@
 -- Two threads at a table with two locks, play by play, until they are deadlocked.
-use Rattle.std.proofs.Common.{⊎_elim, inl, inr, ℕ, zero, suc, ◌≢◌, ◌≡◌, ◌+◌, ◌-◌, ◌<◌, ◌≤◌, true, false, true≢false, List, [], ◌∷◌, Some, None, refl, sym, ap, arith}
+use Rattle.std.proofs.Common.{⊎_elim, inl, inr, ℕ, ◌≡◌, true, false, true≢false, List, [], ◌∷◌, Some, None, refl, sym, ap, arith}
 use native.Mathlib.Decide.{ℕ_discrete}
 use Rattle.std.specs.Prelude.{slice_index}
 use Rattle.atomic_table.specs.Table.{stepped, keeps}
@@ -18,11 +18,10 @@ use Rattle.ww_invariant.specs.Steps.{knowing}
 use Rattle.ww_invariant.specs.Guards.{entering, exiting}
 use Rattle.ww_invariant.specs.Waiting.{joining}
 use Rattle.ww_invariant.specs.Signs.{condemning}
-use Rattle.ww_wakes.specs.Scene.{performs, leaves_to_sleep, finds_no_sign}
-use Rattle.ww_refines.specs.Moment.{wakes_owed}
+use Rattle.ww_wakes.specs.Scene.{performs, leaves_to_sleep, finds_no_sign, wakes, falls_asleep}
 use Rattle.ww_refines.specs.Plays as play
-use Rattle.ww_refines.proofs.Pictures.{Picture, Next, Beside, played, waking, parking, seated, acting, word_there, plays_then, wakes_then, parks_then, list_out, locks_as, locks_then, misses_as, misses_then, glances_as, glances_then, enters_as, enters_then, joins_as, joins_then, exits_as, sleeps_then}
-use Rattle.ww_refines.proofs.Small.{least, small, owner, is_valid, first_not_second, second_not_first, holder_2, waiter_1, p_4, first_locks}
+use Rattle.ww_refines.proofs.Pictures.{Picture, Next, Beside, rung_by, asleep_by, played, waking, parking, seated, acting, word_there, plays_then, wakes_then, parks_then, list_out, locks_as, locks_then, misses_as, misses_then, glances_as, glances_then, enters_as, enters_then, joins_as, joins_then, exits_as, sleeps_then}
+use Rattle.ww_refines.proofs.Small.{least, small, AreSeated, nothing_owed, owner, is_valid, first_not_second, second_not_first, holder_2, waiter_1, p_4, first_locks}
 
 -- ---- what the two know after each play, alike in both kinds
 
@@ -199,14 +198,11 @@ aged_exits = sleeps_then finds_unsigned.at 1 0 aged (acting refl refl refl (omeg
 abbrev pub dying_16 : Picture
 dying_16 = parking dying_15 0
 
-pub aged_sleeps : Beside dying_16 (let m = aged_exits.at.moment in record m { asleep = put m.asleep 0 true })
+pub aged_sleeps : Beside aged_exits.at (Some (falls_asleep 0)) (asleep_by aged_exits.at.moment 0) dying_16
 unfolding put ℕ_discrete lock_at
-aged_sleeps = parks_then aged_exits.at 1 0 aged_out (seated refl refl refl (omega arith)) refl refl paid
-  where
-    paid : (u : ℕ) → u < 2 → ◌≢◌ {A = ℕ} u 0 → wakes_owed aged_out.part u ≤ 0
-    paid zero low other = omega arith
-    paid (suc zero) low other = let none : wakes_owed aged_out.part 1 ≡ 0 = refl in omega arith
-    paid (suc (suc u)) low other = absurd (omega arith)
+aged_sleeps = let sits : AreSeated WaitDie dying_15 aged_out (b_6 WaitDie) =
+    record { first = seated refl refl refl (omega arith); second = seated refl refl refl (omega arith) } in
+    parks_then aged_exits.at 1 0 aged_out sits.first refl refl (nothing_owed aged_exits.at sits refl refl 0)
 
 -- ---- in Wound-Wait it signs the younger, finds that it has no sign, and comes out; it wakes the younger, and falls asleep
 
@@ -275,24 +271,18 @@ wounded_exits = sleeps_then finds_none.at 1 0 wounded (acting refl refl refl (om
 abbrev pub wound_17 : Picture
 wound_17 = waking wound_16 0 1 wounded_out.part
 
-pub wounded_wakes : Beside wound_17 (let m = wounded_exits.at.moment in record m {
-  rung = put m.rung 0 (put (m.rung 0) 1 (m.rung 0 1 + (wakes_owed (m.part 0) 1 - m.rung 0 1)));
-  token = put m.token 1 true;
-})
+pub wounded_wakes : Beside wounded_exits.at (Some (wakes 0 1)) (rung_by wounded_exits.at.moment 0 1) wound_17
 unfolding put ℕ_discrete lock_at
 wounded_wakes = wakes_then wounded_exits.at 1 0 1 wounded_out (seated refl refl refl (omega arith)) refl refl (omega arith)
 
 abbrev pub wound_18 : Picture
 wound_18 = parking wound_17 0
 
-pub wounded_sleeps : Beside wound_18 (let m = wounded_wakes.at.moment in record m { asleep = put m.asleep 0 true })
+pub wounded_sleeps : Beside wounded_wakes.at (Some (falls_asleep 0)) (asleep_by wounded_wakes.at.moment 0) wound_18
 unfolding put ℕ_discrete lock_at
-wounded_sleeps = parks_then wounded_wakes.at 1 0 wounded_out (seated refl refl refl (omega arith)) refl refl paid
-  where
-    paid : (u : ℕ) → u < 2 → ◌≢◌ {A = ℕ} u 0 → wakes_owed wounded_out.part u ≤ wound_17.rung 0 u
-    paid zero low other = absurd (other refl)
-    paid (suc zero) low other = let all : wakes_owed wounded_out.part 1 ≡ wound_17.rung 0 1 = refl in omega arith
-    paid (suc (suc u)) low other = absurd (omega arith)
+wounded_sleeps = let sits : AreSeated WoundWait wound_17 wounded_out (b_6 WoundWait) =
+    record { first = seated refl refl refl (omega arith); second = seated refl refl refl (omega arith) } in
+    parks_then wounded_wakes.at 1 0 wounded_out sits.first refl refl (nothing_owed wounded_wakes.at sits refl refl 0)
 
 -- ... and the younger reads its sign
 abbrev pub b_7 : Sight

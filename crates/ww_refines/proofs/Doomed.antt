@@ -25,8 +25,8 @@ use Rattle.ww_refines.specs.Moment.{Moment, core, view, wakes_owed, HasToWake}
 use Rattle.ww_refines.specs.Moves.{Follows}
 use Rattle.ww_refines.specs.Deadlocks.{IsScheduledThere, HasDeadlockThere, DeadlocksAreInEndlessRuns}
 use Rattle.ww_refines.proofs.Standstill.{idles}
-use Rattle.ww_refines.proofs.Pictures.{Picture, At, Next, played, IsSeated, IsActing, seated, acting, part_is, dies_as, dies_then, exits_as, exits_then}
-use Rattle.ww_refines.proofs.Small.{least, small, owner, is_valid_waited, first_not_second, second_not_first}
+use Rattle.ww_refines.proofs.Pictures.{Picture, At, Next, played, seated, dies_as, dies_then, exits_as, exits_then}
+use Rattle.ww_refines.proofs.Small.{least, small, AreSeated, first_is, second_is, nothing_owed, owner, is_valid_waited, first_not_second, second_not_first}
 use Rattle.ww_refines.proofs.Deadlocked.{aged_out, wounded_out, b_6, b_7, dying_16, wound_19, aged_sleeps, finds_sign}
 
 -- ---- what holds as long as nothing more happens
@@ -41,30 +41,19 @@ pub record IsPending {kind : Kind} (m : Moment (small kind)) (waits : ℕ) : Typ
   pub naps : (view m 1).naps ≡ 0
   pub stands : (view m 1).waits ≡ waits
 
-module _ {kind : Kind} {p : Picture} (a : At (small kind) p) (v w : Sight) (first : v.part ≡ a.moment.part 0)
-    (second : w.part ≡ a.moment.part 1) (sleeper : p.asleep 0 ≡ true) (awake : p.asleep 1 ≡ false) (no_token : p.token 0 ≡ false)
-    (paid_0 : p.rung 0 0 ≡ wakes_owed v.part 0) (paid_1 : p.rung 0 1 ≡ wakes_owed v.part 1)
-    (owes_none : (u : ℕ) → wakes_owed w.part u ≡ 0)
+module _ {kind : Kind} {p : Picture} (a : At (small kind) p) {v w : Sight} (sit : AreSeated kind p v w)
+    (sleeper : p.asleep 0 ≡ true) (awake : p.asleep 1 ≡ false) (no_token : p.token 0 ≡ false)
+    (paid_1 : p.rung 0 1 ≡ wakes_owed v.part 1) (paid_0 : p.rung 1 0 ≡ wakes_owed w.part 0)
     (outside : v.part.core.inside ≡ 0) (naps : w.part.core.naps ≡ 0) where
-  nothing_owed : (s u : ℕ) → ¬ HasToWake a.moment s u
-  nothing_owed zero zero h = let few = h.owed in let given_so = ap (λ (f : ℕ → ℕ → ℕ). f 0 0) a.rung in
-      let owed = ap (λ (p : Part). wakes_owed p 0) first in omega arith
-  nothing_owed zero (suc zero) h = let few = h.owed in let given_so = ap (λ (f : ℕ → ℕ → ℕ). f 0 1) a.rung in
-      let owed = ap (λ (p : Part). wakes_owed p 1) first in omega arith
-  nothing_owed zero (suc (suc u)) h = let low = h.sleeper in omega arith
-  nothing_owed (suc zero) u h = let few = h.owed in let none = owes_none u in
-      let owed = ap (λ (p : Part). wakes_owed p u) second in omega arith
-  nothing_owed (suc (suc s)) u h = let low = h.waker in omega arith
-
   is_pending : (waits : ℕ) → w.part.core.waits ≡ waits → IsPending a.moment waits
   is_pending waits stands = record {
     sleeps = ap (λ (f : ℕ → Bool). f 0) a.asleep ∙ sleeper;
     awake = ap (λ (f : ℕ → Bool). f 1) a.asleep ∙ awake;
     no_token = ap (λ (f : ℕ → Bool). f 0) a.token ∙ no_token;
-    unowed = nothing_owed;
-    outside = ap (λ (p : Part). p.core.inside) (sym first) ∙ outside;
-    naps = ap (λ (p : Part). p.core.naps) (sym second) ∙ naps;
-    stands = ap (λ (p : Part). p.core.waits) (sym second) ∙ stands;
+    unowed = nothing_owed a sit paid_1 paid_0;
+    outside = ap (λ (q : Part). q.core.inside) (sym (first_is a sit)) ∙ outside;
+    naps = ap (λ (q : Part). q.core.naps) (sym (second_is a sit)) ∙ naps;
+    stands = ap (λ (q : Part). q.core.waits) (sym (second_is a sit)) ∙ stands;
   }
 
 -- ---- the run: the younger dies, and comes out of the guard, and then nothing happens
@@ -79,14 +68,14 @@ died_out b = exiting (died b)
 -- The two are deadlocked. The older sleeps with what this tells, and owes nobody a wake; the younger, with what that tells, is
 -- inside the guard of the first lock, where it has to die.
 pub record IsAboutToDie (kind : Kind) (p : Picture) (a b : Sight) : Type 0 where
-  pub older : IsSeated (small kind) p.table 1 0 a
-  pub younger : IsActing (small kind) p 0 1 b
+  pub sit : AreSeated kind p a b
+  pub awake : p.asleep 1 ≡ false
+  pub rested : b.part.core.naps ≡ 0
   pub word : slice_index p.table.words (owner_at least 0) ≡ packed (with_waiters owner)
   pub dies : MayDie b.part.core 0 (with_waiters owner) 1
   pub exits : MayExit (died b).part.core 0
   pub sleeps : (p.asleep 0 ≡ true) × (p.token 0 ≡ false) × (a.part.core.inside ≡ 0)
-  pub paid : (p.rung 0 0 ≡ wakes_owed a.part 0) × (p.rung 0 1 ≡ wakes_owed a.part 1)
-  pub owes_none : (u : ℕ) → wakes_owed b.part u ≡ 0
+  pub paid : (p.rung 0 1 ≡ wakes_owed a.part 1) × (p.rung 1 0 ≡ wakes_owed b.part 0)
   pub dead : AreDeadlocked p.core (0 ∷ 1 ∷ [])
 
 module _ {kind : Kind} {p : Picture} (g : At (small kind) p) (a b : Sight) (h : IsAboutToDie kind p a b) where
@@ -97,14 +86,15 @@ module _ {kind : Kind} {p : Picture} (g : At (small kind) p) (a b : Sight) (h : 
   p_1 = played p table_1 (Some (performs (Die 1 0)))
 
   pub dies : Next g 1 (Some (performs (Die 1 0))) p_1
-  dies = subst (λ (w : ℕ). Next g 1 (Some (performs (Die w 0))) (played p table_1 (Some (performs (Die w 0)))))
-      h.younger.seated.who (dies_then g 0 1 b h.younger 0 1 (with_waiters owner) h.dies is_valid_waited h.word)
+  dies = subst (λ (w : ℕ). Next g 1 (Some (performs (Die w 0))) (played p table_1 (Some (performs (Die w 0))))) h.sit.second.who
+      (dies_then g 0 1 b (record { seated = h.sit.second; awake = h.awake; rested = h.rested }) 0 1 (with_waiters owner) h.dies
+      is_valid_waited h.word)
 
-  has_died : IsActing (small kind) p_1 0 1 (died b)
-  has_died = let was = h.younger.seated in record {
-    seated = seated (set_here p.table.views 0 (died b) (place_low p.table.views 0 b was.here)) was.seated was.who was.low;
-    awake = h.younger.awake;
-    rested = h.younger.rested;
+  -- the older is where it was
+  sit_on : AreSeated kind p_1 a (died b)
+  sit_on = let one = h.sit.first in let two = h.sit.second in let old = p.table.views in record {
+    first = seated (set_else old 0 1 (died b) second_not_first ∙ one.here) one.seated one.who one.low;
+    second = seated (set_here old 0 (died b) (place_low old 0 b two.here)) two.seated two.who two.low;
   }
 
   abbrev table_2 : St
@@ -115,19 +105,14 @@ module _ {kind : Kind} {p : Picture} (g : At (small kind) p) (a b : Sight) (h : 
 
   pub comes_out : Next dies.at 1 (Some (performs (Unguard 1 0))) p_2
   comes_out = subst (λ (w : ℕ). Next dies.at 1 (Some (performs (Unguard w 0))) (played p_1 table_2 (Some (performs (Unguard w 0)))))
-      h.younger.seated.who (exits_then dies.at 0 1 (died b) has_died 0 h.exits refl)
+      h.sit.second.who (exits_then dies.at 0 1 (died b) (record { seated = sit_on.second; awake = h.awake; rested = h.rested }) 0
+      h.exits refl)
 
-  pub is_out : IsSeated (small kind) p_2.table 0 1 (died_out b)
-  is_out = let was = has_died.seated in
-      seated (set_here p_1.table.views 0 (died_out b) (place_low p_1.table.views 0 (died b) was.here)) was.seated was.who was.low
-
-  -- the older is where it was
-  stays : IsSeated (small kind) p_1.table 1 0 a
-  stays = seated (set_else p.table.views 0 1 (died b) second_not_first ∙ h.older.here) h.older.seated h.older.who h.older.low
-
-  stays_on : IsSeated (small kind) p_2.table 1 0 a
-  stays_on = seated (set_else p_1.table.views 0 1 (died_out b) second_not_first ∙ stays.here) h.older.seated h.older.who
-      h.older.low
+  pub sit_out : AreSeated kind p_2 a (died_out b)
+  sit_out = let one = sit_on.first in let two = sit_on.second in let old = p_1.table.views in record {
+    first = seated (set_else old 0 1 (died_out b) second_not_first ∙ one.here) one.seated one.who one.low;
+    second = seated (set_here old 0 (died_out b) (place_low old 0 (died b) two.here)) two.seated two.who two.low;
+  }
 
   abbrev pub moment : ℕ → Moment (small kind)
   moment zero = g.moment
@@ -144,13 +129,9 @@ module _ {kind : Kind} {p : Picture} (g : At (small kind) p) (a b : Sight) (h : 
   waits_at (suc i) = 0
 
   pub pending : (i : ℕ) → IsPending (moment i) (waits_at i)
-  pending zero = is_pending g a b (part_is g 1 0 a h.older) (part_is g 0 1 b h.younger.seated) h.sleeps.0 h.younger.awake
-      h.sleeps.1 h.paid.0 h.paid.1 h.owes_none h.sleeps.2 h.younger.rested 1 h.dies.waits
-  pending (suc zero) = is_pending dies.at a (died b) (part_is dies.at 1 0 a stays) (part_is dies.at 0 1 (died b) has_died.seated)
-      h.sleeps.0 h.younger.awake h.sleeps.1 h.paid.0 h.paid.1 h.owes_none h.sleeps.2 h.younger.rested 0 refl
-  pending (suc (suc i)) = is_pending comes_out.at a (died_out b) (part_is comes_out.at 1 0 a stays_on)
-      (part_is comes_out.at 0 1 (died_out b) is_out) h.sleeps.0 h.younger.awake h.sleeps.1 h.paid.0 h.paid.1 h.owes_none
-      h.sleeps.2 h.younger.rested 0 refl
+  pending zero = is_pending g h.sit h.sleeps.0 h.awake h.sleeps.1 h.paid.0 h.paid.1 h.sleeps.2 h.rested 1 h.dies.waits
+  pending (suc zero) = is_pending dies.at sit_on h.sleeps.0 h.awake h.sleeps.1 h.paid.0 h.paid.1 h.sleeps.2 h.rested 0 refl
+  pending (suc (suc i)) = is_pending comes_out.at sit_out h.sleeps.0 h.awake h.sleeps.1 h.paid.0 h.paid.1 h.sleeps.2 h.rested 0 refl
 
   follows : (i : ℕ) → Follows (moment i) (moment (suc i)) (move i)
   follows zero = dies.follows
@@ -168,7 +149,7 @@ module _ {kind : Kind} {p : Picture} (g : At (small kind) p) (a b : Sight) (h : 
 
   comes_inside : (i n : ℕ) → (view (moment i) 1).waits ≡ suc n → InTheEnd i (λ j. (view (moment j) 1).inside ≡ suc n)
   comes_inside zero n waits = let stands = (pending 0).stands in
-      let at = ap (λ (q : Part). q.core.inside) (sym (part_is g 0 1 b h.younger.seated)) ∙ h.dies.inside in
+      let at = ap (λ (q : Part). q.core.inside) (sym (second_is g h.sit)) ∙ h.dies.inside in
       (0, omega arith, omega arith)
   comes_inside (suc i) n waits = let none = (pending (suc i)).stands in absurd (omega arith)
 
@@ -202,8 +183,9 @@ module _ {kind : Kind} {p : Picture} (g : At (small kind) p) (a b : Sight) (h : 
 pub is_dying : IsAboutToDie WaitDie dying_16 aged_out (b_6 WaitDie)
 unfolding put ℕ_discrete lock_at
 is_dying = record {
-  older = seated refl refl refl (omega arith);
-  younger = acting refl refl refl (omega arith) refl refl;
+  sit = record { first = seated refl refl refl (omega arith); second = seated refl refl refl (omega arith) };
+  awake = refl;
+  rested = refl;
   word = refl;
   dies = record {
     inside = refl;
@@ -215,15 +197,15 @@ is_dying = record {
   exits = record { inside = refl; why = inl (refl, refl); unsigned = λ is. inr (inl refl); unheeded = refl };
   sleeps = (refl, refl, refl);
   paid = (refl, refl);
-  owes_none = λ u. refl;
   dead = are_deadlocked _ refl refl (_, inl refl, refl) (_, inl refl, refl);
 }
 
 pub is_wounded : IsAboutToDie WoundWait wound_19 wounded_out b_7
 unfolding put ℕ_discrete lock_at
 is_wounded = record {
-  older = seated refl refl refl (omega arith);
-  younger = acting refl refl refl (omega arith) refl refl;
+  sit = record { first = seated refl refl refl (omega arith); second = seated refl refl refl (omega arith) };
+  awake = refl;
+  rested = refl;
   word = refl;
   dies = record {
     inside = refl;
@@ -235,7 +217,6 @@ is_wounded = record {
   exits = record { inside = refl; why = inl (refl, refl); unsigned = λ is. absurd (cc); unheeded = refl };
   sleeps = (refl, refl, refl);
   paid = (refl, refl);
-  owes_none = λ u. refl;
   dead = are_deadlocked _ refl refl (_, inl refl, refl) (_, inl refl, refl);
 }
 

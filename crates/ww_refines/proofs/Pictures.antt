@@ -1,5 +1,5 @@
 -- A run, move by move, with what is known at each moment.
-use Rattle.std.proofs.Common.{◌≡◌, ◌≢◌, ⊎_elim, ℕ, suc, ◌+◌, ◌-◌, ◌<◌, ◌≤◌, Bool, true, false, List, [], ◌∷◌, length, Option, Some, None, refl, sym, ap, ◌∙◌, subst, arith}
+use Rattle.std.proofs.Common.{◌≡◌, ⊎_elim, ℕ, suc, ◌+◌, ◌-◌, ◌<◌, ◌≤◌, Bool, true, false, List, [], ◌∷◌, length, Option, Some, None, refl, sym, ap, ◌∙◌, subst, arith}
 use mathlib.Core.Option.{some}
 use lib.ListN.{get_elem?}
 use Rattle.std.specs.Prelude.{slice_index}
@@ -26,7 +26,7 @@ use Rattle.ww_invariant.specs.Steps.{MayDraw, taker, drawing, knowing}
 use Rattle.ww_invariant.specs.Guards.{entering, exiting}
 use Rattle.ww_invariant.specs.Waiting.{joining, dying}
 use Rattle.ww_wakes.specs.Scene.{Step, performs, leaves_to_sleep, finds_no_sign, finds_no_cancel, wakes, falls_asleep}
-use Rattle.ww_refines.specs.Moment.{Moment, wakes_owed, core, Acts}
+use Rattle.ww_refines.specs.Moment.{Moment, wakes_owed, core, HasToWake, Acts}
 use Rattle.ww_refines.specs.Moves.{StepsThere, Follows}
 use Rattle.ww_refines.specs.Runs.{IsOfRun}
 use Rattle.ww_refines.specs.Runs as runs
@@ -63,10 +63,21 @@ pub record Next {key : Start} {p : Picture} (a : At key p) (d : ℕ) (x : Option
   pub by : IsBy d x
   pub follows : Follows a.moment at.moment x
 
--- ... or by a move beside the table, after which the moment is this
-pub record Beside {key : Start} (p : Picture) (m : Moment key) : Type 0 where
-  pub at : At key p
+-- ... or by this move beside the table, after which the moment is m
+pub record Beside {key : Start} {p : Picture} (a : At key p) (x : Option Step) (m : Moment key) (p' : Picture) : Type 0 where
+  pub at : At key p'
   pub is : at.moment ≡ m
+  pub follows : Follows a.moment at.moment x
+
+-- once seat d has given seat u a token for all that it owes that one; and once it sleeps
+abbrev pub rung_by : {key : Start} → Moment key → ℕ → ℕ → Moment key
+rung_by m d u = record m {
+  rung = put m.rung d (put (m.rung d) u (m.rung d u + (wakes_owed (m.part d) u - m.rung d u)));
+  token = put m.token u true;
+}
+
+abbrev pub asleep_by : {key : Start} → Moment key → ℕ → Moment key
+asleep_by m d = record m { asleep = put m.asleep d true }
 
 -- ---- what a move makes of the picture
 
@@ -206,30 +217,24 @@ module _ {key : Start} {p : Picture} (a : At key p) where
 
   -- outside the guards it gives another seat a token for all that it owes that one
   pub wakes_then : (id d u : ℕ) (v : Sight) → IsSeated key p.table id d v → p.asleep d ≡ false → v.part.core.inside ≡ 0 →
-      p.rung d u ≤ wakes_owed v.part u → Beside (waking p d u v.part) (let m = a.moment in record m {
-        rung = put m.rung d (put (m.rung d) u (m.rung d u + (wakes_owed (m.part d) u - m.rung d u)));
-        token = put m.token u true;
-      })
+      p.rung d u ≤ wakes_owed v.part u → Beside a (Some (wakes d u)) (rung_by a.moment d u) (waking p d u v.part)
   wakes_then id d u v i awake outside even = let m = a.moment in let part = part_is id d v i in
-      let then : Moment key = record m {
-        rung = put m.rung d (put (m.rung d) u (m.rung d u + (wakes_owed (m.part d) u - m.rung d u)));
-        token = put m.token u true;
+      let follows : Follows m (rung_by m d u) (Some (wakes d u)) = record {
+        stays = record { core = refl; parts = λ t low. refl; heeds = refl };
+        awake = ap (λ (f : ℕ → Bool). f d) a.asleep ∙ awake;
+        outside = ap (λ (q : Part). q.core.inside) (sym part) ∙ outside;
+        waker = i.low;
+        count = wakes_owed (m.part d) u - m.rung d u;
+        most = let owed = ap (λ (q : Part). wakes_owed q u) part in
+            let given = ap (λ (f : ℕ → ℕ → ℕ). f d u) a.rung in omega arith;
+        rung = refl;
+        token = refl;
+        risen = refl;
+        asleep = refl;
       } in record {
         at = record {
-          moment = then;
-          run = runs.goes_on m then (Some (wakes d u)) a.run (record {
-            stays = record { core = refl; parts = λ t low. refl; heeds = refl };
-            awake = ap (λ (f : ℕ → Bool). f d) a.asleep ∙ awake;
-            outside = ap (λ (q : Part). q.core.inside) (sym part) ∙ outside;
-            waker = i.low;
-            count = wakes_owed (m.part d) u - m.rung d u;
-            most = let owed = ap (λ (q : Part). wakes_owed q u) part in
-                let given = ap (λ (f : ℕ → ℕ → ℕ). f d u) a.rung in omega arith;
-            rung = refl;
-            token = refl;
-            risen = refl;
-            asleep = refl;
-          });
+          moment = rung_by m d u;
+          run = runs.goes_on m (rung_by m d u) (Some (wakes d u)) a.run follows;
           is_table = a.is_table;
           is_core = a.is_core;
           rung = λ j. put (a.rung j) d (put (a.rung j d) u (a.rung j d u + (wakes_owed (sym part j) u - a.rung j d u)));
@@ -239,31 +244,29 @@ module _ {key : Start} {p : Picture} (a : At key p) where
           heeding = a.heeding;
         };
         is = refl;
+        follows = follows;
       }
 
   -- it falls asleep, once it has left a guard as a waiter, and has woken whom it has to wake
   pub parks_then : (id d : ℕ) (v : Sight) → IsSeated key p.table id d v → p.asleep d ≡ false → v.part.core.naps ≡ 1 →
-      ((u : ℕ) → u < key.seats → u ≢ d → wakes_owed v.part u ≤ p.rung d u) →
-      Beside (parking p d) (let m = a.moment in record m { asleep = put m.asleep d true })
+      ((u : ℕ) → ¬ HasToWake a.moment d u) → Beside a (Some (falls_asleep d)) (asleep_by a.moment d) (parking p d)
   parks_then id d v i awake naps paid = let m = a.moment in let part = part_is id d v i in
-      let then : Moment key = record m { asleep = put m.asleep d true } in record {
+      let follows : Follows m (asleep_by m d) (Some (falls_asleep d)) = record {
+        stays = record { core = refl; parts = λ t low. refl; heeds = refl };
+        ready = record {
+          seat = i.low;
+          is_asleep = ap (λ (f : ℕ → Bool). f d) a.asleep ∙ awake;
+          due = ap (λ (f : ℕ → ℕ). f d + 1) a.risen ∙ sym naps ∙ ap (λ (q : Part). q.core.naps) part;
+        };
+        paid = paid;
+        asleep = refl;
+        rung = refl;
+        risen = refl;
+        token = refl;
+      } in record {
         at = record {
-          moment = then;
-          run = runs.goes_on m then (Some (falls_asleep d)) a.run (record {
-            stays = record { core = refl; parts = λ t low. refl; heeds = refl };
-            ready = record {
-              seat = i.low;
-              is_asleep = ap (λ (f : ℕ → Bool). f d) a.asleep ∙ awake;
-              due = ap (λ (f : ℕ → ℕ). f d + 1) a.risen ∙ sym naps ∙ ap (λ (q : Part). q.core.naps) part;
-            };
-            paid = λ u h. let few = h.owed in let most = paid u h.sleeper h.other in
-                let owed = ap (λ (q : Part). wakes_owed q u) part in
-                let given = ap (λ (f : ℕ → ℕ → ℕ). f d u) a.rung in omega arith;
-            asleep = refl;
-            rung = refl;
-            risen = refl;
-            token = refl;
-          });
+          moment = asleep_by m d;
+          run = runs.goes_on m (asleep_by m d) (Some (falls_asleep d)) a.run follows;
           is_table = a.is_table;
           is_core = a.is_core;
           rung = a.rung;
@@ -273,6 +276,7 @@ module _ {key : Start} {p : Picture} (a : At key p) where
           heeding = a.heeding;
         };
         is = refl;
+        follows = follows;
       }
 
 -- ---- steps that several runs make

@@ -1,6 +1,6 @@
 -- A run of two threads at a table, play by play: the one takes the lock, the other sleeps for it, and
 -- then the lock is released.
-use Rattle.std.proofs.Common.{◌≡◌, ◌≢◌, inl, inr, ℕ, zero, suc, ◌<◌, true, false, true≢false, List, [], ◌∷◌, Some, None, refl, sym, ◌∙◌, subst, arith}
+use Rattle.std.proofs.Common.{◌≡◌, ◌≢◌, inl, inr, ℕ, zero, suc, ◌<◌, true, false, true≢false, List, [], ◌∷◌, Some, None, refl, sym, ap, ◌∙◌, subst, arith}
 use mathlib.Core.Option.{some}
 use native.Mathlib.Decide.{ℕ_discrete}
 use lib.ListN.{get_elem?}
@@ -22,6 +22,7 @@ use Rattle.ww_view.specs.May.{HasPaid}
 use Rattle.ww_view.specs.Made.{once_inside, fast_taken, found_uncancelled, given}
 use Rattle.ww_invariant.specs.declared.cells.Cell.{Cell}
 use Rattle.ww_invariant.specs.declared.cells.Cell.TheVariants.{Line}
+use Rattle.ww_invariant.specs.declared.cells.Part.{Part}
 use Rattle.ww_invariant.specs.declared.cells.Sight.{Sight}
 use Rattle.ww_invariant.specs.declared.cells.Start.{Start}
 use Rattle.ww_invariant.specs.Layout.{lock_at, owner_at, cancel_at, words_for, list_at, slots_for}
@@ -31,11 +32,11 @@ use Rattle.ww_invariant.specs.Guards.{entering, exiting}
 use Rattle.ww_invariant.specs.Waiting.{joining}
 use Rattle.ww_invariant.proofs.Seats.{opens, opens_start}
 use Rattle.ww_wakes.specs.Scene.{performs, leaves_to_sleep, finds_no_cancel}
-use Rattle.ww_refines.specs.Moment.{wakes_owed}
+use Rattle.ww_refines.specs.Moment.{wakes_owed, HasToWake}
 use Rattle.ww_refines.specs.Runs as runs
 use Rattle.ww_refines.specs.Plays as play
 use Rattle.ww_refines.proofs.Seating.{new_tables_begin}
-use Rattle.ww_refines.proofs.Pictures.{Picture, At, Next, first_picture, played, parking, seated, acting, word_there, plays_then, parks_then, list_out, begins_as, begins_then, locks_as, locks_then, enters_as, enters_then, joins_as, joins_then, exits_as, exits_then, sleeps_then}
+use Rattle.ww_refines.proofs.Pictures.{Picture, At, Next, first_picture, played, parking, IsSeated, seated, part_is, acting, word_there, plays_then, parks_then, list_out, begins_as, begins_then, locks_as, locks_then, enters_as, enters_then, joins_as, joins_then, exits_as, exits_then, sleeps_then}
 
 -- ---- as many bare locks as the smallest world has, and two seats
 
@@ -86,6 +87,30 @@ at_0 kind = let r = ruled_0 kind in let b = new_tables_begin (small kind) (table
   asleep = b.first.asleep;
   heeding = b.first.heeds;
 }
+
+-- ---- whom the two have yet to wake
+
+-- the one knows this, and the other that
+pub record AreSeated (kind : Kind) (p : Picture) (v w : Sight) : Type 0 where
+  pub first : IsSeated (small kind) p.table 1 0 v
+  pub second : IsSeated (small kind) p.table 0 1 w
+
+module _ {kind : Kind} {p : Picture} (a : At (small kind) p) {v w : Sight} (sit : AreSeated kind p v w) where
+  pub first_is : v.part ≡ a.moment.part 0
+  first_is = part_is a 1 0 v sit.first
+
+  pub second_is : w.part ≡ a.moment.part 1
+  second_is = part_is a 0 1 w sit.second
+
+  pub nothing_owed : p.rung 0 1 ≡ wakes_owed v.part 1 → p.rung 1 0 ≡ wakes_owed w.part 0 → (s u : ℕ) → ¬ HasToWake a.moment s u
+  nothing_owed paid_1 paid_0 zero zero h = h.other refl
+  nothing_owed paid_1 paid_0 zero (suc zero) h = let few = h.owed in let given = ap (λ (f : ℕ → ℕ → ℕ). f 0 1) a.rung in
+      let owed = ap (λ (q : Part). wakes_owed q 1) first_is in omega arith
+  nothing_owed paid_1 paid_0 (suc zero) zero h = let few = h.owed in let given = ap (λ (f : ℕ → ℕ → ℕ). f 1 0) a.rung in
+      let owed = ap (λ (q : Part). wakes_owed q 0) second_is in omega arith
+  nothing_owed paid_1 paid_0 (suc zero) (suc zero) h = h.other refl
+  nothing_owed paid_1 paid_0 (suc (suc s)) u h = let low = h.waker in omega arith
+  nothing_owed paid_1 paid_0 s (suc (suc u)) h = let low = h.sleeper in omega arith
 
 -- ---- what the two know after each play
 
@@ -284,8 +309,9 @@ p_rest kind = parking (p_8 kind) 1
 
 pub second_sleeps : (kind : Kind) → At (small kind) (p_rest kind)
 unfolding put ℕ_discrete lock_at
-second_sleeps kind = (parks_then (second_exits kind).at 0 1 (waiter_5 kind) (seated refl refl refl (omega arith)) refl refl
-    (λ u low other. let none : wakes_owed (waiter_5 kind).part u ≡ 0 = refl in omega arith)).at
+second_sleeps kind = let a = (second_exits kind).at in let sits : AreSeated kind (p_8 kind) (holder_2 kind) (waiter_5 kind) =
+    record { first = seated refl refl refl (omega arith); second = seated refl refl refl (omega arith) } in
+    (parks_then a 0 1 (waiter_5 kind) sits.second refl refl (nothing_owed a sits refl refl 1)).at
 
 -- ---- the first goes inside the guard, releases the lock, and comes out
 
