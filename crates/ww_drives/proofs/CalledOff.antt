@@ -10,7 +10,7 @@ use Rattle.ww_invariant.specs.Layout.{lock_at}
 use Rattle.ww_wakes.specs.Scene.{performs}
 use Rattle.ww_refines.proofs.Pictures.{seated}
 use Rattle.ww_refines.proofs.Small.{small, waiter_1}
-use Rattle.ww_refines.proofs.CalledOff.{off_1, off_2, off_3, off_8, free, cancels, misses, glances, enters, joins, heeds, leaves_list, comes_out, releases, moment, calm, scheduled}
+use Rattle.ww_refines.proofs.CalledOff.{off_1, off_5, free, cancels, waits, heeds, leaves_list, comes_out, releases, moment, calm, scheduled}
 use Rattle.ww_refines.proofs.CalledOff as run
 use Rattle.ww_seat.specs.declared.waits.Waits.TheVariants.{UntilCancelled}
 use Rattle.ww_steps.specs.declared.turn.Turn.TheVariants.{Rests}
@@ -22,7 +22,7 @@ use Rattle.ww_drives.specs.Deeds.{Deed, Does, go_on, cancel, unlock, steps, answ
 use Rattle.ww_drives.specs.Laws.{IsDueBy, IsServed}
 use Rattle.ww_drives.specs.Witness.{WaitsAreInEndlessDrives}
 use Rattle.ww_drives.proofs.Shown.{Desks, staged, Shown, called, answered, calls_then, steps_then, steps_does, answers_does, IsAnswer, OwesNobody, nothing_due}
-use Rattle.ww_drives.proofs.Turns.{misses_by, misses_now, glances_by, glances_now, enters_call, turned, turns, may_turn}
+use Rattle.ww_drives.proofs.Turns.{turned, turns, may_turn, waits_by, waits_now}
 use Rattle.ww_drives.proofs.Starting.{is_of_world, q_3, g_3, owe_nobody}
 use Rattle.ww_drives.proofs.Sleeping.{has_no_mark, wakes_none}
 
@@ -51,50 +51,41 @@ g_4 kind = let s = (q_3 kind).desk 1 in
     })
 
 abbrev q_5 : Kind → Desks
-q_5 kind = misses_by (q_4 kind) 1 0 UntilCancelled (off_2 kind)
+q_5 kind = waits_by (q_4 kind) 1 0 UntilCancelled (off_1 kind)
 
-g_5 : (kind : Kind) → Shown (misses kind).at (q_5 kind)
-unfolding put ℕ_discrete lock_at
-g_5 kind = misses_now (g_4 kind) 0 1 (off_1 kind) (may_turn refl refl refl refl refl refl) 0 UntilCancelled (misses kind)
-    (seated refl refl refl (omega arith)) (record { rests = refl; lacks = refl; there = omega arith; wants = refl })
+g_5 : (kind : Kind) → Shown (waits kind).joins.at (q_5 kind)
+unfolding put ℕ_discrete
+g_5 kind = waits_now (g_4 kind) (may_turn refl refl refl refl refl refl) UntilCancelled (waits kind)
+    (record { rests = refl; lacks = refl; there = omega arith; wants = refl })
 
 abbrev q_6 : Kind → Desks
-q_6 kind = glances_by (q_5 kind) 1 0 UntilCancelled (off_3 kind)
+q_6 kind = called (q_5 kind) 0
 
-g_6 : (kind : Kind) → Shown (glances kind).at (q_6 kind)
+g_6 : (kind : Kind) → Shown (heeds kind).at (q_6 kind)
 unfolding put ℕ_discrete lock_at
-g_6 kind = glances_now (g_5 kind) 0 1 (off_2 kind) (may_turn refl refl refl refl refl refl) 0 UntilCancelled (glances kind)
-    (seated refl refl refl (omega arith)) refl
-
-abbrev q_7 : Kind → Desks
-q_7 kind = called (called (q_6 kind) 1) 0
-
-g_7 : (kind : Kind) → Shown (heeds kind).at (q_7 kind)
-unfolding put ℕ_discrete lock_at
-g_7 kind = calls_then (steps_then (steps_then (enters_call (g_6 kind) (enters kind) refl refl refl) (joins kind) refl refl)
-    (heeds kind) refl refl) 0 (omega arith) refl refl refl
+g_6 kind = calls_then (steps_then (g_5 kind) (heeds kind) refl refl) 0 (omega arith) refl refl refl
 
 -- ---- the desks answer
 
 abbrev stopped : Kind → Situation
-stopped kind = let s = (q_7 kind).desk 1 in record s {
+stopped kind = let s = (q_6 kind).desk 1 in record s {
   turn = Rests;
   interrupted = (0, 1) ∷ s.interrupted;
-  view = (off_8 kind).part.core;
+  view = (off_5 kind).part.core;
 }
 
 abbrev freed : Kind → Situation
-freed kind = let s = (q_7 kind).desk 0 in record s { held = without 0 s.held; view = (free kind).part.core }
+freed kind = let s = (q_6 kind).desk 0 in record s { held = without 0 s.held; view = (free kind).part.core }
+
+abbrev q_7 : Kind → Desks
+q_7 kind = answered (q_6 kind) 1 (Interrupted 1) (stopped kind)
 
 abbrev q_8 : Kind → Desks
-q_8 kind = answered (q_7 kind) 1 (Interrupted 1) (stopped kind)
+q_8 kind = answered (q_7 kind) 0 Done (freed kind)
 
-abbrev q_9 : Kind → Desks
-q_9 kind = answered (q_8 kind) 0 Done (freed kind)
-
-is_stopped : (kind : Kind) → IsAnswer ((q_7 kind).desk 1) (off_8 kind) go_on (Interrupted 1) (stopped kind)
+is_stopped : (kind : Kind) → IsAnswer ((q_6 kind).desk 1) (off_5 kind) go_on (Interrupted 1) (stopped kind)
 unfolding put ℕ_discrete
-is_stopped kind = let s = (q_7 kind).desk 1 in record {
+is_stopped kind = let s = (q_6 kind).desk 1 in record {
   done = (
     (wakes_none s (stopped kind) refl refl, refl, refl),
     step_books s (stopped kind) (balances_same s (stopped kind) refl refl refl refl),
@@ -105,7 +96,7 @@ is_stopped kind = let s = (q_7 kind).desk 1 in record {
   cancelled = refl;
 }
 
-is_freed : (kind : Kind) → IsAnswer ((q_8 kind).desk 0) (free kind) (unlock 0) Done (freed kind)
+is_freed : (kind : Kind) → IsAnswer ((q_7 kind).desk 0) (free kind) (unlock 0) Done (freed kind)
 unfolding put ℕ_discrete
 is_freed kind = record {
   done = (
@@ -120,12 +111,12 @@ is_freed kind = record {
 -- ---- the drive
 
 abbrev desks : Kind → ℕ → Desks
-desks kind zero = q_7 kind
-desks kind (suc zero) = q_7 kind
-desks kind (suc (suc zero)) = q_7 kind
-desks kind (suc (suc (suc zero))) = q_7 kind
-desks kind (suc (suc (suc (suc zero)))) = q_8 kind
-desks kind (suc (suc (suc (suc (suc i))))) = q_9 kind
+desks kind zero = q_6 kind
+desks kind (suc zero) = q_6 kind
+desks kind (suc (suc zero)) = q_6 kind
+desks kind (suc (suc (suc zero))) = q_6 kind
+desks kind (suc (suc (suc (suc zero)))) = q_7 kind
+desks kind (suc (suc (suc (suc (suc i))))) = q_8 kind
 
 abbrev deed : ℕ → Deed
 deed zero = steps 1 (Some (performs (Leave 1 0)))
@@ -141,18 +132,18 @@ module _ (kind : Kind) where
 
   goes_on : (i : ℕ) → Does (stage i) (stage (suc i)) (deed i)
   unfolding put ℕ_discrete lock_at
-  goes_on zero = steps_does (heeds kind).at (q_7 kind) (leaves_list kind) refl refl
-  goes_on (suc zero) = steps_does (leaves_list kind).at (q_7 kind) (comes_out kind) refl refl
-  goes_on (suc (suc zero)) = steps_does (comes_out kind).at (q_7 kind) (releases kind) refl refl
-  goes_on (suc (suc (suc zero))) = answers_does (releases kind).at (q_7 kind) 0 1 (off_8 kind) (seated refl refl refl (omega arith))
+  goes_on zero = steps_does (heeds kind).at (q_6 kind) (leaves_list kind) refl refl
+  goes_on (suc zero) = steps_does (leaves_list kind).at (q_6 kind) (comes_out kind) refl refl
+  goes_on (suc (suc zero)) = steps_does (comes_out kind).at (q_6 kind) (releases kind) refl refl
+  goes_on (suc (suc (suc zero))) = answers_does (releases kind).at (q_6 kind) 0 1 (off_5 kind) (seated refl refl refl (omega arith))
       refl go_on (Interrupted 1) (stopped kind) (is_stopped kind)
-  goes_on (suc (suc (suc (suc zero)))) = answers_does (releases kind).at (q_8 kind) 1 0 (free kind)
+  goes_on (suc (suc (suc (suc zero)))) = answers_does (releases kind).at (q_7 kind) 1 0 (free kind)
       (seated refl refl refl (omega arith)) refl (unlock 0) Done (freed kind) (is_freed kind)
   goes_on (suc (suc (suc (suc (suc i))))) = refl
 
-  owes_at_first : OwesNobody (small kind) (q_7 kind)
+  owes_at_first : OwesNobody (small kind) (q_6 kind)
   unfolding put ℕ_discrete
-  owes_at_first = owe_nobody (q_7 kind) has_no_mark has_no_mark (λ s. refl) (λ s. refl)
+  owes_at_first = owe_nobody (q_6 kind) has_no_mark has_no_mark (λ s. refl) (λ s. refl)
 
   owes_nobody : (i : ℕ) → OwesNobody (small kind) (desks kind i)
   unfolding put ℕ_discrete
@@ -160,8 +151,8 @@ module _ (kind : Kind) where
   owes_nobody (suc zero) = owes_at_first
   owes_nobody (suc (suc zero)) = owes_at_first
   owes_nobody (suc (suc (suc zero))) = owes_at_first
-  owes_nobody (suc (suc (suc (suc zero)))) = owe_nobody (q_8 kind) has_no_mark has_no_mark (λ s. refl) (λ s. refl)
-  owes_nobody (suc (suc (suc (suc (suc i))))) = owe_nobody (q_9 kind) has_no_mark has_no_mark (λ s. refl) (λ s. refl)
+  owes_nobody (suc (suc (suc (suc zero)))) = owe_nobody (q_7 kind) has_no_mark has_no_mark (λ s. refl) (λ s. refl)
+  owes_nobody (suc (suc (suc (suc (suc i))))) = owe_nobody (q_8 kind) has_no_mark has_no_mark (λ s. refl) (λ s. refl)
 
   none_due : (i t s : ℕ) → t < 2 → ¬ IsDueBy (stage i) t s
   none_due i = nothing_due (desks kind i) (owes_nobody i) (moment kind i) (calm kind i).unowed
@@ -185,7 +176,7 @@ waits_are_in_endless_drives kind = record {
   of_kind = refl;
   world = is_of_world kind;
   low = omega arith;
-  endless = record { begins = (g_7 kind).driven; goes_on = goes_on kind };
+  endless = record { begins = (g_6 kind).driven; goes_on = goes_on kind };
   served = served kind;
   go_on = run.go_on kind;
   waits = (calm kind 0).second;

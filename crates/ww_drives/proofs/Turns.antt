@@ -1,7 +1,9 @@
 -- Turns of desks, each as what it makes of a drive: a call, its step at the table, and its answer.
 use Rattle.std.proofs.Common.{◌≡◌, ℕ, ◌+◌, ◌-◌, Bool, true, false, [], ◌∷◌, ◌++◌, Option, Some, None, refl, sym, ap, ◌∙◌, subst, arith}
 use Rattle.std.specs.Prelude.{slice_index}
+use Rattle.ww_word.specs.declared.owner.Owner.{Owner}
 use Rattle.ww_model.specs.declared.event.Event.TheVariants.{Begin, Fast}
+use Rattle.ww_model.specs.State.{put}
 use Rattle.ww_model.proofs.Puts.{put_here}
 use Rattle.ww_view.specs.declared.view.View.{View}
 use Rattle.ww_view.specs.Made.{begun, fast_taken, fast_missed, glanced}
@@ -10,7 +12,7 @@ use Rattle.ww_invariant.specs.declared.cells.Start.{Start}
 use Rattle.ww_invariant.specs.Layout.{stamp_at}
 use Rattle.ww_invariant.specs.Steps.{drawing, knowing}
 use Rattle.ww_wakes.specs.Scene.{Step, performs}
-use Rattle.ww_refines.proofs.Pictures.{Picture, At, Next, IsSeated, begins_as, locks_as, misses_as, glances_as}
+use Rattle.ww_refines.proofs.Pictures.{Picture, At, Next, IsSeated, begins_as, locks_as, misses_as, glances_as, missed, looked, ComesToWait}
 use Rattle.ww_seat.specs.Calls.{HasStayedOut}
 use Rattle.ww_seat.specs.declared.look.Arrival.TheVariants.{Came}
 use Rattle.ww_seat.specs.declared.resting.Stay.{Stay}
@@ -173,3 +175,31 @@ module _ {key : Start} {p : Picture} {a : At key p} {q : Desks} (g : Shown a q) 
           sees = refl;
           cancelled = may.cancelled;
         })
+
+-- ---- a desk comes to wait
+
+-- it has missed the lock, has looked at it once, and is amid the call that goes on
+abbrev pub waits_by : Desks → (d n : ℕ) → Waits → Sight → Desks
+waits_by q d n waits v = called (glances_by (misses_by q d n waits (missed v)) d n waits (looked v)) d
+
+module _ {key : Start} {p : Picture} {a : At key p} {q : Desks} (g : Shown a q) {id d n : ℕ} {o : Owner} {v : Sight}
+    (may : MayTurn q d v) where
+  pub waits_now : (waits : Waits) (t : ComesToWait a id d n o v) → IsTryable (q.desk d) n → Shown t.joins.at (waits_by q d n waits v)
+  waits_now waits t tryable =
+      let q_1 = misses_by q d n waits (missed v) in let q_2 = glances_by q_1 d n waits (looked v) in
+      let once = put_here q.desk d (once_missed (q.desk d) n waits (missed v).part.core) in
+      let then = put_here q_1.desk d (once_glanced (q_1.desk d) n waits (looked v).part.core) in
+      let fresh : (q_2.desk d).view.naps ≡ 0 = ap (λ (s : Situation). s.view.naps) then ∙ may.rested in
+      let may_1 : MayTurn q_1 d (missed v) = record {
+        idle = put_here (put q.calling d true) d false;
+        rose = put_here q.to_sleep d false;
+        knows = ap (λ (s : Situation). s.view) once;
+        rested = may.rested;
+        cancelled = ap (λ (s : Situation). s.cancelled) once ∙ may.cancelled;
+        out = may.out;
+      } in
+      let g_1 : Shown t.misses.at q_1 = misses_now g id d v may n waits t.misses t.missing tryable in
+      let g_2 : Shown t.looks.at q_2 = glances_now g_1 id d (missed v) may_1 n waits t.looks t.looking
+      (ap (λ (s : Situation). s.turn) once) in
+      steps_then (enters_call g_2 t.enters (put_here (put q_1.calling d true) d false) (put_here q_1.to_sleep d false) fresh)
+      t.joins (put_here q_2.calling d true) fresh

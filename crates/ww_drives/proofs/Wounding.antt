@@ -9,32 +9,32 @@ use Rattle.ww_model.proofs.Puts.{put_here, put_else, put_cases}
 use Rattle.ww_invariant.specs.Layout.{lock_at}
 use Rattle.ww_refines.proofs.Pictures.{seated}
 use Rattle.ww_refines.proofs.Small.{owner}
-use Rattle.ww_refines.proofs.Deadlocked.{b_7, younger_waits, wounded_out, signs, finds_none, wounded_exits, wounded_wakes, wounded_sleeps, finds_sign}
+use Rattle.ww_refines.proofs.Deadlocked.{b_4, younger_in_list, wounded_out, signs, finds_none, wounded_exits, wounded_wakes, wounded_sleeps, finds_sign}
 use Rattle.ww_refines.proofs.Doomed.{is_wounded}
 use Rattle.ww_steps.specs.declared.turn.Answer.TheVariants.{Sleeps}
 use Rattle.ww_steps.specs.Situations.{Situation}
 use Rattle.ww_drives.specs.Deeds.{go_on}
 use Rattle.ww_drives.proofs.Shown.{Desks, Shown, answered, naming, rid_of, steps_then, answers_then, names_then, wakes_then, parks_then}
-use Rattle.ww_drives.proofs.Pair.{q_10, g_10}
+use Rattle.ww_drives.proofs.Pair.{q_6, g_6}
 use Rattle.ww_drives.proofs.Sleeping.{marked, cleared, has_no_mark_then, is_taken, wakes_one, once_asleep, falls_asleep, has_no_mark}
 use Rattle.ww_drives.proofs.Doomed.{has_deadlock}
 use Rattle.ww_drives.specs.Witness.{HasDeadlockDriven, DeadlocksAreInEndlessDrives}
 use Rattle.ww_drives.proofs.Dying.{has_deadlock_dying}
 
 -- it signs the younger, finds that it has no sign, comes out, and is told to sleep
-abbrev older_5 : Situation
-older_5 = once_asleep ((q_10 WoundWait).desk 0) 1 marked wounded_out.part.core
+abbrev older_1 : Situation
+older_1 = once_asleep ((q_6 WoundWait).desk 0) 1 marked wounded_out.part.core
 
-abbrev q_11 : Desks
-q_11 = answered (q_10 WoundWait) 0 Sleeps older_5
+abbrev q_7 : Desks
+q_7 = answered (q_6 WoundWait) 0 Sleeps older_1
 
-g_11 : Shown wounded_exits.at q_11
+g_7 : Shown wounded_exits.at q_7
 unfolding put ℕ_discrete lock_at
-g_11 = answers_then
-    (steps_then (steps_then (steps_then (g_10 WoundWait) signs refl refl) finds_none refl refl) wounded_exits refl refl) 1 0
-    wounded_out (seated refl refl refl (omega arith)) refl go_on Sleeps older_5 (record {
-      done = falls_asleep ((q_10 WoundWait).desk 0) 1 marked wounded_out.part.core refl (omega arith) refl
-          (wakes_one ((q_10 WoundWait).desk 0) older_5 refl refl refl refl)
+g_7 = answers_then
+    (steps_then (steps_then (steps_then (g_6 WoundWait) signs refl refl) finds_none refl refl) wounded_exits refl refl) 1 0
+    wounded_out (seated refl refl refl (omega arith)) refl go_on Sleeps older_1 (record {
+      done = falls_asleep ((q_6 WoundWait).desk 0) 1 marked wounded_out.part.core refl (omega arith) refl
+          (wakes_one ((q_6 WoundWait).desk 0) older_1 refl refl refl refl)
           (record { own = refl; still_own = refl; none = refl; booked = λ before is. ap (λ (l : List ℕ). 1 ∷ l) is });
       outside = λ _. refl;
       sees = refl;
@@ -42,41 +42,41 @@ g_11 = answers_then
     })
 
 -- it names the younger, gives it a token, and falls asleep
-abbrev older_6 : Situation
-older_6 = record older_5 { wakes = cleared }
+abbrev older_2 : Situation
+older_2 = record older_1 { wakes = cleared }
 
-abbrev q_12 : Desks
-q_12 = naming q_11 0 1 older_6
+abbrev q_8 : Desks
+q_8 = naming q_7 0 1 older_2
 
-g_12 : Shown wounded_exits.at q_12
+g_8 : Shown wounded_exits.at q_8
 unfolding put ℕ_discrete
-g_12 = names_then g_11 0 1 (omega arith) refl refl older_6 (λ inside. absurd (true≢false (sym inside)), λ _. (is_taken, refl))
+g_8 = names_then g_7 0 1 (omega arith) refl refl older_2 (λ inside. absurd (true≢false (sym inside)), λ _. (is_taken, refl))
 
-abbrev q_13 : Desks
-q_13 = rid_of q_12 0 1
+abbrev q_9 : Desks
+q_9 = rid_of q_8 0 1
 
-g_13 : Shown wounded_wakes.at q_13
+g_9 : Shown wounded_wakes.at q_9
 unfolding put ℕ_discrete
-g_13 = wakes_then g_12 0 1 wounded_wakes (omega arith) refl refl refl
+g_9 = wakes_then g_8 0 1 wounded_wakes (omega arith) refl refl refl
 
-named_none : (u : ℕ) → q_13.named 0 u ≡ false
-named_none u = subst (λ (f : ℕ → Bool). f u ≡ false) (sym (put_here q_12.named 0 (put (q_12.named 0) 1 false)))
-    (put_cases (q_12.named 0) 1 false u (λ b. b ≡ false) (λ _. refl) (λ isnt. was u isnt))
+named_none : (u : ℕ) → q_9.named 0 u ≡ false
+named_none u = subst (λ (f : ℕ → Bool). f u ≡ false) (sym (put_here q_8.named 0 (put (q_8.named 0) 1 false)))
+    (put_cases (q_8.named 0) 1 false u (λ b. b ≡ false) (λ _. refl) (λ isnt. was u isnt))
   where
-    was : (u : ℕ) → u ≢ 1 → q_12.named 0 u ≡ false
-    was u isnt = subst (λ (f : ℕ → Bool). f u ≡ false) (sym (put_here q_11.named 0 (put (q_11.named 0) 1 true)))
-        (put_else (q_11.named 0) 1 true u isnt)
+    was : (u : ℕ) → u ≢ 1 → q_8.named 0 u ≡ false
+    was u isnt = subst (λ (f : ℕ → Bool). f u ≡ false) (sym (put_here q_7.named 0 (put (q_7.named 0) 1 true)))
+        (put_else (q_7.named 0) 1 true u isnt)
 
 -- then the younger reads its sign
-g_14 : Shown finds_sign.at q_13
+g_10 : Shown finds_sign.at q_9
 unfolding put ℕ_discrete
-g_14 = steps_then (parks_then g_13 0 wounded_sleeps (omega arith) refl refl refl
+g_10 = steps_then (parks_then g_9 0 wounded_sleeps (omega arith) refl refl refl
     (λ u has. true≢false (sym has ∙ has_no_mark_then u)) named_none) finds_sign refl refl
 
 -- ... and dies
 pub has_deadlock_wounding : HasDeadlockDriven WoundWait
 unfolding put ℕ_discrete lock_at
-has_deadlock_wounding = has_deadlock g_14 wounded_out b_7 is_wounded (record {
+has_deadlock_wounding = has_deadlock g_10 wounded_out b_4 is_wounded (record {
   calling = refl;
   turn = refl;
   backs_off = record {
@@ -85,7 +85,7 @@ has_deadlock_wounding = has_deadlock g_14 wounded_out b_7 is_wounded (record {
     holds = omega arith;
     met = record {
       owner = with_waiters owner;
-      list = younger_waits;
+      list = younger_in_list;
       noted = refl;
       shown = record { wounded = λ _. (refl, omega arith); older = λ is. absurd (cc) };
     };

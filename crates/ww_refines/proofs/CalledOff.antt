@@ -7,16 +7,16 @@ use Rattle.atomic_table.specs.Table.{stepped, keeps}
 use Rattle.ww_word.specs.Owner.{with_waiters}
 use Rattle.ww_word.specs.AnySeats.{packed}
 use Rattle.ww_queue.specs.declared.kind.Kind.{Kind}
-use Rattle.ww_model.specs.declared.event.Event.TheVariants.{FastGive, Guard, Join, Unguard, Cancel, Heed, Leave}
+use Rattle.ww_model.specs.declared.event.Event.TheVariants.{FastGive, Unguard, Cancel, Heed, Leave}
 use Rattle.ww_model.specs.State.{put}
 use Rattle.ww_view.specs.Word.{rest_word}
 use Rattle.ww_view.specs.View.{owns}
-use Rattle.ww_view.specs.Made.{fast_missed, glanced, fast_given}
+use Rattle.ww_view.specs.Made.{fast_given}
 use Rattle.ww_invariant.specs.declared.cells.Part.{Part}
 use Rattle.ww_invariant.specs.declared.cells.Sight.{Sight}
 use Rattle.ww_invariant.specs.Layout.{lock_at, owner_at, cancel_at}
 use Rattle.ww_invariant.specs.Steps.{knowing}
-use Rattle.ww_invariant.specs.Guards.{entering, exiting}
+use Rattle.ww_invariant.specs.Guards.{exiting}
 use Rattle.ww_invariant.specs.Waiting.{joining}
 use Rattle.ww_invariant.specs.Cancels.{cancelling, heeding, stopping}
 use Rattle.ww_wakes.specs.Scene.{Step, performs}
@@ -25,35 +25,25 @@ use Rattle.ww_refines.specs.Moves.{Follows}
 use Rattle.ww_refines.specs.Plays as play
 use Rattle.ww_refines.specs.Deadlocks.{IsScheduledThere, HoldersGoOnThere, WaitsAreInEndlessRuns}
 use Rattle.ww_refines.proofs.Standstill.{idles}
-use Rattle.ww_refines.proofs.Pictures.{Picture, At, Next, played, seated, acting, word_there, plays_then, list_out, misses_as, misses_then, glances_as, glances_then, enters_as, enters_then, joins_as, joins_then, exits_as, exits_then}
+use Rattle.ww_refines.proofs.Pictures.{Picture, At, Next, played, seated, acting, word_there, plays_then, list_out, gone_in, ComesToWait, waits_as, comes_to_wait, exits_as, exits_then}
 use Rattle.ww_refines.proofs.Small.{least, small, AreSeated, first_is, second_is, nothing_owed, owner, waiter_1, holder_2, p_4, first_locks, bare, unsigned_inside, is_valid, is_valid_waited, first_not_second}
 
--- ---- what the second knows after each play: it cancels itself, misses the lock, looks at it, goes inside the guard, joins,
--- heeds, leaves the list, and comes out
+-- ---- what the second knows after each play: it cancels itself, comes to wait, heeds, leaves the list, and comes out
 
 abbrev pub off_1 : Kind → Sight
 off_1 kind = cancelling (waiter_1 kind) 1
 
-abbrev pub off_2 : Kind → Sight
-off_2 kind = knowing (off_1 kind) (fast_missed (off_1 kind).part.core)
+abbrev off_2 : Kind → Sight
+off_2 kind = joining (gone_in 0 [] (off_1 kind)) 0 owner
 
-abbrev pub off_3 : Kind → Sight
-off_3 kind = knowing (off_2 kind) (glanced (off_2 kind).part.core)
+abbrev off_3 : Kind → Sight
+off_3 kind = heeding (off_2 kind) 2
 
 abbrev off_4 : Kind → Sight
-off_4 kind = entering (off_3 kind) 0 []
+off_4 kind = stopping (off_3 kind) (with_waiters owner)
 
-abbrev off_5 : Kind → Sight
-off_5 kind = joining (off_4 kind) 0 owner
-
-abbrev off_6 : Kind → Sight
-off_6 kind = heeding (off_5 kind) 2
-
-abbrev off_7 : Kind → Sight
-off_7 kind = stopping (off_6 kind) (with_waiters owner)
-
-abbrev pub off_8 : Kind → Sight
-off_8 kind = exiting (off_7 kind)
+abbrev pub off_5 : Kind → Sight
+off_5 kind = exiting (off_4 kind)
 
 -- the first has released the lock
 abbrev pub free : Kind → Sight
@@ -75,33 +65,12 @@ cancels kind = let a = (first_locks kind).at in
     })
 
 abbrev pub p_6 : Kind → Picture
-p_6 kind = misses_as (small kind) (p_5 kind) 0 0 (off_1 kind)
+p_6 kind = waits_as (small kind) (p_5 kind) 0 0 owner (off_1 kind)
 
-pub misses : (kind : Kind) → Next (cancels kind).at 1 None (p_6 kind)
+pub waits : (kind : Kind) → ComesToWait (cancels kind).at 0 1 0 owner (off_1 kind)
 unfolding put ℕ_discrete lock_at
-misses kind = misses_then (cancels kind).at 0 1 (off_1 kind) (acting refl refl refl (omega arith) refl refl) 0
-
-abbrev pub p_7 : Kind → Picture
-p_7 kind = glances_as (small kind) (p_6 kind) 0 0 (off_2 kind)
-
-pub glances : (kind : Kind) → Next (misses kind).at 1 None (p_7 kind)
-unfolding put ℕ_discrete lock_at
-glances kind = glances_then (misses kind).at 0 1 (off_2 kind) (acting refl refl refl (omega arith) refl refl) 0
-
-abbrev pub p_8 : Kind → Picture
-p_8 kind = enters_as (small kind) (p_7 kind) 0 0 (off_3 kind)
-
-pub enters : (kind : Kind) → Next (glances kind).at 1 (Some (performs (Guard 1 0))) (p_8 kind)
-unfolding put ℕ_discrete lock_at
-enters kind = enters_then (glances kind).at 0 1 (off_3 kind) (acting refl refl refl (omega arith) refl refl) 0 (omega arith)
+waits kind = comes_to_wait (cancels kind).at 0 1 (off_1 kind) (acting refl refl refl (omega arith) refl refl) 0 owner (omega arith)
     (record { outside = refl; why = inr (inr (refl, refl, inl (omega arith), inr (inl refl))) }) refl
-
-abbrev pub p_9 : Kind → Picture
-p_9 kind = joins_as (small kind) (p_8 kind) 0 0 owner (off_4 kind)
-
-pub joins : (kind : Kind) → Next (enters kind).at 1 (Some (performs (Join 1 0))) (p_9 kind)
-unfolding put ℕ_discrete lock_at
-joins kind = joins_then (enters kind).at 0 1 (off_4 kind) (acting refl refl refl (omega arith) refl refl) 0 owner
     (record {
       inside = refl;
       not_waiting = refl;
@@ -110,17 +79,17 @@ joins kind = joins_then (enters kind).at 0 1 (off_4 kind) (acting refl refl refl
       other = (0, refl, first_not_second);
     }) is_valid refl
 
-abbrev pub p_10 : Kind → Picture
-p_10 kind = let p = p_9 kind in
-    played p (stepped p.table (cancel_at least 1) 0 0 (list_out 0 (off_5 kind)) (off_6 kind) keeps) (Some (performs (Heed 1 0)))
+abbrev pub p_7 : Kind → Picture
+p_7 kind = let p = p_6 kind in
+    played p (stepped p.table (cancel_at least 1) 0 0 (list_out 0 (off_2 kind)) (off_3 kind) keeps) (Some (performs (Heed 1 0)))
 
-pub heeds : (kind : Kind) → Next (joins kind).at 1 (Some (performs (Heed 1 0))) (p_10 kind)
+pub heeds : (kind : Kind) → Next (waits kind).joins.at 1 (Some (performs (Heed 1 0))) (p_7 kind)
 unfolding put ℕ_discrete lock_at
-heeds kind = let a = (joins kind).at in let out = list_out 0 (off_5 kind) in
-    plays_then a 0 1 (off_5 kind, out) (acting refl refl refl (omega arith) refl refl) (Some (performs (Heed 1 0))) _ (record {
+heeds kind = let a = (waits kind).joins.at in let out = list_out 0 (off_2 kind) in
+    plays_then a 0 1 (off_2 kind, out) (acting refl refl refl (omega arith) refl refl) (Some (performs (Heed 1 0))) _ (record {
       found = _;
       is = λ i. let x = slice_index (a.is_table i).words (cancel_at least 1) in
-          stepped (a.is_table i) (cancel_at least 1) 0 0 out (heeding (off_5 kind) x) keeps;
+          stepped (a.is_table i) (cancel_at least 1) 0 0 out (heeding (off_2 kind) x) keeps;
       plays = play.heeds 0
           (record { inside = refl; waits = refl; other = (with_waiters owner, refl, (0, refl, first_not_second)); unheeded = refl })
           (λ none. let set = word_there a (cancel_at least 1) 2 refl in omega arith);
@@ -128,34 +97,34 @@ heeds kind = let a = (joins kind).at in let out = list_out 0 (off_5 kind) in
 
 -- ---- from then on
 
-abbrev pub p_11 : Kind → Picture
-p_11 kind = let p = p_10 kind in
-    played p (stepped p.table (owner_at least 0) (packed (rest_word [] (with_waiters owner))) 0 (list_out 0 (off_6 kind)) (off_7 kind) keeps)
+abbrev pub p_8 : Kind → Picture
+p_8 kind = let p = p_7 kind in
+    played p (stepped p.table (owner_at least 0) (packed (rest_word [] (with_waiters owner))) 0 (list_out 0 (off_3 kind)) (off_4 kind) keeps)
     (Some (performs (Leave 1 0)))
 
-pub leaves_list : (kind : Kind) → Next (heeds kind).at 1 (Some (performs (Leave 1 0))) (p_11 kind)
+pub leaves_list : (kind : Kind) → Next (heeds kind).at 1 (Some (performs (Leave 1 0))) (p_8 kind)
 unfolding put ℕ_discrete lock_at
-leaves_list kind = let a = (heeds kind).at in let out = list_out 0 (off_6 kind) in
-    plays_then a 0 1 (off_6 kind, out) (acting refl refl refl (omega arith) refl refl) (Some (performs (Leave 1 0))) _ (record {
+leaves_list kind = let a = (heeds kind).at in let out = list_out 0 (off_3 kind) in
+    plays_then a 0 1 (off_3 kind, out) (acting refl refl refl (omega arith) refl refl) (Some (performs (Leave 1 0))) _ (record {
       found = _;
-      is = λ i. stepped (a.is_table i) (owner_at least 0) (packed (rest_word [] (with_waiters owner))) 0 out (off_7 kind) keeps;
+      is = λ i. stepped (a.is_table i) (owner_at least 0) (packed (rest_word [] (with_waiters owner))) 0 out (off_4 kind) keeps;
       plays = play.leaves 0 (with_waiters owner) (record { inside = refl; waits = refl; heeded = λ none. omega arith })
           is_valid_waited (word_there a (owner_at least 0) (packed (with_waiters owner)) refl);
     })
 
-abbrev pub p_12 : Kind → Picture
-p_12 kind = exits_as (small kind) (p_11 kind) 0 0 (off_7 kind) (performs (Unguard 1 0))
+abbrev pub p_9 : Kind → Picture
+p_9 kind = exits_as (small kind) (p_8 kind) 0 0 (off_4 kind) (performs (Unguard 1 0))
 
-pub comes_out : (kind : Kind) → Next (leaves_list kind).at 1 (Some (performs (Unguard 1 0))) (p_12 kind)
+pub comes_out : (kind : Kind) → Next (leaves_list kind).at 1 (Some (performs (Unguard 1 0))) (p_9 kind)
 unfolding put ℕ_discrete lock_at
-comes_out kind = exits_then (leaves_list kind).at 0 1 (off_7 kind) (acting refl refl refl (omega arith) refl refl) 0
+comes_out kind = exits_then (leaves_list kind).at 0 1 (off_4 kind) (acting refl refl refl (omega arith) refl refl) 0
     (record { inside = refl; why = inl (refl, refl); unsigned = λ _. inr (inr bare); unheeded = refl }) refl
 
-abbrev pub p_13 : Kind → Picture
-p_13 kind = let p = p_12 kind in
+abbrev pub p_10 : Kind → Picture
+p_10 kind = let p = p_9 kind in
     played p (stepped p.table (owner_at least 0) 0 1 [] (free kind) keeps) (Some (performs (FastGive 0 0)))
 
-pub releases : (kind : Kind) → Next (comes_out kind).at 0 (Some (performs (FastGive 0 0))) (p_13 kind)
+pub releases : (kind : Kind) → Next (comes_out kind).at 0 (Some (performs (FastGive 0 0))) (p_10 kind)
 unfolding put ℕ_discrete lock_at
 releases kind = let a = (comes_out kind).at in
     plays_then a 1 0 (holder_2 kind, []) (acting refl refl refl (omega arith) refl refl) (Some (performs (FastGive 0 0))) _ (record {
@@ -206,11 +175,11 @@ module _ (kind : Kind) where
   move (suc (suc zero)) = Some (performs (FastGive 0 0))
   move (suc (suc (suc i))) = None
 
-  sit_before : AreSeated kind (p_10 kind) (holder_2 kind) (off_6 kind)
+  sit_before : AreSeated kind (p_7 kind) (holder_2 kind) (off_3 kind)
   unfolding put ℕ_discrete lock_at
   sit_before = record { first = seated refl refl refl (omega arith); second = seated refl refl refl (omega arith) }
 
-  sit_then : AreSeated kind (p_13 kind) (free kind) (off_8 kind)
+  sit_then : AreSeated kind (p_10 kind) (free kind) (off_5 kind)
   unfolding put ℕ_discrete lock_at
   sit_then = record { first = seated refl refl refl (omega arith); second = seated refl refl refl (omega arith) }
 
@@ -227,11 +196,11 @@ module _ (kind : Kind) where
   pub calm : (i : ℕ) → IsCalm (moment i) (waits_at i)
   unfolding put ℕ_discrete lock_at
   calm zero = is_calm (heeds kind).at sit_before (λ s. refl) refl refl refl refl refl 1 refl
-  calm (suc zero) = is_calm (leaves_list kind).at {v = holder_2 kind} {w = off_7 kind} (record {
+  calm (suc zero) = is_calm (leaves_list kind).at {v = holder_2 kind} {w = off_4 kind} (record {
     first = seated refl refl refl (omega arith);
     second = seated refl refl refl (omega arith);
   }) (λ s. refl) refl refl refl refl refl 0 refl
-  calm (suc (suc zero)) = is_calm (comes_out kind).at {v = holder_2 kind} {w = off_8 kind} (record {
+  calm (suc (suc zero)) = is_calm (comes_out kind).at {v = holder_2 kind} {w = off_5 kind} (record {
     first = seated refl refl refl (omega arith);
     second = seated refl refl refl (omega arith);
   }) (λ s. refl) refl refl refl refl refl 0 refl

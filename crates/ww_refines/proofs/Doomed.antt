@@ -27,7 +27,7 @@ use Rattle.ww_refines.specs.Deadlocks.{IsScheduledThere, HasDeadlockThere, Deadl
 use Rattle.ww_refines.proofs.Standstill.{idles}
 use Rattle.ww_refines.proofs.Pictures.{Picture, At, Next, played, seated, dies_as, dies_then, exits_as, exits_then}
 use Rattle.ww_refines.proofs.Small.{least, small, AreSeated, first_is, second_is, nothing_owed, owner, is_valid_waited, first_not_second, second_not_first}
-use Rattle.ww_refines.proofs.Deadlocked.{aged_out, wounded_out, b_6, b_7, dying_16, wound_19, aged_sleeps, finds_sign}
+use Rattle.ww_refines.proofs.Deadlocked.{aged_out, wounded_out, b_3, b_4, dying_10, wound_13, aged_sleeps, finds_sign}
 
 -- ---- what holds as long as nothing more happens
 
@@ -180,7 +180,7 @@ module _ {kind : Kind} {p : Picture} (g : At (small kind) p) (a b : Sight) (h : 
 
 -- ---- in each kind
 
-pub is_dying : IsAboutToDie WaitDie dying_16 aged_out (b_6 WaitDie)
+pub is_dying : IsAboutToDie WaitDie dying_10 aged_out (b_3 WaitDie)
 unfolding put ℕ_discrete lock_at
 is_dying = record {
   sit = record { first = seated refl refl refl (omega arith); second = seated refl refl refl (omega arith) };
@@ -200,7 +200,7 @@ is_dying = record {
   dead = are_deadlocked _ refl refl (_, inl refl, refl) (_, inl refl, refl);
 }
 
-pub is_wounded : IsAboutToDie WoundWait wound_19 wounded_out b_7
+pub is_wounded : IsAboutToDie WoundWait wound_13 wounded_out b_4
 unfolding put ℕ_discrete lock_at
 is_wounded = record {
   sit = record { first = seated refl refl refl (omega arith); second = seated refl refl refl (omega arith) };
@@ -221,5 +221,5 @@ is_wounded = record {
 }
 
 pub deadlocks_are_in_endless_runs : DeadlocksAreInEndlessRuns
-deadlocks_are_in_endless_runs WaitDie = has_deadlock aged_sleeps.at aged_out (b_6 WaitDie) is_dying
-deadlocks_are_in_endless_runs WoundWait = has_deadlock finds_sign.at wounded_out b_7 is_wounded
+deadlocks_are_in_endless_runs WaitDie = has_deadlock aged_sleeps.at aged_out (b_3 WaitDie) is_dying
+deadlocks_are_in_endless_runs WoundWait = has_deadlock finds_sign.at wounded_out b_4 is_wounded

@@ -3,10 +3,12 @@ use Rattle.std.proofs.Common.{◌≡◌, ⊎_elim, ℕ, suc, ◌+◌, ◌-◌, �
 use mathlib.Core.Option.{some}
 use lib.ListN.{get_elem?}
 use Rattle.std.specs.Prelude.{slice_index}
-use Rattle.atomic_table.specs.Table.{stepped, keeps, takes, gives}
+use Rattle.atomic_table.specs.Table.{Act, stepped, keeps, takes, gives}
+use Rattle.atomic_table.proofs.Lists.{set_here}
 use Rattle.ww_word.specs.declared.owner.Owner.{Owner}
 use Rattle.ww_word.specs.Owner.{with_waiters}
 use Rattle.ww_word.specs.AnySeats.{IsValid, packed, most_for}
+use Rattle.ww_queue.specs.declared.entry.Entry.{Entry}
 use Rattle.ww_queue.specs.Queue.{left}
 use Rattle.ww_model.specs.declared.event.Event.TheVariants.{Begin, Fast, Guard, Join, Die, Unguard}
 use Rattle.ww_model.specs.State.{State, start, put}
@@ -25,6 +27,7 @@ use Rattle.ww_invariant.specs.Rule.{St, Sat, first_graph}
 use Rattle.ww_invariant.specs.Steps.{MayDraw, taker, drawing, knowing}
 use Rattle.ww_invariant.specs.Guards.{entering, exiting}
 use Rattle.ww_invariant.specs.Waiting.{joining, dying}
+use Rattle.ww_invariant.proofs.Fits.{place_low}
 use Rattle.ww_wakes.specs.Scene.{Step, performs, leaves_to_sleep, finds_no_sign, finds_no_cancel, wakes, falls_asleep}
 use Rattle.ww_refines.specs.Moment.{Moment, wakes_owed, core, HasToWake, Acts}
 use Rattle.ww_refines.specs.Moves.{StepsThere, Follows}
@@ -407,3 +410,66 @@ module _ {key : Start} {p : Picture} (a : At key p) (id d : ℕ) (v : Sight) (ac
       (exits_as key p id n v (leaves_to_sleep v.part.core.who n heeds))
   sleeps_then n heeds leave waits none = exits_by n (leaves_to_sleep v.part.core.who n heeds)
       (play.exits_to_sleep n heeds leave waits none refl)
+
+-- ---- a seat comes to wait: it misses the lock, looks at it once, goes inside its guard, and joins its list
+
+-- what it knows after each of these, where the list was q
+abbrev pub missed : Sight → Sight
+missed v = knowing v (fast_missed v.part.core)
+
+abbrev pub looked : Sight → Sight
+looked v = knowing (missed v) (glanced (missed v).part.core)
+
+abbrev pub gone_in : ℕ → List Entry → Sight → Sight
+gone_in n q v = entering (looked v) n q
+
+abbrev looked_as : Start → Picture → (id n : ℕ) → Sight → Picture
+looked_as key p id n v = glances_as key (misses_as key p id n v) id n (missed v)
+
+abbrev gone_in_as : Start → Picture → (id n : ℕ) → Sight → Picture
+gone_in_as key p id n v = enters_as key (looked_as key p id n v) id n (looked v)
+
+abbrev pub waits_as : Start → Picture → (id n : ℕ) → Owner → Sight → Picture
+waits_as key p id n o v = joins_as key (gone_in_as key p id n v) id n o (gone_in n (p.core.queue n) v)
+
+pub record ComesToWait {key : Start} {p : Picture} (a : At key p) (id d n : ℕ) (o : Owner) (v : Sight) : Type 0 where
+  pub misses : Next a d None (misses_as key p id n v)
+  pub missing : IsSeated key (misses_as key p id n v).table id d (missed v)
+  pub looks : Next misses.at d None (looked_as key p id n v)
+  pub looking : IsSeated key (looked_as key p id n v).table id d (looked v)
+  pub enters : Next looks.at d (Some (performs (Guard v.part.core.who n))) (gone_in_as key p id n v)
+  pub joins : Next enters.at d (Some (performs (Join v.part.core.who n))) (waits_as key p id n o v)
+
+module _ {key : Start} {p : Picture} {id d : ℕ} {v : Sight} (acts : IsActing key p id d v) where
+  -- a seat acts on after a step that is no exit
+  acts_on : (i x : ℕ) (w : Sight) (act : Act Cell) (step : Option Step) → w.seated ≡ v.seated →
+      w.part.core.who ≡ v.part.core.who → w.part.core.naps ≡ v.part.core.naps →
+      IsActing key (played p (stepped p.table i x id [] w act) step) id d w
+  acts_on i x w act step same who naps = let was = acts.seated in record {
+    seated = seated (set_here p.table.views id w (place_low p.table.views id v was.here)) (same ∙ was.seated) (who ∙ was.who) was.low;
+    awake = acts.awake;
+    rested = naps ∙ acts.rested;
+  }
+
+module _ {key : Start} {p : Picture} (a : At key p) (id d : ℕ) (v : Sight) (acts : IsActing key p id d v) where
+  pub comes_to_wait : (n : ℕ) (o : Owner) → n < key.locks → MayEnter (looked v).part.core n →
+      slice_index (looked_as key p id n v).table.words (guard_at key.locks n) ≡ 0 →
+      MayJoin (gone_in n (p.core.queue n) v).part.core n o → IsValid o → word_of_lock key (gone_in_as key p id n v) n ≡ packed o →
+      ComesToWait a id d n o v
+  comes_to_wait n o low enter free join valid word = let p_1 = misses_as key p id n v in let p_2 = looked_as key p id n v in
+      let i = owner_at key.locks n in let q = p.core.queue n in
+      let acts_1 : IsActing key p_1 id d (missed v) = acts_on acts i (word_of_lock key p n) (missed v) keeps None refl refl refl in
+      let acts_2 : IsActing key p_2 id d (looked v) = acts_on acts_1 i (word_of_lock key p_1 n) (looked v) keeps None refl refl refl in
+      let acts_3 : IsActing key (gone_in_as key p id n v) id d (gone_in n q v) = acts_on acts_2 (guard_at key.locks n)
+      (suc v.part.core.who) (gone_in n q v) (takes (list_at n) (Line q)) (Some (performs (Guard v.part.core.who n))) refl refl refl in
+      let m : Next a d None p_1 = misses_then a id d v acts n in
+      let l : Next m.at d None p_2 = glances_then m.at id d (missed v) acts_1 n in
+      let e : Next l.at d (Some (performs (Guard v.part.core.who n))) (gone_in_as key p id n v) =
+      enters_then l.at id d (looked v) acts_2 n low enter free in record {
+        misses = m;
+        missing = acts_1.seated;
+        looks = l;
+        looking = acts_2.seated;
+        enters = e;
+        joins = joins_then e.at id d (gone_in n q v) acts_3 n o join valid word;
+      }

@@ -13,14 +13,14 @@ use Rattle.ww_refines.specs.Moves.{Follows}
 use Rattle.ww_refines.specs.Endless.{IsEndlessThere, SleepsForEverThere, SleepsInVainThere, SleepersAreInEndlessRuns}
 use Rattle.ww_refines.proofs.Standstill.{idles}
 use Rattle.ww_refines.proofs.Pictures.{Picture, Beside, nobody, rung_by, waking, seated, part_is, wakes_then}
-use Rattle.ww_refines.proofs.Small.{small, AreSeated, first_is, second_is, nothing_owed, p_rest, second_sleeps, first_exits, p_11, holder_2, holder_5, waiter_5, second}
+use Rattle.ww_refines.proofs.Small.{small, AreSeated, first_is, second_is, nothing_owed, p_rest, second_sleeps, first_exits, p_10, holder_2, holder_5, waiter_4, second}
 
 -- ---- a thread that sleeps for ever
 
 sleeps_on : (kind : Kind) → IsEndlessThere kind SleepsForEverThere
 unfolding put ℕ_discrete
 sleeps_on kind = let a = second_sleeps kind in let m = a.moment in
-    let sits : AreSeated kind (p_rest kind) (holder_2 kind) (waiter_5 kind) =
+    let sits : AreSeated kind (p_rest kind) (holder_2 kind) (waiter_4 kind) =
     record { first = seated refl refl refl (omega arith); second = seated refl refl refl (omega arith) } in record {
       key = small kind;
       moment = λ _. m;
@@ -48,15 +48,15 @@ module _ (kind : Kind) where
   abbrev given_up : Moment (small kind)
   given_up = (first_exits kind).moment
 
-  sits : AreSeated kind (p_11 kind) (holder_5 kind) (waiter_5 kind)
+  sits : AreSeated kind (p_10 kind) (holder_5 kind) (waiter_4 kind)
   unfolding put ℕ_discrete lock_at
   sits = record { first = seated refl refl refl (omega arith); second = seated refl refl refl (omega arith) }
 
-  abbrev p_12 : Picture
-  p_12 = waking (p_11 kind) 0 1 (holder_5 kind).part
+  abbrev p_11 : Picture
+  p_11 = waking (p_10 kind) 0 1 (holder_5 kind).part
 
   -- the first wakes the second
-  rings : Beside (first_exits kind) (Some (wakes 0 1)) (rung_by given_up 0 1) p_12
+  rings : Beside (first_exits kind) (Some (wakes 0 1)) (rung_by given_up 0 1) p_11
   unfolding put ℕ_discrete lock_at
   rings = wakes_then (first_exits kind) 1 0 1 (holder_5 kind) sits.first refl refl (omega arith)
 
@@ -82,7 +82,7 @@ module _ (kind : Kind) where
 
   none_owed : (s u : ℕ) → ¬ HasToWake rung s u
   unfolding put ℕ_discrete lock_at
-  none_owed = nothing_owed rings.at {v = holder_5 kind} {w = waiter_5 kind} (record { first = sits.first; second = sits.second })
+  none_owed = nothing_owed rings.at {v = holder_5 kind} {w = waiter_4 kind} (record { first = sits.first; second = sits.second })
       refl refl
 
   no_token : (s : ℕ) → given_up.token s ≢ true
@@ -119,7 +119,7 @@ module _ (kind : Kind) where
     seat = omega arith;
     is_asleep = sleeping_on;
     due = ap (λ (f : ℕ → ℕ). f 1 + 1) rings.at.risen
-        ∙ ap (λ (q : Part). q.core.naps) (part_is rings.at 0 1 (waiter_5 kind) sits.second);
+        ∙ ap (λ (q : Part). q.core.naps) (part_is rings.at 0 1 (waiter_4 kind) sits.second);
   }
 
   follows : (i : ℕ) → Follows (waking_on i) (waking_on (suc i)) (waking_move i)
@@ -146,7 +146,7 @@ module _ (kind : Kind) where
   heard (suc zero) s token = (1, omega arith, ap (λ x. Some (rises x)) (sym (only_token s token)))
   heard (suc (suc i)) s token = absurd (none_token s token)
 
-  due : IsDue (p_11 kind).core 1 0
+  due : IsDue (p_10 kind).core 1 0
   unfolding put ℕ_discrete
   due = inr (refl, (second, [], refl, refl))
 

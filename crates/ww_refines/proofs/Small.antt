@@ -15,7 +15,7 @@ use Rattle.ww_queue.specs.declared.kind.Kind.TheVariants.{WoundWait, WaitDie}
 use Rattle.ww_queue.specs.declared.entry.Entry.{Entry}
 use Rattle.ww_queue.specs.Queue.{Has}
 use Rattle.ww_queue.specs.Rules.{owed_signs}
-use Rattle.ww_model.specs.declared.event.Event.TheVariants.{Begin, Fast, Guard, Join, Give, Unguard}
+use Rattle.ww_model.specs.declared.event.Event.TheVariants.{Begin, Fast, Guard, Give, Unguard}
 use Rattle.ww_model.specs.State.{start, put}
 use Rattle.ww_view.specs.Word.{given_word}
 use Rattle.ww_view.specs.May.{HasPaid}
@@ -36,7 +36,7 @@ use Rattle.ww_refines.specs.Moment.{wakes_owed, HasToWake}
 use Rattle.ww_refines.specs.Runs as runs
 use Rattle.ww_refines.specs.Plays as play
 use Rattle.ww_refines.proofs.Seating.{new_tables_begin}
-use Rattle.ww_refines.proofs.Pictures.{Picture, At, Next, first_picture, played, parking, IsSeated, seated, part_is, acting, word_there, plays_then, parks_then, list_out, begins_as, begins_then, locks_as, locks_then, enters_as, enters_then, joins_as, joins_then, exits_as, exits_then, sleeps_then}
+use Rattle.ww_refines.proofs.Pictures.{Picture, At, Next, first_picture, played, parking, IsSeated, seated, part_is, acting, word_there, plays_then, parks_then, list_out, begins_as, begins_then, locks_as, locks_then, enters_as, enters_then, gone_in, ComesToWait, waits_as, comes_to_wait, exits_as, exits_then, sleeps_then}
 
 -- ---- as many bare locks as the smallest world has, and two seats
 
@@ -140,28 +140,25 @@ holder_4 kind = knowing (holder_3 kind) (given (holder_3 kind).part.core 0 false
 abbrev pub holder_5 : Kind → Sight
 holder_5 kind = exiting (holder_4 kind)
 
--- the second draws, goes inside the guard, joins the list, finds no cancel, and comes out
+-- the second draws, comes to wait, finds no cancel, and comes out of the guard
 abbrev pub waiter_0 : Kind → Sight
 waiter_0 kind = without_first (first_sight (small kind))
 
 abbrev pub waiter_1 : Kind → Sight
 waiter_1 kind = drawing (waiter_0 kind) 2
 
-abbrev waiter_2 : Kind → Sight
-waiter_2 kind = entering (waiter_1 kind) 0 []
-
 -- the lock is the first one's
 abbrev pub owner : Owner
 owner = record { seat = Some 0; stamp = 1; flags = 0 }
 
+abbrev waiter_2 : Kind → Sight
+waiter_2 kind = joining (gone_in 0 [] (waiter_1 kind)) 0 owner
+
 abbrev waiter_3 : Kind → Sight
-waiter_3 kind = joining (waiter_2 kind) 0 owner
+waiter_3 kind = knowing (waiter_2 kind) (found_uncancelled (waiter_2 kind).part.core)
 
-abbrev waiter_4 : Kind → Sight
-waiter_4 kind = knowing (waiter_3 kind) (found_uncancelled (waiter_3 kind).part.core)
-
-abbrev pub waiter_5 : Kind → Sight
-waiter_5 kind = exiting (waiter_4 kind)
+abbrev pub waiter_4 : Kind → Sight
+waiter_4 kind = exiting (waiter_3 kind)
 
 -- ---- the plays, until the first has the lock
 
@@ -221,14 +218,6 @@ first_locks kind = locks_then (second_begins kind).at 1 0 (holder_1 kind) (actin
 
 -- ---- the second goes inside the guard, and comes to wait
 
-abbrev p_5 : Kind → Picture
-p_5 kind = enters_as (small kind) (p_4 kind) 0 0 (waiter_1 kind)
-
-second_enters : (kind : Kind) → Next (first_locks kind).at 1 (Some (performs (Guard 1 0))) (p_5 kind)
-unfolding put ℕ_discrete lock_at
-second_enters kind = enters_then (first_locks kind).at 0 1 (waiter_1 kind) (acting refl refl refl (omega arith) refl refl) 0
-    (omega arith) (record { outside = refl; why = inr (inr (refl, refl, inl (omega arith), inr (inl refl))) }) refl
-
 pub unsigned_inside : (kind : Kind) → once_inside kind 0 (Some 0) ≡ Some 0
 unsigned_inside WoundWait = refl
 unsigned_inside WaitDie = refl
@@ -245,13 +234,14 @@ first_not_second is = omega arith
 pub second_not_first : ◌≢◌ {A = ℕ} 1 0
 second_not_first is = omega arith
 
-abbrev p_6 : Kind → Picture
-p_6 kind = joins_as (small kind) (p_5 kind) 0 0 owner (waiter_2 kind)
+abbrev p_5 : Kind → Picture
+p_5 kind = waits_as (small kind) (p_4 kind) 0 0 owner (waiter_1 kind)
 
-second_joins : (kind : Kind) → Next (second_enters kind).at 1 (Some (performs (Join 1 0))) (p_6 kind)
+second_waits : (kind : Kind) → ComesToWait (first_locks kind).at 0 1 0 owner (waiter_1 kind)
 unfolding put ℕ_discrete lock_at
-second_joins kind = joins_then (second_enters kind).at 0 1 (waiter_2 kind) (acting refl refl refl (omega arith) refl refl) 0
-    owner (record {
+second_waits kind = comes_to_wait (first_locks kind).at 0 1 (waiter_1 kind) (acting refl refl refl (omega arith) refl refl) 0 owner
+    (omega arith) (record { outside = refl; why = inr (inr (refl, refl, inl (omega arith), inr (inl refl))) }) refl
+    (record {
       inside = refl;
       not_waiting = refl;
       base = inl (omega arith);
@@ -259,20 +249,20 @@ second_joins kind = joins_then (second_enters kind).at 0 1 (waiter_2 kind) (acti
       other = (0, refl, first_not_second);
     }) is_valid refl
 
-abbrev table_7 : Kind → St
-table_7 kind = stepped (p_6 kind).table (cancel_at least 1) 0 0 (list_out 0 (waiter_3 kind)) (waiter_4 kind) keeps
+abbrev table_6 : Kind → St
+table_6 kind = stepped (p_5 kind).table (cancel_at least 1) 0 0 (list_out 0 (waiter_2 kind)) (waiter_3 kind) keeps
 
-abbrev p_7 : Kind → Picture
-p_7 kind = played (p_6 kind) (table_7 kind) (Some (finds_no_cancel 1))
+abbrev p_6 : Kind → Picture
+p_6 kind = played (p_5 kind) (table_6 kind) (Some (finds_no_cancel 1))
 
-second_looks : (kind : Kind) → Next (second_joins kind).at 1 (Some (finds_no_cancel 1)) (p_7 kind)
+second_looks : (kind : Kind) → Next (second_waits kind).joins.at 1 (Some (finds_no_cancel 1)) (p_6 kind)
 unfolding put ℕ_discrete lock_at
-second_looks kind = let a = (second_joins kind).at in let out = list_out 0 (waiter_3 kind) in
-    plays_then a 0 1 (waiter_3 kind, out) (acting refl refl refl (omega arith) refl refl) (Some (finds_no_cancel 1))
-    (table_7 kind) (record {
+second_looks kind = let a = (second_waits kind).joins.at in let out = list_out 0 (waiter_2 kind) in
+    plays_then a 0 1 (waiter_2 kind, out) (acting refl refl refl (omega arith) refl refl) (Some (finds_no_cancel 1))
+    (table_6 kind) (record {
       found = _;
       is = λ i. let x = slice_index (a.is_table i).words (cancel_at least 1) in
-          stepped (a.is_table i) (cancel_at least 1) x 0 out (waiter_4 kind) keeps;
+          stepped (a.is_table i) (cancel_at least 1) x 0 out (waiter_3 kind) keeps;
       plays = play.finds_uncancelled (word_there a (cancel_at least 1) 0 refl);
     })
 
@@ -280,7 +270,7 @@ signs_none : (kind : Kind) → owed_signs kind (with_waiters owner) line 1 ≡ [
 signs_none WoundWait = refl
 signs_none WaitDie = refl
 
-has_paid : (kind : Kind) → HasPaid (waiter_4 kind).part.core
+has_paid : (kind : Kind) → HasPaid (waiter_3 kind).part.core
 has_paid kind = record {
   word = with_waiters owner;
   seen = refl;
@@ -289,12 +279,12 @@ has_paid kind = record {
   lives = λ _. refl;
 }
 
-abbrev p_8 : Kind → Picture
-p_8 kind = exits_as (small kind) (p_7 kind) 0 0 (waiter_4 kind) (leaves_to_sleep 1 0 true)
+abbrev p_7 : Kind → Picture
+p_7 kind = exits_as (small kind) (p_6 kind) 0 0 (waiter_3 kind) (leaves_to_sleep 1 0 true)
 
-second_exits : (kind : Kind) → Next (second_looks kind).at 1 (Some (leaves_to_sleep 1 0 true)) (p_8 kind)
+second_exits : (kind : Kind) → Next (second_looks kind).at 1 (Some (leaves_to_sleep 1 0 true)) (p_7 kind)
 unfolding put ℕ_discrete lock_at
-second_exits kind = sleeps_then (second_looks kind).at 0 1 (waiter_4 kind) (acting refl refl refl (omega arith) refl refl) 0 true
+second_exits kind = sleeps_then (second_looks kind).at 0 1 (waiter_3 kind) (acting refl refl refl (omega arith) refl refl) 0 true
     (record {
       exit = record { inside = refl; why = inr (has_paid kind); unsigned = λ _. inr (inr bare); unheeded = refl };
       acted = refl;
@@ -305,46 +295,46 @@ second_exits kind = sleeps_then (second_looks kind).at 0 1 (waiter_4 kind) (acti
 
 -- the second falls asleep
 abbrev pub p_rest : Kind → Picture
-p_rest kind = parking (p_8 kind) 1
+p_rest kind = parking (p_7 kind) 1
 
 pub second_sleeps : (kind : Kind) → At (small kind) (p_rest kind)
 unfolding put ℕ_discrete lock_at
-second_sleeps kind = let a = (second_exits kind).at in let sits : AreSeated kind (p_8 kind) (holder_2 kind) (waiter_5 kind) =
+second_sleeps kind = let a = (second_exits kind).at in let sits : AreSeated kind (p_7 kind) (holder_2 kind) (waiter_4 kind) =
     record { first = seated refl refl refl (omega arith); second = seated refl refl refl (omega arith) } in
-    (parks_then a 0 1 (waiter_5 kind) sits.second refl refl (nothing_owed a sits refl refl 1)).at
+    (parks_then a 0 1 (waiter_4 kind) sits.second refl refl (nothing_owed a sits refl refl 1)).at
 
 -- ---- the first goes inside the guard, releases the lock, and comes out
 
-abbrev p_9 : Kind → Picture
-p_9 kind = enters_as (small kind) (p_rest kind) 1 0 (holder_2 kind)
+abbrev p_8 : Kind → Picture
+p_8 kind = enters_as (small kind) (p_rest kind) 1 0 (holder_2 kind)
 
-first_enters : (kind : Kind) → Next (second_sleeps kind) 0 (Some (performs (Guard 0 0))) (p_9 kind)
+first_enters : (kind : Kind) → Next (second_sleeps kind) 0 (Some (performs (Guard 0 0))) (p_8 kind)
 unfolding put ℕ_discrete lock_at
 first_enters kind = enters_then (second_sleeps kind) 1 0 (holder_2 kind) (acting refl refl refl (omega arith) refl refl) 0
     (omega arith) (record { outside = refl; why = inl (refl, refl) }) refl
 
-abbrev table_10 : Kind → St
-table_10 kind = stepped (p_9 kind).table (owner_at least 0) (packed (given_word false line)) 1 (list_out 0 (holder_3 kind))
+abbrev table_9 : Kind → St
+table_9 kind = stepped (p_8 kind).table (owner_at least 0) (packed (given_word false line)) 1 (list_out 0 (holder_3 kind))
     (holder_4 kind) keeps
 
-abbrev p_10 : Kind → Picture
-p_10 kind = played (p_9 kind) (table_10 kind) (Some (performs (Give 0 0)))
+abbrev p_9 : Kind → Picture
+p_9 kind = played (p_8 kind) (table_9 kind) (Some (performs (Give 0 0)))
 
-first_gives : (kind : Kind) → Next (first_enters kind).at 0 (Some (performs (Give 0 0))) (p_10 kind)
+first_gives : (kind : Kind) → Next (first_enters kind).at 0 (Some (performs (Give 0 0))) (p_9 kind)
 unfolding put ℕ_discrete lock_at
 first_gives kind = let a = (first_enters kind).at in let out = list_out 0 (holder_3 kind) in
     plays_then a 1 0 (holder_3 kind, out) (acting refl refl refl (omega arith) refl refl) (Some (performs (Give 0 0)))
-    (table_10 kind) (record {
+    (table_9 kind) (record {
       found = _;
       is = λ i. stepped (a.is_table i) (owner_at least 0) (packed (given_word false line)) 1 out (holder_4 kind) keeps;
       plays = play.gives_bare_inside 0 (with_waiters owner) (omega arith) (record { inside = refl; owns = refl })
           is_valid_waited (word_there a (owner_at least 0) (packed (with_waiters owner)) refl);
     })
 
-abbrev pub p_11 : Kind → Picture
-p_11 kind = exits_as (small kind) (p_10 kind) 1 0 (holder_4 kind) (performs (Unguard 0 0))
+abbrev pub p_10 : Kind → Picture
+p_10 kind = exits_as (small kind) (p_9 kind) 1 0 (holder_4 kind) (performs (Unguard 0 0))
 
-pub first_exits : (kind : Kind) → At (small kind) (p_11 kind)
+pub first_exits : (kind : Kind) → At (small kind) (p_10 kind)
 unfolding put ℕ_discrete lock_at
 first_exits kind = (exits_then (first_gives kind).at 1 0 (holder_4 kind) (acting refl refl refl (omega arith) refl refl) 0
     (record { inside = refl; why = inl (refl, refl); unsigned = λ _. inr (inr bare); unheeded = refl }) refl).at
