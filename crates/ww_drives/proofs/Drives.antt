@@ -24,7 +24,7 @@ use Rattle.ww_drives.specs.Stages.{Stage, IsFirstStage}
 use Rattle.ww_drives.specs.Deeds.{Deed, steps, rises, Does, IsDriven}
 use Rattle.ww_drives.specs.Deeds as drive
 use Rattle.ww_drives.specs.Laws.{NewWorldsBegin, move_of, DrivesAreRuns, IsDueBy, NoWakeIsLostInDrives, NoStandstillInDrives, IsEndlessDrive, WakesArriveByDesks, NobodySleepsInVainInDrives, IsServed, NoDeadlockLastsInDrives, DrivesRunOn, WaitsEndInDrives}
-use Rattle.ww_drives.proofs.Kept.{OfDesk, of_desk, IsKept}
+use Rattle.ww_drives.proofs.Kept.{OfDesk, of_desk, IsKept, is_awake}
 use Rattle.ww_drives.proofs.Keeping.{IsInOrder, acts, follows, keep, owes_there}
 
 -- ---- the first stage
@@ -46,18 +46,15 @@ first_keeps {key = key} g f d low = let h = f.desks d low in let m = g.moment in
     let rung = ap (λ (r : ℕ → ℕ → ℕ). r d) f.first.rung in let risen = ap (λ (r : ℕ → ℕ). r d) f.first.risen in
     let same : of_desk g d ≡ first = cc in subst (IsKept d) (sym same) (record {
       number = refl;
-      current = λ _. ap (λ (places : ℕ). first_view key.kind key.locks places d) (sym f.places)
-          ∙ ap (λ (p : Part). p.core) (sym (f.first.parts d low));
-      cancelled = λ _. ap (λ (p : Part). p.counts.cancelled) (sym (f.first.parts d low));
-      up = λ _. refl;
-      due = λ on. absurd (true≢false (sym on));
-      rests = λ _. refl;
-      sleeps = λ on. absurd (true≢false (sym on));
-      unmarked = λ on. absurd (true≢false (sym on));
-      unnamed = λ _ _. refl;
       outside = λ _. refl;
-      even = λ u. omega arith;
-      marked = λ u few other. absurd (omega arith);
+      current = record {
+        view = λ _. ap (λ (places : ℕ). first_view key.kind key.locks places d) (sym f.places)
+            ∙ ap (λ (p : Part). p.core) (sym (f.first.parts d low));
+        cancelled = λ _. ap (λ (p : Part). p.counts.cancelled) (sym (f.first.parts d low));
+      };
+      rises = record { up = λ _. refl; due = λ on. absurd (true≢false (sym on)); rests = λ _. refl };
+      sleeps = is_awake _ false false _ refl;
+      owes = record { even = λ u. omega arith; marked = λ u few other. absurd (omega arith) };
     })
 
 pub new_worlds_begin : NewWorldsBegin
@@ -103,15 +100,15 @@ drives_are_runs = record {
 due_by : {key : Start} (g : Stage key) → IsInOrder g → (t s : ℕ) → HasToWake g.moment t s → IsDueBy g t s
 due_by g i t s has = ⊎_elim (λ calling. inr (inr (calling, has)))
     (λ idle. let few = has.owed in let a = owes_there g g i t s has.waker idle in
-    ⊎_elim inl (λ named. inr (inl named)) ((i t has.waker).marked s (omega arith) has.other)) (cases_Bool (g.calling t))
+    ⊎_elim inl (λ named. inr (inl named)) ((i t has.waker).owes.marked s (omega arith) has.other)) (cases_Bool (g.calling t))
 
 -- who sleeps has to wake nobody
 sleepers_owe_none : {key : Start} (g : Stage key) → IsInOrder g → (t s : ℕ) → g.moment.asleep t ≡ true →
     ¬ HasToWake g.moment t s
 sleepers_owe_none g i t s sleeps has = let k = i t has.waker in
-    ⊎_elim (λ marked. k.unmarked sleeps s marked)
-    (λ else. ⊎_elim (λ named. true≢false (sym named ∙ k.unnamed sleeps s))
-    (λ calling. true≢false (sym calling.0 ∙ k.rests (k.sleeps sleeps))) else) (due_by g i t s has)
+    ⊎_elim (λ marked. k.sleeps.unmarked sleeps s marked)
+    (λ else. ⊎_elim (λ named. true≢false (sym named ∙ k.sleeps.unnamed sleeps s))
+    (λ calling. true≢false (sym calling.0 ∙ k.rises.rests (k.sleeps.told_so sleeps))) else) (due_by g i t s has)
 
 pub no_wake_is_lost_in_drives : NoWakeIsLostInDrives
 no_wake_is_lost_in_drives key g driven s low sleeps = let i = in_order g driven in

@@ -31,7 +31,7 @@ IsInOrder {key = key} g = (d : ℕ) → d < key.seats → Keeps g d
 module _ {key : Start} (g g' : Stage key) (i : IsInOrder g) where
   -- amid a call the desk doesn't sleep, and isn't told to
   amid : (d : ℕ) → d < key.seats → g.calling d ≡ true → (g.moment.asleep d ≡ false) × (g.moment.risen d ≡ (g.desk d).view.naps)
-  amid d low calling = let k = i d low in let free = call_untold d (of_desk g d) k calling in (free.1, k.up free.0)
+  amid d low calling = let k = i d low in let free = call_untold d (of_desk g d) k calling in (free.1, k.rises.up free.0)
 
   -- ... so it acts, until it left a guard as a waiter
   pub acts : (d : ℕ) (x : Option Step) → Steps g g' d x → Acts g.moment d
@@ -103,13 +103,13 @@ module _ {key : Start} (g g' : Stage key) (i : IsInOrder g) where
   -- what it owes, by the table
   pub owes_there : (d u : ℕ) → d < key.seats → g.calling d ≡ false → wakes_owed (g.desk d) u ≡ runs.wakes_owed (g.moment.part d) u
   owes_there d u low idle = let k = i d low in
-      owed_there (g.desk d) (g.moment.part d) u (k.current idle) (k.cancelled idle)
+      owed_there (g.desk d) (g.moment.part d) u (k.current.view idle) (k.current.cancelled idle)
 
   wakes_keep : (d u : ℕ) → Wakes g g' d u → IsInOrder g'
   wakes_keep d u h = let m = g.moment in let k = i d h.at_hand.seat in
       let j = m.rung d u + (runs.wakes_owed (m.part d) u - m.rung d u) in
       let r' = put (m.rung d) u j in let n' = put (g.named d) u false in
-      let paid : j ≡ wakes_owed (g.desk d) u = (let a = owes_there d u h.at_hand.seat h.at_hand.idle in let b = k.even u in
+      let paid : j ≡ wakes_owed (g.desk d) u = (let a = owes_there d u h.at_hand.seat h.at_hand.idle in let b = k.owes.even u in
       omega arith) in
       each_keeps _ h.now d (record (of_desk g d) { named = n'; rung = r' })
       (let x = put_here m.rung d r' in let y = put_here g.named d n' in cc)
@@ -118,11 +118,11 @@ module _ {key : Start} (g g' : Stage key) (i : IsInOrder g) where
 
   wakes_follow : (d u : ℕ) → Wakes g g' d u → Follows g.moment g'.moment (Some (scene.wakes d u))
   wakes_follow d u h = let m = g.moment in let k = i d h.at_hand.seat in let a = owes_there d u h.at_hand.seat h.at_hand.idle in
-      let even = k.even u in
+      let even = k.owes.even u in
       subst (λ (z : Moment key). Follows m z (Some (scene.wakes d u))) (ap (λ (z : Stage key). z.moment) (sym h.now)) (record {
         stays = record { core = refl; parts = λ t low. refl; heeds = refl };
         awake = h.at_hand.awake;
-        outside = ap (λ (v : View). v.inside) (sym (k.current h.at_hand.idle)) ∙ k.outside h.outside;
+        outside = ap (λ (v : View). v.inside) (sym (k.current.view h.at_hand.idle)) ∙ k.outside h.outside;
         waker = h.at_hand.seat;
         count = runs.wakes_owed (m.part d) u - m.rung d u;
         most = omega arith;
@@ -147,11 +147,11 @@ module _ {key : Start} (g g' : Stage key) (i : IsInOrder g) where
         ready = record {
           seat = h.at_hand.seat;
           is_asleep = h.at_hand.awake;
-          due = k.due h.told ∙ ap (λ (v : View). v.naps) (k.current h.at_hand.idle);
+          due = k.rises.due h.told ∙ ap (λ (v : View). v.naps) (k.current.view h.at_hand.idle);
         };
         paid = λ u has. let a = owes_there d u h.at_hand.seat h.at_hand.idle in let few = has.owed in
             ⊎_elim (h.none_marked u) (λ named. true≢false (sym named ∙ h.none_named u))
-            (k.marked u (omega arith) has.other);
+            (k.owes.marked u (omega arith) has.other);
         asleep = refl;
         rung = refl;
         risen = refl;
@@ -175,7 +175,7 @@ module _ {key : Start} (g g' : Stage key) (i : IsInOrder g) where
           record {
             seat = h.seat;
             is_asleep = refl;
-            due = k.due h.told ∙ ap (λ (v : View). v.naps) (k.current (k.rests h.told));
+            due = k.rises.due h.told ∙ ap (λ (v : View). v.naps) (k.current.view (k.rises.rests h.told));
           },
         );
         risen = refl;

@@ -1,156 +1,121 @@
 -- Two threads at a table with two locks, play by play, until they are deadlocked.
-use Rattle.std.proofs.Common.{◌≡◌, ◌≢◌, ⊎_elim, inl, inr, ℕ, zero, suc, ◌+◌, ◌<◌, Bool, true, false, true≢false, List, [], ◌∷◌, Some, refl, sym, ap, ◌∙◌, arith}
+use Rattle.std.proofs.Common.{⊎_elim, inl, inr, ℕ, ◌≡◌, true, false, true≢false, List, [], ◌∷◌, Some, None, refl, sym, ap, arith}
 use native.Mathlib.Decide.{ℕ_discrete}
 use Rattle.std.specs.Prelude.{slice_index}
-use Rattle.atomic_table.specs.Table.{stepped, keeps, takes, gives}
+use Rattle.atomic_table.specs.Table.{stepped, keeps}
 use Rattle.ww_word.specs.declared.owner.Owner.{Owner}
 use Rattle.ww_word.specs.Owner.{with_waiters}
-use Rattle.ww_word.specs.AnySeats.{IsValid, packed}
+use Rattle.ww_word.specs.AnySeats.{IsValid}
 use Rattle.ww_queue.specs.declared.kind.Kind.{Kind}
 use Rattle.ww_queue.specs.declared.kind.Kind.TheVariants.{WoundWait, WaitDie}
 use Rattle.ww_queue.specs.declared.entry.Entry.{Entry}
-use Rattle.ww_model.specs.declared.event.Event.TheVariants.{Fast, Guard, Join, Sign, Unguard}
-use Rattle.ww_model.specs.State.{State, put}
-use Rattle.ww_model.specs.Event.{after}
+use Rattle.ww_model.specs.declared.event.Event.TheVariants.{Fast, Sign}
+use Rattle.ww_model.specs.State.{put}
 use Rattle.ww_view.specs.Made.{fast_taken, found_none, has_read}
-use Rattle.ww_invariant.specs.declared.cells.Cell.{Cell}
-use Rattle.ww_invariant.specs.declared.cells.Cell.TheVariants.{Line}
-use Rattle.ww_invariant.specs.declared.cells.Part.{Part}
 use Rattle.ww_invariant.specs.declared.cells.Sight.{Sight}
-use Rattle.ww_invariant.specs.Layout.{lock_at, owner_at, guard_at, sign_at, list_at}
-use Rattle.ww_invariant.specs.Rule.{St, Sat}
+use Rattle.ww_invariant.specs.Layout.{lock_at, sign_at}
 use Rattle.ww_invariant.specs.Steps.{knowing}
-use Rattle.ww_invariant.specs.Guards.{entering, exiting}
+use Rattle.ww_invariant.specs.Guards.{exiting}
 use Rattle.ww_invariant.specs.Waiting.{joining}
 use Rattle.ww_invariant.specs.Signs.{condemning}
-use Rattle.ww_wakes.specs.Scene.{wakes, falls_asleep}
-use Rattle.ww_refines.specs.Moment.{Moment, wakes_owed}
-use Rattle.ww_refines.specs.Runs as runs
+use Rattle.ww_wakes.specs.Scene.{performs, leaves_to_sleep, finds_no_sign, wakes, falls_asleep}
 use Rattle.ww_refines.specs.Plays as play
-use Rattle.ww_refines.proofs.Small.{AtWith, At, nobody, nothing, performs_there, leaves_there, unsigned_there, others_there, word_there, part_there, least, small, owner, is_valid, holder_2, waiter_1, table_4, core_2, at_4}
+use Rattle.ww_refines.proofs.Pictures.{Picture, Next, Beside, rung_by, asleep_by, played, waking, parking, seated, acting, word_there, plays_then, wakes_then, parks_then, list_out, locks_as, locks_then, gone_in, ComesToWait, waits_as, comes_to_wait, exits_as, sleeps_then}
+use Rattle.ww_refines.proofs.Small.{least, small, AreSeated, nothing_owed, owner, is_valid, first_not_second, second_not_first, holder_2, waiter_1, p_4, first_locks}
 
--- ---- what the two know after each play
+-- ---- what the two know after each play, alike in both kinds
 
 -- the owner of lock 1; lock 0 has `owner`
 abbrev pub younger : Owner
 younger = record { seat = Some 1; stamp = 2; flags = 0 }
 
--- their wait lists, once each has a waiter, which the seat inside has out
-abbrev pub older_waits : List Entry
-older_waits = record { seat = 0; stamp = 1; holds = true } ∷ []
-
-abbrev pub younger_waits : List Entry
-younger_waits = record { seat = 1; stamp = 2; holds = true } ∷ []
-
-abbrev pub out : ℕ → List Entry → List (ℕ × Cell)
-out n q = (list_at n, Line q) ∷ []
-
--- the older has lock 0, goes inside the guard of lock 1, and joins its list
-abbrev a_3 : Kind → Sight
-a_3 kind = entering (holder_2 kind) 1 []
-
-abbrev pub a_4 : Kind → Sight
-a_4 kind = joining (a_3 kind) 1 younger
-
--- the younger takes lock 1; later it goes inside the guard of lock 0, and joins its list
+-- the younger takes lock 1
 abbrev pub b_2 : Kind → Sight
 b_2 kind = knowing (waiter_1 kind) (fast_taken (waiter_1 kind).part.core 1)
 
+-- each once it stands in the list of the other's lock
+abbrev a_3 : Kind → Sight
+a_3 kind = joining (gone_in 1 [] (holder_2 kind)) 1 younger
+
 abbrev pub b_3 : Kind → Sight
-b_3 kind = entering (b_2 kind) 0 []
+b_3 kind = joining (gone_in 0 [] (b_2 kind)) 0 owner
 
-abbrev pub b_4 : Kind → Sight
-b_4 kind = joining (b_3 kind) 0 owner
+-- ---- until each has a lock, and stands in the list of the other's
 
--- ---- up to there, alike in both kinds
+abbrev pub p_5 : Kind → Picture
+p_5 kind = locks_as (small kind) (p_4 kind) 0 1 (waiter_1 kind)
 
-abbrev table_5 : Kind → St
-table_5 kind = stepped (table_4 kind) (owner_at least 1) (packed younger) 0 [] (b_2 kind) keeps
-
-abbrev table_6 : Kind → St
-table_6 kind = stepped (table_5 kind) (guard_at least 1) 1 1 [] (a_3 kind) (takes (list_at 1) (Line []))
-
-abbrev pub table_7 : Kind → St
-table_7 kind = stepped (table_6 kind) (owner_at least 1) (packed (with_waiters younger)) 1 (out 1 []) (a_4 kind) keeps
-
-abbrev core_5 : Kind → State
-core_5 kind = after (after (core_2 kind) (Fast 0 0)) (Fast 1 1)
-
-abbrev pub core_7 : Kind → State
-core_7 kind = after (after (core_5 kind) (Guard 0 1)) (Join 0 1)
-
-at_5 : (kind : Kind) → At (small kind) (table_5 kind) (core_5 kind) nobody nobody
-unfolding lock_at
-at_5 kind = let a = at_4 kind in let me : Sat = (waiter_1 kind, []) in
-    performs_there a 0 me refl refl (omega arith) refl refl (Fast 1 1) (table_5 kind) _
-    (λ i. stepped (a.is_table i) (owner_at least 1) (packed younger) 0 [] (b_2 kind) keeps)
-    (play.takes_bare 1 (omega arith) (omega arith)
-    (record { away = (refl, refl); base = inl (omega arith); signs = inr (inl refl) })
-    (word_there a (owner_at least 1) 0 refl))
-
-at_6 : (kind : Kind) → At (small kind) (table_6 kind) (after (core_5 kind) (Guard 0 1)) nobody nobody
+pub younger_locks : (kind : Kind) → Next (first_locks kind).at 1 (Some (performs (Fast 1 1))) (p_5 kind)
 unfolding put ℕ_discrete lock_at
-at_6 kind = let a = at_5 kind in let me : Sat = (holder_2 kind, []) in
-    performs_there a 1 me refl refl (omega arith) refl refl (Guard 0 1) (table_6 kind) _
-    (λ i. let q = (a.is_core i).queue 1 in
-    stepped (a.is_table i) (guard_at least 1) 1 1 [] (entering (holder_2 kind) 1 q) (takes (list_at 1) (Line q)))
-    (play.enters 1 (omega arith)
-    (record { outside = refl; why = inr (inr (refl, refl, inl (omega arith), inr (inr (inl (0, refl))))) })
-    (word_there a (guard_at least 1) 0 refl))
+younger_locks kind = locks_then (first_locks kind).at 0 1 (waiter_1 kind) (acting refl refl refl (omega arith) refl refl) 1
+    (omega arith) (omega arith) (record { away = (refl, refl); base = inl (omega arith); signs = inr (inl refl) }) refl
 
-pub first_not_second : ◌≢◌ {A = ℕ} 0 1
-first_not_second is = omega arith
-
-pub second_not_first : ◌≢◌ {A = ℕ} 1 0
-second_not_first is = omega arith
-
-pub is_valid_younger : IsValid younger
+is_valid_younger : IsValid younger
 is_valid_younger = record { seating = inl (omega arith, omega arith); flags = inl refl }
 
-pub at_7 : (kind : Kind) → At (small kind) (table_7 kind) (core_7 kind) nobody nobody
+abbrev p_6 : Kind → Picture
+p_6 kind = waits_as (small kind) (p_5 kind) 1 1 younger (holder_2 kind)
+
+pub older_waits : (kind : Kind) → ComesToWait (younger_locks kind).at 1 0 1 younger (holder_2 kind)
 unfolding put ℕ_discrete lock_at
-at_7 kind = let a = at_6 kind in let me : Sat = (a_3 kind, out 1 []) in
-    performs_there a 1 me refl refl (omega arith) refl refl (Join 0 1) (table_7 kind) _
-    (λ i. stepped (a.is_table i) (owner_at least 1) (packed (with_waiters younger)) 1 (out 1 []) (a_4 kind) keeps)
-    (play.joins 1 younger
-    (record {
+older_waits kind = comes_to_wait (younger_locks kind).at 1 0 (holder_2 kind) (acting refl refl refl (omega arith) refl refl) 1
+    younger (omega arith) (record { outside = refl; why = inr (inr (refl, refl, inl (omega arith), inr (inr (inl (0, refl))))) })
+    refl (record {
       inside = refl;
       not_waiting = refl;
       base = inl (omega arith);
       signs = inr (inr (inl (0, refl)));
       other = (1, refl, second_not_first);
-    })
-    is_valid_younger (word_there a (owner_at least 1) (packed younger) refl))
+    }) is_valid_younger refl
 
--- ---- the older falls asleep: in Wound-Wait it condemns the younger before, and wakes it
+abbrev pub p_7 : Kind → Picture
+p_7 kind = waits_as (small kind) (p_6 kind) 0 0 owner (b_2 kind)
 
--- in Wait-Die it finds that it has no sign, and comes out
+pub younger_waits : (kind : Kind) → ComesToWait (older_waits kind).joins.at 0 1 0 owner (b_2 kind)
+unfolding put ℕ_discrete lock_at
+younger_waits kind = comes_to_wait (older_waits kind).joins.at 0 1 (b_2 kind) (acting refl refl refl (omega arith) refl refl) 0
+    owner (omega arith) (record { outside = refl; why = inr (inr (refl, refl, inl (omega arith), inr (inr (inl (1, refl))))) })
+    refl (record {
+      inside = refl;
+      not_waiting = refl;
+      base = inl (omega arith);
+      signs = inr (inr (inl (1, refl)));
+      other = (0, refl, first_not_second);
+    }) is_valid refl
+
+-- the list of lock 0 then
+abbrev pub younger_in_list : List Entry
+younger_in_list = record { seat = 1; stamp = 2; holds = true } ∷ []
+
+-- ---- in Wait-Die the older finds that it has no sign, comes out, and falls asleep
+
 abbrev aged : Sight
-aged = knowing (a_4 WaitDie) (has_read (a_4 WaitDie).part.core 0)
+aged = knowing (a_3 WaitDie) (has_read (a_3 WaitDie).part.core 0)
 
 abbrev pub aged_out : Sight
 aged_out = exiting aged
 
-abbrev dying_8 : St
-dying_8 = stepped (table_7 WaitDie) (sign_at least 0) 0 1 (out 1 older_waits) aged keeps
+abbrev dying_8 : Picture
+dying_8 = let p = p_7 WaitDie in
+    played p (stepped p.table (sign_at least 0) 0 1 (list_out 1 (a_3 WaitDie)) aged keeps) (Some (finds_no_sign 0))
 
-abbrev pub dying_9 : St
-dying_9 = stepped dying_8 (guard_at least 1) 0 1 (out 1 older_waits) aged_out gives
+pub finds_unsigned : Next (younger_waits WaitDie).joins.at 0 (Some (finds_no_sign 0)) dying_8
+unfolding put ℕ_discrete lock_at
+finds_unsigned = let a = (younger_waits WaitDie).joins.at in let out = list_out 1 (a_3 WaitDie) in
+    plays_then a 1 0 (a_3 WaitDie, out) (acting refl refl refl (omega arith) refl refl) (Some (finds_no_sign 0)) _ (record {
+      found = _;
+      is = λ i. let x = slice_index (a.is_table i).words (sign_at least 0) in
+          stepped (a.is_table i) (sign_at least 0) x 1 out aged keeps;
+      plays = play.finds_unsigned_for_long (word_there a (sign_at least 0) 0 refl)
+          (inr (refl, λ is. let z : 2 ≡ 0 = is in omega arith));
+    })
 
-at_dying_8 : At (small WaitDie) dying_8 (core_7 WaitDie) nobody nobody
-unfolding lock_at
-at_dying_8 = let a = at_7 WaitDie in let me : Sat = (a_4 WaitDie, out 1 older_waits) in
-    unsigned_there a 1 me refl refl (omega arith) refl refl 0 dying_8 _
-    (λ i. stepped (a.is_table i) (sign_at least 0) (slice_index (a.is_table i).words (sign_at least 0)) 1 (out 1 older_waits)
-    aged keeps)
-    (play.finds_unsigned_for_long (word_there a (sign_at least 0) 0 refl) (inr (refl, λ is. let z : 2 ≡ 0 = is in omega arith)))
+abbrev dying_9 : Picture
+dying_9 = exits_as (small WaitDie) dying_8 1 1 aged (leaves_to_sleep 0 1 false)
 
-at_dying_9 : At (small WaitDie) dying_9 (after (core_7 WaitDie) (Unguard 0 1)) nobody (put nobody 0 false)
-unfolding lock_at
-at_dying_9 = let a = at_dying_8 in let me : Sat = (aged, out 1 older_waits) in
-    leaves_there a 1 me refl refl (omega arith) refl refl 0 1 false dying_9 _
-    (λ i. stepped (a.is_table i) (guard_at least 1) 0 1 (out 1 older_waits) aged_out gives)
-    (play.exits_to_sleep 1 false
+pub aged_exits : Next finds_unsigned.at 0 (Some (leaves_to_sleep 0 1 false)) dying_9
+unfolding put ℕ_discrete lock_at
+aged_exits = sleeps_then finds_unsigned.at 1 0 aged (acting refl refl refl (omega arith) refl refl) 1 false
     (record {
       exit = record {
         inside = refl;
@@ -168,11 +133,21 @@ at_dying_9 = let a = at_dying_8 in let me : Sat = (aged, out 1 older_waits) in
       again = λ later. absurd (true≢false (sym later));
       looked = λ is. absurd (cc);
     })
-    refl (λ heeds. absurd (true≢false (sym heeds))) refl)
+    refl (λ heeds. absurd (true≢false (sym heeds)))
 
--- in Wound-Wait it signs the younger, finds that it has no sign, and comes out
+abbrev pub dying_10 : Picture
+dying_10 = parking dying_9 0
+
+pub aged_sleeps : Beside aged_exits.at (Some (falls_asleep 0)) (asleep_by aged_exits.at.moment 0) dying_10
+unfolding put ℕ_discrete lock_at
+aged_sleeps = let sits : AreSeated WaitDie dying_9 aged_out (b_3 WaitDie) =
+    record { first = seated refl refl refl (omega arith); second = seated refl refl refl (omega arith) } in
+    parks_then aged_exits.at 1 0 aged_out sits.first refl refl (nothing_owed aged_exits.at sits refl refl 0)
+
+-- ---- in Wound-Wait it signs the younger, finds that it has no sign, and comes out; it wakes the younger, and falls asleep
+
 abbrev wounding : Sight
-wounding = condemning (a_4 WoundWait) 1
+wounding = condemning (a_3 WoundWait) 1
 
 abbrev wounded : Sight
 wounded = knowing wounding (found_none wounding.part.core)
@@ -180,43 +155,40 @@ wounded = knowing wounding (found_none wounding.part.core)
 abbrev pub wounded_out : Sight
 wounded_out = exiting wounded
 
-abbrev wound_8 : St
-wound_8 = stepped (table_7 WoundWait) (sign_at least 1) 1 1 (out 1 older_waits) wounding keeps
+abbrev wound_8 : Picture
+wound_8 = let p = p_7 WoundWait in
+    played p (stepped p.table (sign_at least 1) 1 1 (list_out 1 (a_3 WoundWait)) wounding keeps) (Some (performs (Sign 0 1)))
 
-abbrev wound_9 : St
-wound_9 = stepped wound_8 (sign_at least 0) 0 1 (out 1 older_waits) wounded keeps
+pub signs : Next (younger_waits WoundWait).joins.at 0 (Some (performs (Sign 0 1))) wound_8
+unfolding put ℕ_discrete lock_at
+signs = let a = (younger_waits WoundWait).joins.at in let out = list_out 1 (a_3 WoundWait) in
+    plays_then a 1 0 (a_3 WoundWait, out) (acting refl refl refl (omega arith) refl refl) (Some (performs (Sign 0 1))) _ (record {
+      found = _;
+      is = λ i. stepped (a.is_table i) (sign_at least 1) 1 1 out wounding keeps;
+      plays = play.signs 1 1 1 (record { inside = refl; owes = (with_waiters younger, refl, inl refl) }) (omega arith)
+          (word_there a (sign_at least 1) 0 refl);
+    })
 
-abbrev pub wound_10 : St
-wound_10 = stepped wound_9 (guard_at least 1) 0 1 (out 1 older_waits) wounded_out gives
+abbrev wound_9 : Picture
+wound_9 = let p = wound_8 in
+    played p (stepped p.table (sign_at least 0) 0 1 (list_out 1 wounding) wounded keeps) (Some (finds_no_sign 0))
 
-at_wound_8 : At (small WoundWait) wound_8 (after (core_7 WoundWait) (Sign 0 1)) nobody nobody
-unfolding lock_at
-at_wound_8 = let a = at_7 WoundWait in let me : Sat = (a_4 WoundWait, out 1 older_waits) in
-    performs_there a 1 me refl refl (omega arith) refl refl (Sign 0 1) wound_8 _
-    (λ i. stepped (a.is_table i) (sign_at least 1) 1 1 (out 1 older_waits) wounding keeps)
-    (play.signs 1 1 1 (record { inside = refl; owes = (with_waiters younger, refl, inl refl) }) (omega arith)
-    (word_there a (sign_at least 1) 0 refl))
+pub finds_none : Next signs.at 0 (Some (finds_no_sign 0)) wound_9
+unfolding put ℕ_discrete lock_at
+finds_none = let a = signs.at in let out = list_out 1 wounding in
+    plays_then a 1 0 (wounding, out) (acting refl refl refl (omega arith) refl refl) (Some (finds_no_sign 0)) _ (record {
+      found = _;
+      is = λ i. let x = slice_index (a.is_table i).words (sign_at least 0) in
+          stepped (a.is_table i) (sign_at least 0) x 1 out wounded keeps;
+      plays = play.finds_unsigned (word_there a (sign_at least 0) 0 refl);
+    })
 
-at_wound_9 : At (small WoundWait) wound_9 (after (core_7 WoundWait) (Sign 0 1)) nobody nobody
-unfolding lock_at
-at_wound_9 = let a = at_wound_8 in let me : Sat = (wounding, out 1 older_waits) in
-    unsigned_there a 1 me refl refl (omega arith) refl refl 0 wound_9 _
-    (λ i. stepped (a.is_table i) (sign_at least 0) (slice_index (a.is_table i).words (sign_at least 0)) 1 (out 1 older_waits)
-    wounded keeps)
-    (play.finds_unsigned (word_there a (sign_at least 0) 0 refl))
+abbrev wound_10 : Picture
+wound_10 = exits_as (small WoundWait) wound_9 1 1 wounded (leaves_to_sleep 0 1 false)
 
-abbrev pub core_wound : State
-core_wound = after (after (core_7 WoundWait) (Sign 0 1)) (Unguard 0 1)
-
-abbrev pub core_dying : State
-core_dying = after (core_7 WaitDie) (Unguard 0 1)
-
-at_wound_10 : At (small WoundWait) wound_10 core_wound nobody (put nobody 0 false)
-unfolding lock_at
-at_wound_10 = let a = at_wound_9 in let me : Sat = (wounded, out 1 older_waits) in
-    leaves_there a 1 me refl refl (omega arith) refl refl 0 1 false wound_10 _
-    (λ i. stepped (a.is_table i) (guard_at least 1) 0 1 (out 1 older_waits) wounded_out gives)
-    (play.exits_to_sleep 1 false
+pub wounded_exits : Next finds_none.at 0 (Some (leaves_to_sleep 0 1 false)) wound_10
+unfolding put ℕ_discrete lock_at
+wounded_exits = sleeps_then finds_none.at 1 0 wounded (acting refl refl refl (omega arith) refl refl) 1 false
     (record {
       exit = record {
         inside = refl;
@@ -234,178 +206,37 @@ at_wound_10 = let a = at_wound_9 in let me : Sat = (wounded, out 1 older_waits) 
       again = λ later. absurd (true≢false (sym later));
       looked = λ _ _ _ _. refl;
     })
-    refl (λ heeds. absurd (true≢false (sym heeds))) refl)
+    refl (λ heeds. absurd (true≢false (sym heeds)))
 
--- whom it has to wake it has woken then, so it falls asleep
-module _ {kind : Kind} {table : St} {core : State} {given : ℕ → ℕ → ℕ} {has heeds : ℕ → Bool}
-    (a : AtWith (small kind) table core given has nobody heeds) (v : Sight) (part : v.part ≡ a.moment.part 0)
-    (naps : v.part.core.naps ≡ 1) (paid : (u : ℕ) → u < 2 → given 0 u ≡ wakes_owed v.part u) where
-  asleep_then : AtWith (small kind) table core given has (put nobody 0 true) heeds
-  asleep_then = let m = a.moment in let then : Moment (small kind) = record m { asleep = put m.asleep 0 true } in record {
-    moment = then;
-    run = runs.goes_on m then (Some (falls_asleep 0)) a.run (record {
-      stays = record { core = refl; parts = λ u low. refl; heeds = refl };
-      ready = record {
-        seat = omega arith;
-        is_asleep = ap (λ (f : ℕ → Bool). f 0) a.asleep;
-        due = ap (λ (f : ℕ → ℕ). f 0 + 1) a.risen ∙ sym naps ∙ ap (λ (p : Part). p.core.naps) part;
-      };
-      paid = λ u h. let few = h.owed in let even = ap (λ (f : ℕ → ℕ → ℕ). f 0 u) a.rung ∙ paid u h.sleeper
-          ∙ ap (λ (p : Part). wakes_owed p u) part in omega arith;
-      asleep = refl;
-      rung = refl;
-      risen = refl;
-      token = refl;
-    });
-    is_table = a.is_table;
-    is_core = a.is_core;
-    rung = a.rung;
-    risen = a.risen;
-    token = a.token;
-    asleep = ap (λ (f : ℕ → Bool). put f 0 true) a.asleep;
-    heeding = a.heeding;
-  }
+abbrev pub wound_11 : Picture
+wound_11 = waking wound_10 0 1 wounded_out.part
 
-abbrev pub heeding : ℕ → Bool
-heeding = put nobody 0 false
-
-abbrev pub sleeping : ℕ → Bool
-sleeping = put nobody 0 true
-
-at_dying_10 : At (small WaitDie) dying_9 core_dying sleeping heeding
-at_dying_10 = asleep_then at_dying_9 aged_out (part_there at_dying_9 1 (aged_out, []) refl refl (omega arith)) refl paid
-  where
-    paid : (u : ℕ) → u < 2 → 0 ≡ wakes_owed aged_out.part u
-    paid zero low = refl
-    paid (suc zero) low = refl
-    paid (suc (suc u)) low = absurd (omega arith)
-
--- the one token that the older gave the younger
-abbrev pub rang : ℕ → ℕ → ℕ
-rang = put nothing 0 (put (nothing 0) 1 (nothing 0 1 + 1))
-
-abbrev pub told : ℕ → Bool
-told = put nobody 1 true
-
-at_wound_11 : AtWith (small WoundWait) wound_10 core_wound rang told nobody heeding
-at_wound_11 = let a = at_wound_10 in let m = a.moment in
-    let part = part_there a 1 (wounded_out, []) refl refl (omega arith) in
-    let then : Moment (small WoundWait) = record m {
-      rung = put m.rung 0 (put (m.rung 0) 1 (m.rung 0 1 + 1));
-      token = put m.token 1 true;
-    } in record {
-      moment = then;
-      run = runs.goes_on m then (Some (wakes 0 1)) a.run (record {
-        stays = record { core = refl; parts = λ u low. refl; heeds = refl };
-        awake = ap (λ (f : ℕ → Bool). f 0) a.asleep;
-        outside = ap (λ (p : Part). p.core.inside) (sym part);
-        waker = omega arith;
-        count = 1;
-        most = let owed = ap (λ (p : Part). wakes_owed p 1) part in
-            let none = ap (λ (f : ℕ → ℕ → ℕ). f 0 1) a.rung in omega arith;
-        rung = refl;
-        token = refl;
-        risen = refl;
-        asleep = refl;
-      });
-      is_table = a.is_table;
-      is_core = a.is_core;
-      rung = ap (λ (f : ℕ → ℕ → ℕ). put f 0 (put (f 0) 1 (f 0 1 + 1))) a.rung;
-      risen = a.risen;
-      token = ap (λ (f : ℕ → Bool). put f 1 true) a.token;
-      asleep = a.asleep;
-      heeding = a.heeding;
-    }
-
-has_woken : (u : ℕ) → u < 2 → rang 0 u ≡ wakes_owed wounded_out.part u
-unfolding put ℕ_discrete
-has_woken zero low = refl
-has_woken (suc zero) low = refl
-has_woken (suc (suc u)) low = absurd (omega arith)
-
-at_wound_12 : AtWith (small WoundWait) wound_10 core_wound rang told sleeping heeding
-at_wound_12 = asleep_then at_wound_11 wounded_out
-    (part_there at_wound_11 1 (wounded_out, []) refl refl (omega arith)) refl has_woken
-
--- ---- the younger goes inside the guard of lock 0, and joins its list: the two are deadlocked
-
-abbrev dying_11 : St
-dying_11 = stepped dying_9 (guard_at least 0) 2 0 [] (b_3 WaitDie) (takes (list_at 0) (Line []))
-
-abbrev pub dying_12 : St
-dying_12 = stepped dying_11 (owner_at least 0) (packed (with_waiters owner)) 0 (out 0 []) (b_4 WaitDie) keeps
-
-abbrev wound_13 : St
-wound_13 = stepped wound_10 (guard_at least 0) 2 0 [] (b_3 WoundWait) (takes (list_at 0) (Line []))
-
-abbrev wound_14 : St
-wound_14 = stepped wound_13 (owner_at least 0) (packed (with_waiters owner)) 0 (out 0 []) (b_4 WoundWait) keeps
-
--- ... and in Wound-Wait it reads its sign
-abbrev pub b_5 : Sight
-b_5 = knowing (b_4 WoundWait) (has_read (b_4 WoundWait).part.core 1)
-
-abbrev pub wound_15 : St
-wound_15 = stepped wound_14 (sign_at least 1) 1 0 (out 0 younger_waits) b_5 keeps
-
-abbrev pub core_dead : State → State
-core_dead c = after (after c (Guard 1 0)) (Join 1 0)
-
-at_dying_11 : At (small WaitDie) dying_11 (after core_dying (Guard 1 0)) sleeping heeding
+pub wounded_wakes : Beside wounded_exits.at (Some (wakes 0 1)) (rung_by wounded_exits.at.moment 0 1) wound_11
 unfolding put ℕ_discrete lock_at
-at_dying_11 = let a = at_dying_10 in let me : Sat = (b_2 WaitDie, []) in
-    performs_there a 0 me refl refl (omega arith) refl refl (Guard 1 0) dying_11 _
-    (λ i. let q = (a.is_core i).queue 0 in
-    stepped (a.is_table i) (guard_at least 0) 2 0 [] (entering (b_2 WaitDie) 0 q) (takes (list_at 0) (Line q)))
-    (play.enters 0 (omega arith)
-    (record { outside = refl; why = inr (inr (refl, refl, inl (omega arith), inr (inr (inl (1, refl))))) })
-    (word_there a (guard_at least 0) 0 refl))
+wounded_wakes = wakes_then wounded_exits.at 1 0 1 wounded_out (seated refl refl refl (omega arith)) refl refl (omega arith)
 
-pub at_dying_12 : At (small WaitDie) dying_12 (core_dead core_dying) sleeping heeding
+abbrev pub wound_12 : Picture
+wound_12 = parking wound_11 0
+
+pub wounded_sleeps : Beside wounded_wakes.at (Some (falls_asleep 0)) (asleep_by wounded_wakes.at.moment 0) wound_12
 unfolding put ℕ_discrete lock_at
-at_dying_12 = let a = at_dying_11 in let me : Sat = (b_3 WaitDie, out 0 []) in
-    performs_there a 0 me refl refl (omega arith) refl refl (Join 1 0) dying_12 _
-    (λ i. stepped (a.is_table i) (owner_at least 0) (packed (with_waiters owner)) 0 (out 0 []) (b_4 WaitDie) keeps)
-    (play.joins 0 owner
-    (record {
-      inside = refl;
-      not_waiting = refl;
-      base = inl (omega arith);
-      signs = inr (inr (inl (1, refl)));
-      other = (0, refl, first_not_second);
+wounded_sleeps = let sits : AreSeated WoundWait wound_11 wounded_out (b_3 WoundWait) =
+    record { first = seated refl refl refl (omega arith); second = seated refl refl refl (omega arith) } in
+    parks_then wounded_wakes.at 1 0 wounded_out sits.first refl refl (nothing_owed wounded_wakes.at sits refl refl 0)
+
+-- ... and the younger reads its sign
+abbrev pub b_4 : Sight
+b_4 = knowing (b_3 WoundWait) (has_read (b_3 WoundWait).part.core 1)
+
+abbrev pub wound_13 : Picture
+wound_13 = let p = wound_12 in played p (stepped p.table (sign_at least 1) 1 0 (list_out 0 (b_3 WoundWait)) b_4 keeps) None
+
+pub finds_sign : Next wounded_sleeps.at 1 None wound_13
+unfolding put ℕ_discrete lock_at
+finds_sign = let a = wounded_sleeps.at in let out = list_out 0 (b_3 WoundWait) in
+    plays_then a 0 1 (b_3 WoundWait, out) (acting refl refl refl (omega arith) refl refl) None _ (record {
+      found = _;
+      is = λ i. let k = slice_index (a.is_table i).words (sign_at least 1) in
+          stepped (a.is_table i) (sign_at least 1) k 0 out (knowing (b_3 WoundWait) (has_read (b_3 WoundWait).part.core k)) keeps;
+      plays = play.finds _ _ (play.is_signed (λ none. let z = word_there a (sign_at least 1) 1 refl in omega arith));
     })
-    is_valid (word_there a (owner_at least 0) (packed owner) refl))
-
-at_wound_13 : AtWith (small WoundWait) wound_13 (after core_wound (Guard 1 0)) rang told sleeping heeding
-unfolding put ℕ_discrete lock_at
-at_wound_13 = let a = at_wound_12 in let me : Sat = (b_2 WoundWait, []) in
-    performs_there a 0 me refl refl (omega arith) refl refl (Guard 1 0) wound_13 _
-    (λ i. let q = (a.is_core i).queue 0 in
-    stepped (a.is_table i) (guard_at least 0) 2 0 [] (entering (b_2 WoundWait) 0 q) (takes (list_at 0) (Line q)))
-    (play.enters 0 (omega arith)
-    (record { outside = refl; why = inr (inr (refl, refl, inl (omega arith), inr (inr (inl (1, refl))))) })
-    (word_there a (guard_at least 0) 0 refl))
-
-at_wound_14 : AtWith (small WoundWait) wound_14 (core_dead core_wound) rang told sleeping heeding
-unfolding put ℕ_discrete lock_at
-at_wound_14 = let a = at_wound_13 in let me : Sat = (b_3 WoundWait, out 0 []) in
-    performs_there a 0 me refl refl (omega arith) refl refl (Join 1 0) wound_14 _
-    (λ i. stepped (a.is_table i) (owner_at least 0) (packed (with_waiters owner)) 0 (out 0 []) (b_4 WoundWait) keeps)
-    (play.joins 0 owner
-    (record {
-      inside = refl;
-      not_waiting = refl;
-      base = inl (omega arith);
-      signs = inr (inr (inl (1, refl)));
-      other = (0, refl, first_not_second);
-    })
-    is_valid (word_there a (owner_at least 0) (packed owner) refl))
-
-pub at_wound_15 : AtWith (small WoundWait) wound_15 (core_dead core_wound) rang told sleeping heeding
-unfolding put ℕ_discrete lock_at
-at_wound_15 = let a = at_wound_14 in let me : Sat = (b_4 WoundWait, out 0 younger_waits) in
-    others_there a 0 me refl refl (omega arith) refl refl wound_15 _
-    (λ i. let k = slice_index (a.is_table i).words (sign_at least 1) in
-    stepped (a.is_table i) (sign_at least 1) k 0 (out 0 younger_waits)
-    (knowing (b_4 WoundWait) (has_read (b_4 WoundWait).part.core k)) keeps)
-    (play.finds _ _ (play.is_signed (λ none. let z = word_there a (sign_at least 1) 1 refl in omega arith)))

@@ -1,32 +1,33 @@
 -- A deadlock of two threads, one of which dies, while the other sleeps: an endless run in which both are scheduled.
 use Rattle.std.proofs.Common.{◌≡◌, ⊎_elim, inl, inr, ℕ, zero, suc, Bool, true, false, true≢false, [], ◌∷◌, Option, Some, None, refl, sym, ap, ◌∙◌, subst, arith}
 use native.Mathlib.Decide.{ℕ_discrete}
-use Rattle.atomic_table.specs.Table.{stepped, keeps}
+use Rattle.std.specs.Prelude.{slice_index}
+use Rattle.atomic_table.proofs.Lists.{set_here, set_else}
 use Rattle.ww_word.specs.Owner.{with_waiters}
-use Rattle.ww_word.specs.AnySeats.{IsValid, packed}
+use Rattle.ww_word.specs.AnySeats.{packed}
 use Rattle.ww_queue.specs.declared.kind.Kind.{Kind}
 use Rattle.ww_queue.specs.declared.kind.Kind.TheVariants.{WoundWait, WaitDie}
-use Rattle.ww_model.specs.declared.event.Event.TheVariants.{Die}
+use Rattle.ww_model.specs.declared.event.Event.TheVariants.{Die, Unguard}
 use Rattle.ww_model.specs.State.{State, put}
-use Rattle.ww_view.specs.Word.{rest_word}
+use Rattle.ww_view.specs.May.{MayDie, MayExit}
 use Rattle.ww_invariant.specs.declared.cells.Part.{Part}
 use Rattle.ww_invariant.specs.declared.cells.Sight.{Sight}
 use Rattle.ww_invariant.specs.Layout.{lock_at, owner_at}
-use Rattle.ww_invariant.specs.Rule.{St, Sat}
+use Rattle.ww_invariant.specs.Rule.{St}
+use Rattle.ww_invariant.specs.Guards.{exiting}
 use Rattle.ww_invariant.specs.Waiting.{dying}
+use Rattle.ww_invariant.proofs.Fits.{place_low}
 use Rattle.ww_wakes.specs.Scene.{Step, performs}
 use Rattle.ww_live.specs.Premises.{InTheEnd}
 use Rattle.ww_live.specs.Theorem.{AreDeadlocked}
+use Rattle.ww_live.proofs.Deadlocks.{are_deadlocked}
 use Rattle.ww_refines.specs.Moment.{Moment, core, view, wakes_owed, HasToWake}
 use Rattle.ww_refines.specs.Moves.{Follows}
-use Rattle.ww_refines.specs.Runs.{IsOfRun}
-use Rattle.ww_refines.specs.Plays as play
-use Rattle.ww_refines.specs.Plays.{Moved}
 use Rattle.ww_refines.specs.Deadlocks.{IsScheduledThere, HasDeadlockThere, DeadlocksAreInEndlessRuns}
 use Rattle.ww_refines.proofs.Standstill.{idles}
-use Rattle.ww_refines.proofs.Small.{least, small, owner, AtWith, after_event, moves_there, part_there, word_there}
-use Rattle.ww_refines.proofs.Deadlocked.{first_not_second, younger_waits, out, aged_out, wounded_out, b_4, b_5, dying_12, wound_15, core_wound, core_dying, core_dead, at_dying_12, at_wound_15, heeding}
-use Rattle.ww_live.proofs.Deadlocks.{are_deadlocked}
+use Rattle.ww_refines.proofs.Pictures.{Picture, At, Next, played, seated, dies_as, dies_then, exits_as, exits_then}
+use Rattle.ww_refines.proofs.Small.{least, small, AreSeated, first_is, second_is, nothing_owed, owner, is_valid_waited, first_not_second, second_not_first}
+use Rattle.ww_refines.proofs.Deadlocked.{aged_out, wounded_out, b_3, b_4, dying_10, wound_13, aged_sleeps, finds_sign}
 
 -- ---- what holds as long as nothing more happens
 
@@ -40,70 +41,102 @@ pub record IsPending {kind : Kind} (m : Moment (small kind)) (waits : ℕ) : Typ
   pub naps : (view m 1).naps ≡ 0
   pub stands : (view m 1).waits ≡ waits
 
-module _ {kind : Kind} {table : St} {core : State} {given : ℕ → ℕ → ℕ} {has sleeps heeds : ℕ → Bool}
-    (a : AtWith (small kind) table core given has sleeps heeds) (v w : Sight) (first : v.part ≡ a.moment.part 0)
-    (second : w.part ≡ a.moment.part 1) (sleeper : sleeps 0 ≡ true) (awake : sleeps 1 ≡ false) (no_token : has 0 ≡ false)
-    (paid_0 : given 0 0 ≡ wakes_owed v.part 0) (paid_1 : given 0 1 ≡ wakes_owed v.part 1)
-    (owes_none : (u : ℕ) → wakes_owed w.part u ≡ 0)
+module _ {kind : Kind} {p : Picture} (a : At (small kind) p) {v w : Sight} (sit : AreSeated kind p v w)
+    (sleeper : p.asleep 0 ≡ true) (awake : p.asleep 1 ≡ false) (no_token : p.token 0 ≡ false)
+    (paid_1 : p.rung 0 1 ≡ wakes_owed v.part 1) (paid_0 : p.rung 1 0 ≡ wakes_owed w.part 0)
     (outside : v.part.core.inside ≡ 0) (naps : w.part.core.naps ≡ 0) where
-  nothing_owed : (s u : ℕ) → ¬ HasToWake a.moment s u
-  nothing_owed zero zero h = let few = h.owed in let given_so = ap (λ (f : ℕ → ℕ → ℕ). f 0 0) a.rung in
-      let owed = ap (λ (p : Part). wakes_owed p 0) first in omega arith
-  nothing_owed zero (suc zero) h = let few = h.owed in let given_so = ap (λ (f : ℕ → ℕ → ℕ). f 0 1) a.rung in
-      let owed = ap (λ (p : Part). wakes_owed p 1) first in omega arith
-  nothing_owed zero (suc (suc u)) h = let low = h.sleeper in omega arith
-  nothing_owed (suc zero) u h = let few = h.owed in let none = owes_none u in
-      let owed = ap (λ (p : Part). wakes_owed p u) second in omega arith
-  nothing_owed (suc (suc s)) u h = let low = h.waker in omega arith
-
-  pub is_pending : (waits : ℕ) → w.part.core.waits ≡ waits → IsPending a.moment waits
+  is_pending : (waits : ℕ) → w.part.core.waits ≡ waits → IsPending a.moment waits
   is_pending waits stands = record {
     sleeps = ap (λ (f : ℕ → Bool). f 0) a.asleep ∙ sleeper;
     awake = ap (λ (f : ℕ → Bool). f 1) a.asleep ∙ awake;
     no_token = ap (λ (f : ℕ → Bool). f 0) a.token ∙ no_token;
-    unowed = nothing_owed;
-    outside = ap (λ (p : Part). p.core.inside) (sym first) ∙ outside;
-    naps = ap (λ (p : Part). p.core.naps) (sym second) ∙ naps;
-    stands = ap (λ (p : Part). p.core.waits) (sym second) ∙ stands;
+    unowed = nothing_owed a sit paid_1 paid_0;
+    outside = ap (λ (q : Part). q.core.inside) (sym (first_is a sit)) ∙ outside;
+    naps = ap (λ (q : Part). q.core.naps) (sym (second_is a sit)) ∙ naps;
+    stands = ap (λ (q : Part). q.core.waits) (sym (second_is a sit)) ∙ stands;
   }
 
--- ---- the run: the younger dies, then one step more is made, or none, and then nothing happens
+-- ---- the run: the younger dies, and comes out of the guard, and then nothing happens
 
--- The two are deadlocked at this moment of a run, and the younger, which is inside the guard of lock 0, dies then.
-pub record IsDoomed {kind : Kind} (m m' m'' : Moment (small kind)) (x : Option Step) : Type 0 where
-  pub run : IsOfRun m
-  pub dies : Follows m m' (Some (performs (Die 1 0)))
-  pub goes_on : Follows m' m'' x
-  pub before : IsPending m 1
-  pub then : IsPending m' 0
-  pub at_last : IsPending m'' 0
-  pub inside : (view m 1).inside ≡ 1
-  pub dead : AreDeadlocked (core m) (0 ∷ 1 ∷ [])
+-- the seat once it has died, and once it is out of the guard
+abbrev pub died : Sight → Sight
+died b = dying b (with_waiters owner)
 
-module _ {kind : Kind} {m m' m'' : Moment (small kind)} {x : Option Step} (d : IsDoomed m m' m'' x) where
+abbrev pub died_out : Sight → Sight
+died_out b = exiting (died b)
+
+-- The two are deadlocked. The older sleeps with what this tells, and owes nobody a wake; the younger, with what that tells, is
+-- inside the guard of the first lock, where it has to die.
+pub record IsAboutToDie (kind : Kind) (p : Picture) (a b : Sight) : Type 0 where
+  pub sit : AreSeated kind p a b
+  pub awake : p.asleep 1 ≡ false
+  pub rested : b.part.core.naps ≡ 0
+  pub word : slice_index p.table.words (owner_at least 0) ≡ packed (with_waiters owner)
+  pub dies : MayDie b.part.core 0 (with_waiters owner) 1
+  pub exits : MayExit (died b).part.core 0
+  pub sleeps : (p.asleep 0 ≡ true) × (p.token 0 ≡ false) × (a.part.core.inside ≡ 0)
+  pub paid : (p.rung 0 1 ≡ wakes_owed a.part 1) × (p.rung 1 0 ≡ wakes_owed b.part 0)
+  pub dead : AreDeadlocked p.core (0 ∷ 1 ∷ [])
+
+module _ {kind : Kind} {p : Picture} (g : At (small kind) p) (a b : Sight) (h : IsAboutToDie kind p a b) where
+  abbrev table_1 : St
+  table_1 = (dies_as (small kind) p 0 0 (with_waiters owner) b).table
+
+  abbrev pub p_1 : Picture
+  p_1 = played p table_1 (Some (performs (Die 1 0)))
+
+  pub dies : Next g 1 (Some (performs (Die 1 0))) p_1
+  dies = subst (λ (w : ℕ). Next g 1 (Some (performs (Die w 0))) (played p table_1 (Some (performs (Die w 0))))) h.sit.second.who
+      (dies_then g 0 1 b (record { seated = h.sit.second; awake = h.awake; rested = h.rested }) 0 1 (with_waiters owner) h.dies
+      is_valid_waited h.word)
+
+  -- the older is where it was
+  sit_on : AreSeated kind p_1 a (died b)
+  sit_on = let one = h.sit.first in let two = h.sit.second in let old = p.table.views in record {
+    first = seated (set_else old 0 1 (died b) second_not_first ∙ one.here) one.seated one.who one.low;
+    second = seated (set_here old 0 (died b) (place_low old 0 b two.here)) two.seated two.who two.low;
+  }
+
+  abbrev table_2 : St
+  table_2 = (exits_as (small kind) p_1 0 0 (died b) (performs (Unguard 1 0))).table
+
+  abbrev pub p_2 : Picture
+  p_2 = played p_1 table_2 (Some (performs (Unguard 1 0)))
+
+  pub comes_out : Next dies.at 1 (Some (performs (Unguard 1 0))) p_2
+  comes_out = subst (λ (w : ℕ). Next dies.at 1 (Some (performs (Unguard w 0))) (played p_1 table_2 (Some (performs (Unguard w 0)))))
+      h.sit.second.who (exits_then dies.at 0 1 (died b) (record { seated = sit_on.second; awake = h.awake; rested = h.rested }) 0
+      h.exits refl)
+
+  pub sit_out : AreSeated kind p_2 a (died_out b)
+  sit_out = let one = sit_on.first in let two = sit_on.second in let old = p_1.table.views in record {
+    first = seated (set_else old 0 1 (died_out b) second_not_first ∙ one.here) one.seated one.who one.low;
+    second = seated (set_here old 0 (died_out b) (place_low old 0 (died b) two.here)) two.seated two.who two.low;
+  }
+
   abbrev pub moment : ℕ → Moment (small kind)
-  moment zero = m
-  moment (suc zero) = m'
-  moment (suc (suc i)) = m''
+  moment zero = g.moment
+  moment (suc zero) = dies.at.moment
+  moment (suc (suc i)) = comes_out.at.moment
 
   abbrev move : ℕ → Option Step
   move zero = Some (performs (Die 1 0))
-  move (suc zero) = x
+  move (suc zero) = Some (performs (Unguard 1 0))
   move (suc (suc i)) = None
 
-  abbrev waits_at : ℕ → ℕ
+  abbrev pub waits_at : ℕ → ℕ
   waits_at zero = 1
   waits_at (suc i) = 0
 
   pub pending : (i : ℕ) → IsPending (moment i) (waits_at i)
-  pending zero = d.before
-  pending (suc zero) = d.then
-  pending (suc (suc i)) = d.at_last
+  pending zero = is_pending g h.sit h.sleeps.0 h.awake h.sleeps.1 h.paid.0 h.paid.1 h.sleeps.2 h.rested 1 h.dies.waits
+  pending (suc zero) = is_pending dies.at sit_on h.sleeps.0 h.awake h.sleeps.1 h.paid.0 h.paid.1 h.sleeps.2 h.rested 0 refl
+  pending (suc (suc i)) = is_pending comes_out.at sit_out h.sleeps.0 h.awake h.sleeps.1 h.paid.0 h.paid.1 h.sleeps.2 h.rested 0 refl
 
   follows : (i : ℕ) → Follows (moment i) (moment (suc i)) (move i)
-  follows zero = d.dies
-  follows (suc zero) = d.goes_on
-  follows (suc (suc i)) = idles m''
+  follows zero = dies.follows
+  follows (suc zero) = comes_out.follows
+  follows (suc (suc i)) = idles comes_out.at.moment
 
   pub sleeper_is_scheduled : IsScheduledThere moment move 0
   sleeper_is_scheduled = record {
@@ -115,7 +148,9 @@ module _ {kind : Kind} {m m' m'' : Moment (small kind)} {x : Option Step} (d : I
   }
 
   comes_inside : (i n : ℕ) → (view (moment i) 1).waits ≡ suc n → InTheEnd i (λ j. (view (moment j) 1).inside ≡ suc n)
-  comes_inside zero n waits = let at = d.inside in let stands = d.before.stands in (0, omega arith, omega arith)
+  comes_inside zero n waits = let stands = (pending 0).stands in
+      let at = ap (λ (q : Part). q.core.inside) (sym (second_is g h.sit)) ∙ h.dies.inside in
+      (0, omega arith, omega arith)
   comes_inside (suc i) n waits = let none = (pending (suc i)).stands in absurd (omega arith)
 
   pub dying_is_scheduled : IsScheduledThere moment move 1
@@ -127,6 +162,9 @@ module _ {kind : Kind} {m m' m'' : Moment (small kind)} {x : Option Step} (d : I
     leaves = λ i n waits inside. let none = (pending (suc i)).stands in (suc i, omega arith, inr (λ is. omega arith));
   }
 
+  pub are_dead : AreDeadlocked (core g.moment) (0 ∷ 1 ∷ [])
+  are_dead = subst (λ (c : State). AreDeadlocked c (0 ∷ 1 ∷ [])) (sym g.is_core) h.dead
+
   has_deadlock : HasDeadlockThere kind
   has_deadlock = record {
     key = small kind;
@@ -134,104 +172,54 @@ module _ {kind : Kind} {m m' m'' : Moment (small kind)} {x : Option Step} (d : I
     move = move;
     seats = 0 ∷ 1 ∷ [];
     of_kind = refl;
-    endless = record { begins = d.run; goes_on = follows };
+    endless = record { begins = g.run; goes_on = follows };
     scheduled = λ s. ⊎_elim (λ is. subst (IsScheduledThere moment move) (sym is) sleeper_is_scheduled)
         (⊎_elim (λ is. subst (IsScheduledThere moment move) (sym is) dying_is_scheduled) (λ none. absurd none));
-    deadlocked = d.dead;
+    deadlocked = are_dead;
   }
 
 -- ---- in each kind
 
-pub is_valid : IsValid (with_waiters owner)
-is_valid = record { seating = inl (omega arith, omega arith); flags = inr (inl refl) }
-
--- in Wait-Die
-abbrev dying_me : Sat
-dying_me = (b_4 WaitDie, out 0 younger_waits)
-
-abbrev died : Sight
-died = dying (b_4 WaitDie) (with_waiters owner)
-
-abbrev dying_13 : St
-dying_13 = stepped dying_12 (owner_at least 0) (packed (rest_word [] (with_waiters owner))) 0 (out 0 younger_waits) died keeps
-
-dying_moved : Moved at_dying_12.moment 1 (Some (performs (Die 1 0)))
-    (stepped at_dying_12.moment.table (owner_at least 0) (packed (rest_word [] (with_waiters owner))) 0 (out 0 younger_waits)
-    died keeps)
+pub is_dying : IsAboutToDie WaitDie dying_10 aged_out (b_3 WaitDie)
 unfolding put ℕ_discrete lock_at
-dying_moved = let a = at_dying_12 in
-    moves_there a 0 dying_me refl refl (omega arith) refl refl (Some (performs (Die 1 0))) _
-    (play.dies 0 (with_waiters owner) 1
-    (record {
-      inside = refl;
-      waits = refl;
-      other = (0, refl, first_not_second);
-      why = (0, inl refl, refl);
-      unheeded = refl;
-    })
-    is_valid (word_there a (owner_at least 0) (packed (with_waiters owner)) refl))
+is_dying = record {
+  sit = record { first = seated refl refl refl (omega arith); second = seated refl refl refl (omega arith) };
+  awake = refl;
+  rested = refl;
+  word = refl;
+  dies = record {
+    inside = refl;
+    waits = refl;
+    other = (0, refl, first_not_second);
+    why = (0, inl refl, refl);
+    unheeded = refl;
+  };
+  exits = record { inside = refl; why = inl (refl, refl); unsigned = λ is. inr (inl refl); unheeded = refl };
+  sleeps = (refl, refl, refl);
+  paid = (refl, refl);
+  dead = are_deadlocked _ refl refl (_, inl refl, refl) (_, inl refl, refl);
+}
 
--- in Wound-Wait
-abbrev wounded_me : Sat
-wounded_me = (b_5, out 0 younger_waits)
-
-abbrev fell : Sight
-fell = dying b_5 (with_waiters owner)
-
-abbrev wound_16 : St
-wound_16 = stepped wound_15 (owner_at least 0) (packed (rest_word [] (with_waiters owner))) 0 (out 0 younger_waits) fell keeps
-
-wound_moved : Moved at_wound_15.moment 1 (Some (performs (Die 1 0)))
-    (stepped at_wound_15.moment.table (owner_at least 0) (packed (rest_word [] (with_waiters owner))) 0 (out 0 younger_waits)
-    fell keeps)
+pub is_wounded : IsAboutToDie WoundWait wound_13 wounded_out b_4
 unfolding put ℕ_discrete lock_at
-wound_moved = let a = at_wound_15 in
-    moves_there a 0 wounded_me refl refl (omega arith) refl refl (Some (performs (Die 1 0))) _
-    (play.dies 0 (with_waiters owner) 1
-    (record {
-      inside = refl;
-      waits = refl;
-      other = (0, refl, first_not_second);
-      why = (1, inr refl, refl);
-      unheeded = refl;
-    })
-    is_valid (word_there a (owner_at least 0) (packed (with_waiters owner)) refl))
+is_wounded = record {
+  sit = record { first = seated refl refl refl (omega arith); second = seated refl refl refl (omega arith) };
+  awake = refl;
+  rested = refl;
+  word = refl;
+  dies = record {
+    inside = refl;
+    waits = refl;
+    other = (0, refl, first_not_second);
+    why = (1, inr refl, refl);
+    unheeded = refl;
+  };
+  exits = record { inside = refl; why = inl (refl, refl); unsigned = λ is. absurd (cc); unheeded = refl };
+  sleeps = (refl, refl, refl);
+  paid = (refl, refl);
+  dead = are_deadlocked _ refl refl (_, inl refl, refl) (_, inl refl, refl);
+}
 
 pub deadlocks_are_in_endless_runs : DeadlocksAreInEndlessRuns
-unfolding put ℕ_discrete after_event lock_at
-deadlocks_are_in_endless_runs WaitDie = let a = at_dying_12 in let moved = dying_moved in
-    let after = after_event a (Die 1 0) (Some (performs (Die 1 0))) dying_13 _ moved
-    (λ i. stepped (a.is_table i) (owner_at least 0) (packed (rest_word [] (with_waiters owner))) 0 (out 0 younger_waits) died
-    keeps) moved.follows.makes heeding (moved.follows.heeds ∙ a.heeding) in
-    let then = is_pending after aged_out died (part_there after 1 (aged_out, []) refl refl (omega arith))
-    (part_there after 0 (died, []) refl refl (omega arith)) refl refl refl refl refl (λ u. refl) refl refl 0 refl in
-    has_deadlock {m = a.moment} {m' = moved.moment} {m'' = moved.moment} {x = None} (record {
-      run = a.run;
-      dies = moved.follows;
-      goes_on = idles moved.moment;
-      before = is_pending a aged_out (b_4 WaitDie) (part_there a 1 (aged_out, []) refl refl (omega arith))
-          (part_there a 0 dying_me refl refl (omega arith)) refl refl refl refl refl (λ u. refl) refl refl 1 refl;
-      then = then;
-      at_last = then;
-      inside = ap (λ (p : Part). p.core.inside) (sym (part_there a 0 dying_me refl refl (omega arith)));
-      dead = subst (λ (c : State). AreDeadlocked c (0 ∷ 1 ∷ [])) (sym a.is_core) (are_deadlocked (core_dead core_dying) refl refl
-          (record { seat = 0; stamp = 1; holds = true }, inl refl, refl) (record { seat = 1; stamp = 2; holds = true }, inl refl, refl));
-    })
-deadlocks_are_in_endless_runs WoundWait = let a = at_wound_15 in let moved = wound_moved in
-    let after = after_event a (Die 1 0) (Some (performs (Die 1 0))) wound_16 _ moved
-    (λ i. stepped (a.is_table i) (owner_at least 0) (packed (rest_word [] (with_waiters owner))) 0 (out 0 younger_waits) fell
-    keeps) moved.follows.makes heeding (moved.follows.heeds ∙ a.heeding) in
-    let then = is_pending after wounded_out fell (part_there after 1 (wounded_out, []) refl refl (omega arith))
-    (part_there after 0 (fell, []) refl refl (omega arith)) refl refl refl refl refl (λ u. refl) refl refl 0 refl in
-    has_deadlock {m = a.moment} {m' = moved.moment} {m'' = moved.moment} {x = None} (record {
-      run = a.run;
-      dies = moved.follows;
-      goes_on = idles moved.moment;
-      before = is_pending a wounded_out b_5 (part_there a 1 (wounded_out, []) refl refl (omega arith))
-          (part_there a 0 wounded_me refl refl (omega arith)) refl refl refl refl refl (λ u. refl) refl refl 1 refl;
-      then = then;
-      at_last = then;
-      inside = ap (λ (p : Part). p.core.inside) (sym (part_there a 0 wounded_me refl refl (omega arith)));
-      dead = subst (λ (c : State). AreDeadlocked c (0 ∷ 1 ∷ [])) (sym a.is_core) (are_deadlocked (core_dead core_wound) refl refl
-          (record { seat = 0; stamp = 1; holds = true }, inl refl, refl) (record { seat = 1; stamp = 2; holds = true }, inl refl, refl));
-    })
+deadlocks_are_in_endless_runs WaitDie = has_deadlock aged_sleeps.at aged_out (b_3 WaitDie) is_dying
+deadlocks_are_in_endless_runs WoundWait = has_deadlock finds_sign.at wounded_out b_4 is_wounded

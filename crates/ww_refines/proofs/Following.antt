@@ -28,10 +28,10 @@ use Rattle.ww_refines.proofs.Owed.{owed_grows, newly_owed, woken_other, condemne
 
 -- ---- phases
 
-phase_as : (p : Phase) (a b : Bool) (j k m n : ℕ) → b ≡ a → k ≡ j → n ≡ m → IsPhase p a j m → IsPhase p b k n
-phase_as acting a b j k m n ab jk mn h = (ab ∙ h.0, jk ∙ h.1 ∙ sym mn)
-phase_as going_to_sleep a b j k m n ab jk mn h = (ab ∙ h.0, (let z = h.1 in omega arith))
-phase_as asleep a b j k m n ab jk mn h = (ab ∙ h.0, (let z = h.1 in omega arith))
+phase_as : (p : Phase) {a b : Bool} {j k m n : ℕ} → b ≡ a → k ≡ j → n ≡ m → IsPhase p a j m → IsPhase p b k n
+phase_as acting ab jk mn h = (ab ∙ h.0, jk ∙ h.1 ∙ sym mn)
+phase_as going_to_sleep ab jk mn h = (ab ∙ h.0, (let z = h.1 in omega arith))
+phase_as asleep ab jk mn h = (ab ∙ h.0, (let z = h.1 in omega arith))
 
 -- who has risen each time acts
 pub is_acting : (p : Phase) (a : Bool) (k n : ℕ) → k ≡ n → IsPhase p a k n → p ≡ acting
@@ -139,8 +139,8 @@ module _ {key : Start} (m m' : Moment key) (e : Event) (makes : MakesEvent m m' 
       waker = seat;
       sleeper = there;
       other = woken_other (core m) e u (reached_is_lawful (core m) m.ruled.reached) makes.can is;
-      owed = let a = newly_owed (core m) e (view m (actor e)) knows makes.can own (m.part (actor e)).counts.cancelled u
-          (m.rung (actor e) u) (shown.even (actor e) u seat) (had u) is in
+      owed = let a = newly_owed (core m) (view m (actor e)) knows (m.part (actor e)).counts.cancelled u (m.rung (actor e) u)
+          (shown.even (actor e) u seat) e makes.can own (had u) is in
           let b = owed_then u in let c = rung_is (actor e) u in omega arith;
     }
 
@@ -152,8 +152,8 @@ module _ {key : Start} (m m' : Moment key) (e : Event) (makes : MakesEvent m m' 
         m'.rung (actor e) u < wakes_owed (m'.part (actor e)) u)
         (sym makes.view)
         (λ inside condemned other. let isnt : u ≢ (view m (actor e)).who = (λ is. other (is ∙ sym own)) in
-        let a = condemned_owed (core m) e (view m (actor e)) knows makes.can own (m.part (actor e)).counts.cancelled u
-        (m.rung (actor e) u) (shown.even (actor e) u seat) isnt (λ i c. had u i c isnt) inside condemned in
+        let a = condemned_owed (core m) (view m (actor e)) knows (m.part (actor e)).counts.cancelled u (m.rung (actor e) u)
+        (shown.even (actor e) u seat) e isnt (λ i c. had u i c isnt) inside condemned in
         let b = owed_then u in let c = rung_is (actor e) u in omega arith))
         (λ x low isnt inside condemned other. let a = shown.condemned x u low inside condemned other in
         let c = rung_is x u in omega arith) s there
@@ -164,7 +164,7 @@ module _ {key : Start} (m m' : Moment key) (e : Event) (makes : MakesEvent m m' 
         (λ x p. p.core.inside ≢ 0 → p.core.fresh ≡ true → put w.found_no_sign (actor e) false x ≡ true)
         (subst (λ (v : View). v.inside ≢ 0 → v.fresh ≡ true → put w.found_no_sign (actor e) false (actor e) ≡ true)
         (sym makes.view)
-        (λ inside fresh. absurd (not_fresh (core m) e (view m (actor e)) knows makes.can own inside fresh)))
+        (λ inside fresh. absurd (not_fresh (core m) (view m (actor e)) knows e makes.can own inside fresh)))
         (λ x low isnt inside fresh. put_else w.found_no_sign (actor e) false x isnt ∙ shown.fresh x low inside fresh)
 
     still_unsettled : (u : ℕ) → u < key.seats → (view m' u).inside ≢ 0 → (view m' u).uncancelled ≡ true →
@@ -174,7 +174,7 @@ module _ {key : Start} (m m' : Moment key) (e : Event) (makes : MakesEvent m m' 
         (subst (λ (v : View). v.inside ≢ 0 → v.uncancelled ≡ true → uncancelled_after w.found_no_cancel e
         (actor e) ≡ true)
         (sym makes.view)
-        (still_uncancelled w.found_no_cancel (core m) e (view m (actor e)) knows makes.can own
+        (still_uncancelled (core m) (view m (actor e)) knows w.found_no_cancel e makes.can own
         (shown.uncancelled (actor e) seat)))
         (λ x low isnt inside none. others_uncancelled w.found_no_cancel e x isnt ∙ shown.uncancelled x low inside none)
 
@@ -197,9 +197,9 @@ performs_on m m' w e shown p = let a = p.makes in record {
     token = shown.token ∙ sym a.there.stay.token;
     heeds = shown.heeds ∙ sym p.heeds;
     phase = of_each m m' (actor e) a.there.stay (λ t p. IsPhase (w.phase t) (m'.asleep t) (m'.risen t) p.core.naps)
-        (phase_as (w.phase (actor e)) _ _ _ _ _ _ (ap (λ (f : ℕ → Bool). f (actor e)) a.there.stay.asleep)
+        (phase_as (w.phase (actor e)) (ap (λ (f : ℕ → Bool). f (actor e)) a.there.stay.asleep)
         (ap (λ (f : ℕ → ℕ). f (actor e)) a.there.stay.risen) p.stays_up (shown.phase (actor e) (seat m m' e a)))
-        (λ t low isnt. phase_as (w.phase t) _ _ _ _ _ _ (ap (λ (f : ℕ → Bool). f t) a.there.stay.asleep)
+        (λ t low isnt. phase_as (w.phase t) (ap (λ (f : ℕ → Bool). f t) a.there.stay.asleep)
         (ap (λ (f : ℕ → ℕ). f t) a.there.stay.risen) refl (shown.phase t low));
     strangers = shown.strangers;
     owes = λ s u owed. ⊎_elim
@@ -238,41 +238,42 @@ in_call {key = key} m w t shown acts = let who = who_there m t acts.seat in reco
   debts = λ u owed. has_below key.seats u (shown.owes (view m t).who u owed).sleeper;
 }
 
-leaves_on : {key : Start} (m m' : Moment key) (w : Scene) (s n : ℕ) (heeds : Bool) → IsReached w → IsShownBy m w →
-    LeavesToSleep m m' s n heeds → GoesAlong m' w (leaves_to_sleep s n heeds)
-leaves_on {key = key} m m' w s n heeds reached shown p = let a = p.makes in let e = Unguard s n in
-    let who = who_there m s a.there.acts.seat in
-    let naps : (view m' s).naps ≡ (view m s).naps + 1 =
-    (ap (λ (v : View). v.naps) a.view ∙ ap (λ (k : ℕ). naps_after k (view m s).naps) p.waits) in record {
-      may = subst (λ x. MayLeaveToSleep w x n heeds) who
-          (leaving_is_a_step w (view m s) n heeds (below key.seats) reached
-          (in_call m w s shown a.there.acts) p.may p.waits p.uncancelled);
-      shown = record {
-        core = core_then m m' e a w shown;
-        token = shown.token ∙ sym a.there.stay.token;
-        heeds = ap (λ (f : ℕ → Bool). put f s heeds) shown.heeds ∙ sym p.noted;
-        phase = λ t low. put_cases w.phase s going_to_sleep t (λ q. IsPhase q (m'.asleep t) (m'.risen t)
-            (view m' t).naps)
-            (λ is. subst (λ x. IsPhase going_to_sleep (m'.asleep x) (m'.risen x) (view m' x).naps) (sym is) (
-              ap (λ (f : ℕ → Bool). f s) a.there.stay.asleep ∙ a.there.acts.awake,
-              (let x = ap (λ (f : ℕ → ℕ). f s) a.there.stay.risen in let y = a.there.acts.risen in omega arith),
-            ))
-            (λ isnt. phase_as (w.phase t) _ _ _ _ _ _ (ap (λ (f : ℕ → Bool). f t) a.there.stay.asleep)
-            (ap (λ (f : ℕ → ℕ). f t) a.there.stay.risen) (ap (λ (p : Part). p.core.naps) (a.there.stay.others t low isnt))
-            (shown.phase t low));
-        strangers = λ t far. put_else w.phase s going_to_sleep t (far_off t s far a.there.acts.seat)
-            ∙ shown.strangers t far;
-        owes = λ x u owed. still m m' e a x u (shown.owes x u owed);
-        fresh = λ t low. of_each m m' s a.there.stay
-            (λ x p. p.core.inside ≢ 0 → p.core.fresh ≡ true → w.found_no_sign x ≡ true)
-            (subst (λ (v : View). v.inside ≢ 0 → v.fresh ≡ true → w.found_no_sign s ≡ true) (sym a.view)
-            (λ inside fresh. absurd (inside refl)))
-            (λ x there isnt. shown.fresh x there) t low;
-        uncancelled = still_unsettled m m' e a w shown;
-        even = still_even m m' e a w shown;
-        condemned = still_condemned m m' e a w shown;
-      };
-    }
+module _ {key : Start} (m m' : Moment key) (w : Scene) where
+  leaves_on : (s n : ℕ) (heeds : Bool) → IsReached w → IsShownBy m w → LeavesToSleep m m' s n heeds →
+      GoesAlong m' w (leaves_to_sleep s n heeds)
+  leaves_on s n heeds reached shown p = let a = p.makes in let e = Unguard s n in
+      let who = who_there m s a.there.acts.seat in
+      let naps : (view m' s).naps ≡ (view m s).naps + 1 =
+      (ap (λ (v : View). v.naps) a.view ∙ ap (λ (k : ℕ). naps_after k (view m s).naps) p.waits) in record {
+        may = subst (λ x. MayLeaveToSleep w x n heeds) who
+            (leaving_is_a_step w (view m s) n heeds (below key.seats) reached
+            (in_call m w s shown a.there.acts) p.may p.waits p.uncancelled);
+        shown = record {
+          core = core_then m m' e a w shown;
+          token = shown.token ∙ sym a.there.stay.token;
+          heeds = ap (λ (f : ℕ → Bool). put f s heeds) shown.heeds ∙ sym p.noted;
+          phase = λ t low. put_cases w.phase s going_to_sleep t (λ q. IsPhase q (m'.asleep t) (m'.risen t)
+              (view m' t).naps)
+              (λ is. subst (λ x. IsPhase going_to_sleep (m'.asleep x) (m'.risen x) (view m' x).naps) (sym is) (
+                ap (λ (f : ℕ → Bool). f s) a.there.stay.asleep ∙ a.there.acts.awake,
+                (let x = ap (λ (f : ℕ → ℕ). f s) a.there.stay.risen in let y = a.there.acts.risen in omega arith),
+              ))
+              (λ isnt. phase_as (w.phase t) (ap (λ (f : ℕ → Bool). f t) a.there.stay.asleep)
+              (ap (λ (f : ℕ → ℕ). f t) a.there.stay.risen) (ap (λ (p : Part). p.core.naps) (a.there.stay.others t low isnt))
+              (shown.phase t low));
+          strangers = λ t far. put_else w.phase s going_to_sleep t (far_off t s far a.there.acts.seat)
+              ∙ shown.strangers t far;
+          owes = λ x u owed. still m m' e a x u (shown.owes x u owed);
+          fresh = λ t low. of_each m m' s a.there.stay
+              (λ x p. p.core.inside ≢ 0 → p.core.fresh ≡ true → w.found_no_sign x ≡ true)
+              (subst (λ (v : View). v.inside ≢ 0 → v.fresh ≡ true → w.found_no_sign s ≡ true) (sym a.view)
+              (λ inside fresh. absurd (inside refl)))
+              (λ x there isnt. shown.fresh x there) t low;
+          uncancelled = still_unsettled m m' e a w shown;
+          even = still_even m m' e a w shown;
+          condemned = still_condemned m m' e a w shown;
+        };
+      }
 
 -- ---- a step at the table that is no event
 
@@ -302,10 +303,10 @@ module _ {key : Start} (m m' : Moment key) (w : Scene) (t : ℕ) (shown : IsShow
     heeds = heeds ∙ shown.heeds ∙ sym same_heeds;
     phase = of_each m m' t there (λ x p. IsPhase (w'.phase x) (m'.asleep x) (m'.risen x) p.core.naps)
         (subst (λ (f : ℕ → Phase). IsPhase (f t) (m'.asleep t) (m'.risen t) (view m' t).naps) (sym phase)
-        (phase_as (w.phase t) _ _ _ _ _ _ (ap (λ (f : ℕ → Bool). f t) there.asleep)
+        (phase_as (w.phase t) (ap (λ (f : ℕ → Bool). f t) there.asleep)
         (ap (λ (f : ℕ → ℕ). f t) there.risen) naps (shown.phase t sits)))
         (λ x low isnt. subst (λ (f : ℕ → Phase). IsPhase (f x) (m'.asleep x) (m'.risen x) (view m x).naps) (sym phase)
-        (phase_as (w.phase x) _ _ _ _ _ _ (ap (λ (f : ℕ → Bool). f x) there.asleep)
+        (phase_as (w.phase x) (ap (λ (f : ℕ → Bool). f x) there.asleep)
         (ap (λ (f : ℕ → ℕ). f x) there.risen) refl (shown.phase x low)));
     strangers = λ x far. ap (λ (f : ℕ → Phase). f x) phase ∙ shown.strangers x far;
     owes = λ s u owed. let h = shown.owes s u (subst (λ (f : ℕ → ℕ → Bool). f s u ≡ true) owes owed) in record {
@@ -451,7 +452,7 @@ parks_on m m' w s shown p = let r = p.ready in record {
           (let a = r.due in let b = ap (λ (f : ℕ → ℕ). f t) p.risen in let c = naps_are m m' w shown p.stays t low in
               let d = ap m.risen is in let e = ap (λ x. (view m x).naps) is in omega arith),
         ))
-        (λ isnt. phase_as (w.phase t) _ _ _ _ _ _ (ap (λ (f : ℕ → Bool). f t) p.asleep
+        (λ isnt. phase_as (w.phase t) (ap (λ (f : ℕ → Bool). f t) p.asleep
         ∙ put_else m.asleep s true t isnt)
         (ap (λ (f : ℕ → ℕ). f t) p.risen) (naps_are m m' w shown p.stays t low) (shown.phase t low));
     strangers = λ t far. put_else w.phase s asleep t (far_off t s far r.seat) ∙ shown.strangers t far;
@@ -470,7 +471,7 @@ stands_on m m' w shown p = record {
   core = shown.core ∙ sym p.stays.core;
   token = shown.token ∙ sym p.token;
   heeds = shown.heeds ∙ sym p.stays.heeds;
-  phase = λ t low. phase_as (w.phase t) _ _ _ _ _ _ (ap (λ (f : ℕ → Bool). f t) p.asleep)
+  phase = λ t low. phase_as (w.phase t) (ap (λ (f : ℕ → Bool). f t) p.asleep)
       (ap (λ (f : ℕ → ℕ). f t) p.risen) (naps_are m m' w shown p.stays t low) (shown.phase t low);
   strangers = shown.strangers;
   owes = λ x u owed. owes_is m m' w shown p.stays p.rung x u (shown.owes x u owed);
@@ -518,7 +519,7 @@ rises_on {key = key} m m' w s reached shown p = let r = p.rests.1 in
                   let c = naps_are m m' w shown p.stays t low in
                   let d = ap m'.risen is in let e = ap (λ x. (view m x).naps) is in omega arith),
             ))
-            (λ isnt. phase_as (w.phase t) _ _ _ _ _ _ (ap (λ (f : ℕ → Bool). f t) p.asleep
+            (λ isnt. phase_as (w.phase t) (ap (λ (f : ℕ → Bool). f t) p.asleep
             ∙ put_else m.asleep s false t isnt)
             (ap (λ (f : ℕ → ℕ). f t) p.risen ∙ put_else m.risen s (m.risen s + 1) t isnt)
             (naps_are m m' w shown p.stays t low) (shown.phase t low));
@@ -563,7 +564,7 @@ rings_on m m' w s u shown p = let seat = p.waker in
         core = shown.core ∙ sym p.stays.core;
         token = ap (λ (f : ℕ → Bool). put f u true) shown.token ∙ sym p.token;
         heeds = shown.heeds ∙ sym p.stays.heeds;
-        phase = λ t low. phase_as (w.phase t) _ _ _ _ _ _ (ap (λ (f : ℕ → Bool). f t) p.asleep)
+        phase = λ t low. phase_as (w.phase t) (ap (λ (f : ℕ → Bool). f t) p.asleep)
             (ap (λ (f : ℕ → ℕ). f t) p.risen) (naps_are m m' w shown p.stays t low) (shown.phase t low);
         strangers = shown.strangers;
         owes = λ x y owed. ⊎_elim (λ paid. absurd (true≢false (sym paid.2)))

@@ -10,6 +10,7 @@ pub mod Ends
 pub mod Unlocking
 pub mod Serving
 pub mod Standstill
+pub mod Pictures
 pub mod Small
 pub mod Deadlocked
 pub mod Doomed

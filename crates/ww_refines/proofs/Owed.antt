@@ -78,25 +78,36 @@ module _ (c : State) (v : View) (k : Knows c v) where
 
 -- ---- whom an event makes the seat wake
 
-pub newly_owed : (c : State) (e : Event) (v : View) → Knows c v → Possible c e → actor e ≡ v.who → (us : List ℕ)
-    (x given : ℕ) → given ≤ times x us + times x v.debts →
-    (v.inside ≢ 0 → Has v.condemned x → x ≢ v.who → given < times x us + times x v.debts) → woken_by c e ≡ Some x →
-    given < times x (cancelled_after e us) + times x (view_after c e v).debts
-newly_owed c (Sign s y) v k can own us x given low had is = let a = another_was s y x is in
-    let other : x ≢ v.who = λ same. a.1 (same ∙ sym own) in
-    let inside = goes_inside c v k (place_of c s) (can.base.guard ∙ ap suc own) in
-    subst (λ (z : ℕ). given < times x us + times x (with_condemned v.who v.condemned z v.debts)) a.0
-    (signed_owed v.who v.condemned x v.debts (times x us) given other low (λ there. had inside there other))
-newly_owed c (Give s n) v k can own us x given low had is =
-    let inside = k.guard.inside n (can.base.inside.guard ∙ ap suc own) in
-    let heir = sym ((views_tell_whom_to_wake c v k).gives n inside) ∙ is in
-    subst (λ (o : Option ℕ). given < times x us + times x (with_heir o v.debts)) (sym heir)
-    (let z = times_here x x v.debts refl in omega arith)
-newly_owed c (Cancel s y) v k can own us x given low had is = let a = another_was s y x is in
-    let z = times_here x y us a.0 in omega arith
-newly_owed c _ v k can own us x given low had is = absurd (cc)
+module _ (c : State) (v : View) (k : Knows c v) (us : List ℕ) (x given : ℕ) (low : given ≤ times x us + times x v.debts) where
+  pub newly_owed : (e : Event) → Possible c e → actor e ≡ v.who →
+      (v.inside ≢ 0 → Has v.condemned x → x ≢ v.who → given < times x us + times x v.debts) → woken_by c e ≡ Some x →
+      given < times x (cancelled_after e us) + times x (view_after c e v).debts
+  newly_owed (Sign s y) can own had is = let a = another_was s y x is in
+      let other : x ≢ v.who = λ same. a.1 (same ∙ sym own) in
+      let inside = goes_inside c v k (place_of c s) (can.base.guard ∙ ap suc own) in
+      subst (λ (z : ℕ). given < times x us + times x (with_condemned v.who v.condemned z v.debts)) a.0
+      (signed_owed v.who v.condemned x v.debts (times x us) given other low (λ there. had inside there other))
+  newly_owed (Give s n) can own had is =
+      let inside = k.guard.inside n (can.base.inside.guard ∙ ap suc own) in
+      let heir = sym ((views_tell_whom_to_wake c v k).gives n inside) ∙ is in
+      subst (λ (o : Option ℕ). given < times x us + times x (with_heir o v.debts)) (sym heir)
+      (let z = times_here x x v.debts refl in omega arith)
+  newly_owed (Cancel s y) can own had is = let a = another_was s y x is in let z = times_here x y us a.0 in omega arith
+  newly_owed _ can own had is = absurd (cc)
 
--- ... which is another seat: whoever has a lock doesn't wait for it
+  -- inside a guard it has to wake those whom it condemned there
+  pub condemned_owed : (e : Event) → x ≢ v.who → (v.inside ≢ 0 → Has v.condemned x → given < times x us + times x v.debts) →
+      (view_after c e v).inside ≢ 0 → Has (view_after c e v).condemned x →
+      given < times x (cancelled_after e us) + times x (view_after c e v).debts
+  condemned_owed (Guard s n) other had inside there = absurd there
+  condemned_owed (Unguard s n) other had inside there = absurd (inside refl)
+  condemned_owed (Sign s y) other had inside there = ⊎_elim
+      (λ is. subst (λ (z : ℕ). given < times x us + times x (with_condemned v.who v.condemned z v.debts)) is
+      (signed_owed v.who v.condemned x v.debts (times x us) given other low (had inside)))
+      (λ old. let a = had inside old in let b = owed_grows c (Sign s y) v us x in omega arith) there
+  condemned_owed e other had inside there = let a = had inside there in let b = owed_grows c e v us x in omega arith
+
+-- whom an event makes a seat wake is another: whoever has a lock doesn't wait for it
 first_stands : (q : List Entry) (x : ℕ) → first_of q ≡ Some x → Stands q x
 first_stands [] x is = absurd cc
 first_stands (e ∷ es) x is = (e, inl refl, cc)
@@ -108,42 +119,24 @@ woken_other c (Give s n) x l can is = let stands = first_stands (c.queue n) x is
 woken_other c (Cancel s y) x l can is = (another_was s y x is).1
 woken_other c _ x l can is = absurd (cc)
 
--- inside a guard it has to wake those whom it condemned there
-pub condemned_owed : (c : State) (e : Event) (v : View) → Knows c v → Possible c e → actor e ≡ v.who → (us : List ℕ)
-    (x given : ℕ) → given ≤ times x us + times x v.debts → x ≢ v.who →
-    (v.inside ≢ 0 → Has v.condemned x → given < times x us + times x v.debts) →
-    (view_after c e v).inside ≢ 0 → Has (view_after c e v).condemned x →
-    given < times x (cancelled_after e us) + times x (view_after c e v).debts
-condemned_owed c (Guard s n) v k can own us x given low other had inside there = absurd there
-condemned_owed c (Unguard s n) v k can own us x given low other had inside there = absurd (inside refl)
-condemned_owed c (Sign s y) v k can own us x given low other had inside there = ⊎_elim
-    (λ is. subst (λ (z : ℕ). given < times x us + times x (with_condemned v.who v.condemned z v.debts)) is
-    (signed_owed v.who v.condemned x v.debts (times x us) given other low (had inside)))
-    (λ old. let a = had inside old in let b = owed_grows c (Sign s y) v us x in omega arith) there
-condemned_owed c e v k can own us x given low other had inside there =
-    let a = had inside there in let b = owed_grows c e v us x in omega arith
-
 -- ---- looks at the own sign and cancel
 
--- inside a guard no event leaves a look at the sign the last step
-pub not_fresh : (c : State) (e : Event) (v : View) → Knows c v → Possible c e → actor e ≡ v.who →
-    (view_after c e v).inside ≢ 0 → (view_after c e v).fresh ≡ true → ⊥
-not_fresh c (Commit s) v k can own inside fresh =
-    inside (stays_outside c v k (λ n g. can.base.away.inside n (g ∙ ap suc (sym own))))
-not_fresh c (Cancel s x) v k can own inside fresh =
-    inside (stays_outside c v k (λ n g. can.base.away.inside n (g ∙ ap suc (sym own))))
-not_fresh c _ v k can own inside fresh = true≢false (sym fresh)
+module _ (c : State) (v : View) (k : Knows c v) where
+  -- inside a guard no event leaves a look at the sign the last step
+  pub not_fresh : (e : Event) → Possible c e → actor e ≡ v.who → (view_after c e v).inside ≢ 0 → (view_after c e v).fresh ≡ true → ⊥
+  not_fresh (Commit s) can own inside fresh = inside (stays_outside c v k (λ n g. can.base.away.inside n (g ∙ ap suc (sym own))))
+  not_fresh (Cancel s x) can own inside fresh = inside (stays_outside c v k (λ n g. can.base.away.inside n (g ∙ ap suc (sym own))))
+  not_fresh _ can own inside fresh = true≢false (sym fresh)
 
--- only a look at the own cancel makes the view say that it found none, and who cancels is inside no guard
-pub still_uncancelled : (found : ℕ → Bool) (c : State) (e : Event) (v : View) → Knows c v → Possible c e →
-    actor e ≡ v.who →
-    (v.inside ≢ 0 → v.uncancelled ≡ true → found (actor e) ≡ true) →
-    (view_after c e v).inside ≢ 0 → (view_after c e v).uncancelled ≡ true → uncancelled_after found e (actor e) ≡ true
-still_uncancelled found c (Guard s n) v k can own had inside none = absurd (true≢false (sym none))
-still_uncancelled found c (Cancel s x) v k can own had inside none =
-    absurd (inside (stays_outside c v k (λ n g. can.base.away.inside n (g ∙ ap suc (sym own)))))
-still_uncancelled found c (Unguard s n) v k can own had inside none = absurd (inside refl)
-still_uncancelled found c _ v k can own had inside none = had inside none
+  -- only a look at the own cancel makes the view say that it found none, and who cancels is inside no guard
+  pub still_uncancelled : (found : ℕ → Bool) (e : Event) → Possible c e → actor e ≡ v.who →
+      (v.inside ≢ 0 → v.uncancelled ≡ true → found (actor e) ≡ true) →
+      (view_after c e v).inside ≢ 0 → (view_after c e v).uncancelled ≡ true → uncancelled_after found e (actor e) ≡ true
+  still_uncancelled found (Guard s n) can own had inside none = absurd (true≢false (sym none))
+  still_uncancelled found (Cancel s x) can own had inside none =
+      absurd (inside (stays_outside c v k (λ n g. can.base.away.inside n (g ∙ ap suc (sym own)))))
+  still_uncancelled found (Unguard s n) can own had inside none = absurd (inside refl)
+  still_uncancelled found _ can own had inside none = had inside none
 
 -- another's event leaves whether a seat has found no cancel
 pub others_uncancelled : (found : ℕ → Bool) (e : Event) (s : ℕ) → s ≢ actor e → uncancelled_after found e s ≡ found s

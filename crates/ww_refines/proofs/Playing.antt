@@ -612,7 +612,7 @@ module _ {key : Start} (m : Moment key) (id : ℕ) (me : Sat) (here : get_elem? 
         retold_moved _ stays (told_in m.table _ id me.0 here seated other w apart there refl)
 
 pub plays_are_moves : PlaysAreMoves
-plays_are_moves key m id me x s here seated acts plays = plays_moved m id me here seated acts.seat acts x s plays
+plays_are_moves key m id me x s here seated acts = plays_moved m id me here seated acts.seat acts x s
 
 pub reads_are_moves : ReadsAreMoves
 reads_are_moves key m id me x s here seated at =
