@@ -2,7 +2,7 @@ use Rattle.std.proofs.Common.{rules, arith, Bool, true, length, sym, ap, refl, s
 use Rattle.ww_model.specs.State.{any_below}
 use Rattle.ww_view.specs.View.{owns}
 use Rattle.ww_invariant.specs.Rule.{Sat}
-use Rattle.ww_table.specs.Seat.{size_of, view_of}
+use Rattle.ww_table.specs.Seat.{view_of}
 use Rattle.ww_seat.specs.declared.look.Attempt.TheVariants.{Lost}
 use Rattle.ww_seat.specs.declared.look.Look.TheVariants.{Interrupted}
 use Rattle.ww_seat.specs.Work.{has_joined, looks_again, AreWoken, HasCome, IsWorking}
@@ -114,10 +114,8 @@ stay_or_back_off-requires-clause-at c =
 
 pub stay_or_back_off-requires-clause-seen : goal.stay_or_back_off-requires-clause-seen
 stay_or_back_off-requires-clause-seen c = let stands = c.in-Some-stand.ensures.stands in record {
-  sees = goes_on_sees (size_of c.args.board.now) c.stand.new.seat.seat.me c.stop_if_cancelled.new.seat.seat.me
-      c.in-Some-stand.word c.in_default-stop_if_cancelled.ensures.stopped.0 stands.sees;
-  flags = λ again. flags_later c.args.lock (has_joined c.args.arrival.now) (looks_again c.args.arrival.now)
-      c.args.seat.now.seat.me.0.part.core c.look-seen.result c.in-Some-stand.word c.requires.may.working
+  sees = goes_on_sees c.in_default-stop_if_cancelled.ensures.stopped.0 stands.sees;
+  flags = λ again. flags_later c.look-seen.result c.in-Some-stand.word c.requires.may.working
       c.look-seen.ensures.flags stands.flags (sym c.joining.ensures.again ∙ again);
 }
 
