@@ -1,6 +1,8 @@
 -- Whom a seat inside a guard condemns, and whether it has to die.
 use Rattle.std.proofs.Common.{◌≡◌, ◌≢◌, ◌⊎◌, inl, inr, ⊎_elim, ℕ, zero, suc, ◌+◌, ◌<◌, ◌≤◌, Bool, true, false, true≢false, List, [], ◌∷◌, ◌++◌, length, take, get_or, refl, sym, ap, ◌∙◌, subst, arith, Option, Some, None, IfSome, IfNone}
 use Rattle.std.specs.Option.{option_and_then}
+use Rattle.std.proofs.lemmas.List.{append-nil}
+use Rattle.atomic_table.specs.Seated.{TableId}
 use Rattle.ww_word.specs.declared.owner.Owner.{Owner}
 use Rattle.ww_queue.specs.declared.entry.Entry.{Entry}
 use Rattle.ww_queue.specs.declared.kind.Kind.{Kind}
@@ -23,8 +25,12 @@ use Rattle.ww_invariant.specs.Steps.{knowing}
 use Rattle.ww_invariant.specs.Guards.{AreSeats}
 use Rattle.ww_invariant.specs.Signs.{condemning, noting, reading, finding_none}
 use Rattle.ww_invariant.specs.Waiting.{HasListOnTop}
+use Rattle.ww_table.specs.declared.board.Board.{Board}
+use Rattle.ww_table.specs.declared.seat.Stepper.{Stepper}
+use Rattle.ww_table.specs.Seat.{IsSeated, IsSeatOf, view_of}
+use Rattle.ww_table.specs.Inside.{HasReadDeath, HasReadDebts}
 use Rattle.ww_seat.specs.Orderly.{IsOrderly}
-use Rattle.ww_seat.specs.Work.{signing, debts_with, HasBooked, AreOwed, AreMarked, HasToWake, IsTold, IsWorking, SeesOther, HasNoted, MayStay}
+use Rattle.ww_seat.specs.Work.{signing, debts_with, HasBooked, AreOwed, AreMarked, HasToWake, IsTold, IsWorking, SeesOther, HasNoted, MayStay, SeesSeats}
 use Rattle.ww_seat.proofs.Outside.{orderly_knowing, owned_low}
 use Rattle.ww_seat.proofs.Working.{touched_read}
 
@@ -135,9 +141,9 @@ death_is : (kind : Kind) (o : Owner) (q : List Entry) (me s : ℕ) {e : Entry} �
     → must_die kind o q me s ≡ death_of kind o q s e
 death_is kind o q me s is = ap (option_and_then (death_of kind o q s)) is
 
-pub dying_holds : (kind : Kind) (o : Owner) (v : View) (s : ℕ) {k : ℕ} → entry_of v.list v.who ≡ Some (entry_of_view v)
-    → must_die kind o v.list v.who s ≡ Some k → IsHolding (entry_of_view v)
-dying_holds kind o v s {k} entry is = (death_why kind o v.list s (entry_of_view v) k (sym (death_is kind o v.list v.who s entry) ∙ is)).0
+pub dying_holds : (v : View) (o : Owner) (s : ℕ) {k : ℕ} → entry_of v.list v.who ≡ Some (entry_of_view v)
+    → must_die v.kind o v.list v.who s ≡ Some k → IsHolding (entry_of_view v)
+dying_holds v o s {k} entry is = (death_why v.kind o v.list s (entry_of_view v) k (sym (death_is v.kind o v.list v.who s entry) ∙ is)).0
 
 pub owns_one : (v : View) → IsHolding (entry_of_view v) → (j : ℕ) × (owns v j ≡ true)
 owns_one v h = let f = below_found (length v.owned) (owns v) h.1 in (f.0, f.2)
@@ -164,6 +170,11 @@ if_none (Some k) P it = tt
 some_none : {A : Type 0} {o : Option A} {x : A} → o ≡ Some x → o ≡ None → ⊥
 some_none a b = cc
 
+-- what the seat reads of its death is what its view tells
+pub death_told : {b : Board} {s s' : Stepper} {n sign : ℕ} {o : Owner} {met r : Option ℕ} → IsSeatOf b s → HasReadDeath b s n o sign met s'
+    → met ≡ r → must_die (view_of s).kind o (view_of s).list (view_of s).who sign ≡ r
+death_told {s} {sign} {o} seat read is = (λ i. must_die (sym seat.kind i) o (view_of s).list (seat.who i) sign) ∙ sym read.death ∙ is
+
 -- in Wait-Die it has to die, or doesn't, by the list alone
 pub told_read : {size n : ℕ} {m m1 : Sat} → IsOrderly size m → HasListOnTop m n m1 → IsTold size m m1
 told_read {m} o top = let t = touched_read o top in
@@ -175,44 +186,24 @@ told_read {m} o top = let t = touched_read o top in
       view = ap (λ (z : Sat). z.0) top.now;
     }
 
-pub dies_waiting : {n : ℕ} {l : Bool} {m m1 : Sat} {o : Owner} {who k : ℕ} → IsWorking n true l m.0.part.core → SeesOther o m.0.part.core
-    → HasListOnTop m n m1 → {kind : Kind} → kind ≡ m.0.part.core.kind → kind ≡ WaitDie → m.0.part.core.who ≡ who
-    → must_die kind o m.0.part.core.list who 0 ≡ Some k → m.0.part.core.heeded ≡ 0 → MayDie m1.0.part.core n o k
-dies_waiting {n} {m} {o} {k} w sees top {kind} same is at dies unheeded = subst (λ (z : Sat). MayDie z.0.part.core n o k) (sym top.now) (record {
-  inside = w.inside;
-  waits = w.place.0;
-  other = sees.other;
-  why = (
-    0,
-    inl (sym same ∙ is),
-    subst (λ (x : Kind). must_die x o m.0.part.core.list m.0.part.core.who 0 ≡ Some k)
-        same (subst (λ (x : ℕ). must_die kind o m.0.part.core.list x 0 ≡ Some k) (sym at) dies),
-  );
-  unheeded = unheeded;
-})
+pub dies_waiting : {n : ℕ} {l : Bool} {m m1 : Sat} {o : Owner} {k : ℕ} → IsWorking n true l m.0.part.core → SeesOther o m.0.part.core
+    → HasListOnTop m n m1 → m.0.part.core.kind ≡ WaitDie → must_die m.0.part.core.kind o m.0.part.core.list m.0.part.core.who 0 ≡ Some k
+    → m.0.part.core.heeded ≡ 0 → MayDie m1.0.part.core n o k
+dies_waiting {n} {o} {k} w sees top is dies unheeded = subst (λ (z : Sat). MayDie z.0.part.core n o k) (sym top.now)
+    (record { inside = w.inside; waits = w.place.0; other = sees.other; why = (0, inl is, dies); unheeded = unheeded })
 
-pub stays_waiting : {n : ℕ} {m m1 : Sat} {o : Owner} {who : ℕ} → HasListOnTop m n m1 → {kind : Kind} → kind ≡ m.0.part.core.kind → kind ≡ WaitDie
-    → m.0.part.core.who ≡ who → must_die kind o m.0.part.core.list who 0 ≡ None → MayStay o m1.0.part.core
-stays_waiting {m} {o} top {kind} same is at lives = subst (λ (z : Sat). MayStay o z.0.part.core) (sym top.now) (record {
-  looked = λ wound. absurd (let e : WaitDie ≡ WoundWait = sym is ∙ same ∙ wound in cc);
-  lives = λ _. subst (λ (x : Kind). must_die x o m.0.part.core.list m.0.part.core.who 0 ≡ None) same
-      (subst (λ (x : ℕ). must_die kind o m.0.part.core.list x 0 ≡ None) (sym at) lives);
-})
+pub stays_waiting : {n : ℕ} {m m1 : Sat} {o : Owner} → HasListOnTop m n m1 → m.0.part.core.kind ≡ WaitDie
+    → must_die m.0.part.core.kind o m.0.part.core.list m.0.part.core.who 0 ≡ None → MayStay o m1.0.part.core
+stays_waiting {o} top is lives = subst (λ (z : Sat). MayStay o z.0.part.core) (sym top.now)
+    (record { looked = λ wound. absurd (let e : WaitDie ≡ WoundWait = sym is ∙ wound in cc); lives = λ _. lives })
 
 -- in Wound-Wait a sign would make it die, or wouldn't
-pub is_holder : {n : ℕ} {l : Bool} (m : Sat) (o : Owner) {who k : ℕ} → IsWorking n true l m.0.part.core → (kind : Kind)
-    → m.0.part.core.who ≡ who → must_die kind o m.0.part.core.list who 1 ≡ Some k → IsHolding (entry_of_view m.0.part.core)
-is_holder m o {k} w kind at dies = dying_holds kind o m.0.part.core 1 w.place.1
-    (subst (λ (x : ℕ). must_die kind o m.0.part.core.list x 1 ≡ Some k) (sym at) dies)
-
-pub stays_unsigned : {size n : ℕ} {l : Bool} {m m1 : Sat} {o : Owner} {who : ℕ} → IsOrderly size m → IsWorking n true l m.0.part.core
-    → HasListOnTop m n m1 → {kind : Kind} → kind ≡ m.0.part.core.kind → kind ≡ WoundWait → m.0.part.core.who ≡ who
-    → must_die kind o m.0.part.core.list who 1 ≡ None → MayStay o m1.0.part.core
-stays_unsigned {m} {o} ord w top {kind} same is at lives = subst (λ (z : Sat). MayStay o z.0.part.core) (sym top.now) (record {
-  looked = λ _ pos has. absurd (some_none
-      (wounded_dies kind o m.0.part.core 1 is w.once w.place.1 (owner_holds m.0.part.core pos has.0 has.1) (omega arith))
-      (subst (λ (x : ℕ). must_die kind o m.0.part.core.list x 1 ≡ None) (sym at) lives));
-  lives = λ d. absurd (let e : WoundWait ≡ WaitDie = sym is ∙ same ∙ d in cc);
+pub stays_unsigned : {n : ℕ} {l : Bool} {m m1 : Sat} {o : Owner} → IsWorking n true l m.0.part.core → HasListOnTop m n m1
+    → m.0.part.core.kind ≡ WoundWait → must_die m.0.part.core.kind o m.0.part.core.list m.0.part.core.who 1 ≡ None → MayStay o m1.0.part.core
+stays_unsigned {m} {o} w top is lives = subst (λ (z : Sat). MayStay o z.0.part.core) (sym top.now) (record {
+  looked = λ _ pos has. absurd (some_none (wounded_dies m.0.part.core.kind o m.0.part.core 1 is w.once w.place.1
+      (owner_holds m.0.part.core pos has.0 has.1) (omega arith)) lives);
+  lives = λ d. absurd (let e : WoundWait ≡ WaitDie = sym is ∙ d in cc);
 })
 
 -- it holds locks in Wound-Wait, so others may sign it
@@ -336,20 +327,12 @@ has_back [] ys y h = h
 has_back (x ∷ xs) ys y h = inr (has_back xs ys y h)
 
 -- the next of the signs that are owed are owed
-pub part_owed : (v : View) {o : Owner} (done owed rest : List (ℕ × ℕ)) → ((u : ℕ) → o.seat ≡ Some u → u < v.seats) → AreSeats v.seats v.list
-    → v.seen ≡ Some o → done ++ (owed ++ rest) ≡ owed_signs v.kind o v.list v.who → AreOwed v owed
-part_owed v {o} done owed rest owns seats seen whole u k has =
+pub part_owed : {v : View} {o : Owner} (done owed rest : List (ℕ × ℕ)) → SeesSeats o v → done ++ (owed ++ rest) ≡ owed_signs v.kind o v.list v.who
+    → AreOwed v owed
+part_owed {v} {o} done owed rest sees whole u k has =
     let all : Has (owed_signs v.kind o v.list v.who) (u, k) = subst (λ (l : List (ℕ × ℕ)). Has l (u, k)) whole
     (has_back done (owed ++ rest) (u, k) (has_front owed rest (u, k) has)) in
-    (victim_there v.kind o v.seats v.list v.who u k owns seats all, (o, seen, all))
-
-++_end : {A : Type 0} (xs : List A) → xs ++ [] ≡ xs
-++_end [] = refl
-++_end (x ∷ xs) = ap (λ (l : List _). x ∷ l) (++_end xs)
-
-++_apart : {A : Type 0} (xs ys zs : List A) → (xs ++ ys) ++ zs ≡ xs ++ (ys ++ zs)
-++_apart [] ys zs = refl
-++_apart (x ∷ xs) ys zs = ap (λ (l : List _). x ∷ l) (++_apart xs ys zs)
+    (victim_there v.kind o v.seats v.list v.who u k sees.there sees.seats all, (o, sees.seen, all))
 
 -- the signs that are left
 abbrev pub left_of : View → Owner → Option ℕ → List (ℕ × ℕ)
@@ -357,38 +340,26 @@ left_of v o None = []
 left_of v o (Some n) = signs_past v.kind o v.list v.who n
 
 -- one walk's signs, and those that are left
-pub walked_is : {size : ℕ} {done : List (ℕ × ℕ)} (owed : List (ℕ × ℕ)) {m m1 : Sat} (o : Owner) (from : ℕ) (more : Option ℕ) {kind : Kind} {who : ℕ}
-    → HasNoted size done m m1 → kind ≡ m1.0.part.core.kind → m1.0.part.core.who ≡ who
-    → IfNone more (owed ≡ signs_past kind o m1.0.part.core.list who from)
-    → IfSome more (λ next. owed ++ signs_past kind o m1.0.part.core.list who next ≡ signs_past kind o m1.0.part.core.list who from)
-    → owed ++ left_of m.0.part.core o more ≡ left_of m.0.part.core o (Some from)
-walked_is owed {m} {m1} o from more {kind} {who} h same at all some =
-    let k : kind ≡ m.0.part.core.kind = same ∙ ap (λ (z : Sight). z.part.core.kind) h.view in
-    let w : who ≡ m.0.part.core.who = sym at ∙ ap (λ (z : Sight). z.part.core.who) h.view in
-    let l : m1.0.part.core.list ≡ m.0.part.core.list = ap (λ (z : Sight). z.part.core.list) h.view in go more k w l all some
+walked_is : {b : Board} {s s' : Stepper} {n from : ℕ} {o : Owner} {owed : List (ℕ × ℕ)} {more : Option ℕ} (v : View)
+    → HasReadDebts b s n o from owed more s' → signs_past s.kind o (view_of s).list s.who ≡ signs_past v.kind o v.list v.who
+    → owed ++ left_of v o more ≡ left_of v o (Some from)
+walked_is {s} {from} {o} {owed} {more} v read told = go more read.all read.some
   where
-    go : (x : Option ℕ) → kind ≡ m.0.part.core.kind → who ≡ m.0.part.core.who → m1.0.part.core.list ≡ m.0.part.core.list
-        → IfNone x (owed ≡ signs_past kind o m1.0.part.core.list who from)
-        → IfSome x (λ next. owed ++ signs_past kind o m1.0.part.core.list who next ≡ signs_past kind o m1.0.part.core.list who from)
-        → owed ++ left_of m.0.part.core o x ≡ left_of m.0.part.core o (Some from)
-    go None k w l all some = ++_end owed ∙ all ∙ (λ i. signs_past (k i) o (l i) (w i) from)
-    go (Some next) k w l all some = (λ i. owed ++ signs_past (sym k i) o (sym l i) (sym w i) next) ∙ some
-        ∙ (λ i. signs_past (k i) o (l i) (w i) from)
+    go : (x : Option ℕ) → IfNone x (owed ≡ signs_past s.kind o (view_of s).list s.who from)
+        → IfSome x (λ next. owed ++ signs_past s.kind o (view_of s).list s.who next ≡ signs_past s.kind o (view_of s).list s.who from)
+        → owed ++ left_of v o x ≡ left_of v o (Some from)
+    go None all some = append-nil owed ∙ all ∙ ap (λ (f : ℕ → List (ℕ × ℕ)). f from) told
+    go (Some next) all some = ap (λ (f : ℕ → List (ℕ × ℕ)). owed ++ f next) (sym told) ∙ some ∙ ap (λ (f : ℕ → List (ℕ × ℕ)). f from) told
 
-pub whole_is : (v : View) (o : Owner) (done owed : List (ℕ × ℕ)) (from : ℕ) (more : Option ℕ) {all : List (ℕ × ℕ)}
-    → done ++ left_of v o (Some from) ≡ all → owed ++ left_of v o more ≡ left_of v o (Some from) → done ++ (owed ++ left_of v o more) ≡ all
-whole_is v o done owed from more whole part = ap (λ (l : List (ℕ × ℕ)). done ++ l) part ∙ whole
-
-pub further_is : (v : View) (o : Owner) (done owed : List (ℕ × ℕ)) (more : Option ℕ) {all : List (ℕ × ℕ)} → done ++ (owed ++ left_of v o more) ≡ all
-    → (done ++ owed) ++ left_of v o more ≡ all
-further_is v o done owed more whole = ++_apart done owed (left_of v o more) ∙ whole
+-- what the seat reads of its signs is what its view told as it began
+signs_told : {size : ℕ} {t : TableId} {done : List (ℕ × ℕ)} {m : Sat} {s : Stepper} (o : Owner) → HasNoted size done m s.seat.me → IsSeated t s
+    → signs_past s.kind o (view_of s).list s.who ≡ signs_past m.0.part.core.kind o m.0.part.core.list m.0.part.core.who
+signs_told o h seat = let v = ap (λ (z : Sight). z.part.core) h.view in
+    λ i. signs_past ((seat.kind ∙ ap (λ (z : View). z.kind) v) i) o (ap (λ (z : View). z.list) v i) ((sym seat.who ∙ ap (λ (z : View). z.who) v) i)
 
 -- the signs that were set, those of one walk more, and those that are left
-pub walked_whole :
-    {size : ℕ} {done : List (ℕ × ℕ)} (owed : List (ℕ × ℕ)) {all : List (ℕ × ℕ)} {m m1 : Sat} (o : Owner) {from : ℕ} {next : Option ℕ} (more : Option ℕ) {kind : Kind} {who : ℕ}
-    → HasNoted size done m m1 → kind ≡ m1.0.part.core.kind → m1.0.part.core.who ≡ who
-    → IfNone more (owed ≡ signs_past kind o m1.0.part.core.list who from)
-    → IfSome more (λ n. owed ++ signs_past kind o m1.0.part.core.list who n ≡ signs_past kind o m1.0.part.core.list who from) → next ≡ Some from
+pub walked_whole : {size : ℕ} {b : Board} {n from : ℕ} {done owed all : List (ℕ × ℕ)} {m : Sat} {s s' : Stepper} {o : Owner} {next more : Option ℕ}
+    → HasNoted size done m s.seat.me → IsSeatOf b s → HasReadDebts b s n o from owed more s' → next ≡ Some from
     → done ++ left_of m.0.part.core o next ≡ all → done ++ (owed ++ left_of m.0.part.core o more) ≡ all
-walked_whole {done} owed {m} o {from} more h same at none some is whole = whole_is m.0.part.core o done owed from more
-    (ap (λ (x : Option ℕ). done ++ left_of m.0.part.core o x) (sym is) ∙ whole) (walked_is owed o from more h same at none some)
+walked_whole {done} {m} {o} h seat read is whole =
+    ap (λ (l : List (ℕ × ℕ)). done ++ l) (walked_is m.0.part.core read (signs_told o h seat) ∙ ap (left_of m.0.part.core o) (sym is)) ∙ whole

@@ -1,4 +1,4 @@
-use Rattle.std.proofs.Common.{rules, refl}
+use Rattle.std.proofs.Common.{rules}
 use Rattle.ww_view.specs.View.{IsAway}
 use Rattle.ww_table.specs.Seat.{size_of}
 use Rattle.ww_seat.specs.Calls.{HasGiven}
