@@ -1,5 +1,5 @@
 -- What a seat at work inside a guard comes to, step by step.
-use Rattle.std.proofs.Common.{◌≡◌, inr, ℕ, ◌+◌, ◌-◌, Bool, List, refl, sym, ap, ◌∙◌, subst, true, vec_capacity, vec_len}
+use Rattle.std.proofs.Common.{◌≡◌, ◌<◌, inr, ℕ, ◌+◌, ◌-◌, Bool, List, refl, sym, ap, ◌∙◌, subst, true, vec_capacity, vec_len}
 use Rattle.ww_word.specs.declared.owner.Owner.{Owner}
 use Rattle.ww_queue.specs.Queue.{Has}
 use Rattle.ww_view.specs.declared.view.View.{View}
@@ -8,7 +8,7 @@ use Rattle.ww_invariant.specs.Rule.{Sat}
 use Rattle.ww_invariant.specs.Guards.{looking}
 use Rattle.ww_table.specs.declared.board.Board.{Board}
 use Rattle.ww_table.specs.declared.seat.Stepper.{Stepper}
-use Rattle.ww_table.specs.Seat.{size_of, view_of}
+use Rattle.ww_table.specs.Seat.{IsSeatOf, locks_of, size_of, view_of}
 use Rattle.ww_seat.specs.declared.look.Arrival.{Arrival}
 use Rattle.ww_seat.specs.declared.look.Attempt.{Attempt}
 use Rattle.ww_seat.specs.declared.look.Attempt.TheVariants.{Lost, Ended}
@@ -123,6 +123,12 @@ come_out {n} {m} {m1} x m2 l look so may nap same = record {
   marked = marks_idle_then x.marked same;
 }
 
+-- where its functions find it then
+pub come_here_still : {board : Board} {n : ℕ} {stands again : Bool} {waits : Waits} {m : Sat} {s : Stepper} {wake wake1 : List ℕ} {looks : ℕ}
+    → HasCome board n stands again waits m wake looks Lost s.seat.me wake1 → IsSeatOf board s → n < locks_of board
+    → IsAtWorkHere board n stands again s
+come_here_still x seat lock = record { seat = seat; lock = lock; orderly = x.came.0.orderly; working = x.came.0.working }
+
 -- one part of it after another
 came_then : (board : Board) (n : ℕ) (s1 s2 again : Bool) (waits : Waits) (m m1 m2 : Sat) (a : Attempt)
     → CameInside board n s1 again waits m Lost m1 → CameInside board n s2 again waits m1 a m2
@@ -149,11 +155,11 @@ come_then {board} {n} {s1} {s2} {again} {waits} {m} {m1} {m2} {a} x y = record {
 
 -- it looked at the owner word, and did nothing else yet
 pub come_looked : {board : Board} {n : ℕ} {arrival : Arrival} {holds : Bool} {wake : List ℕ} {q : Stepper} {m : Sat} {o : Owner}
-    → IsKept q → IsAt board (standing_of q) → IsAtWorkThere board n arrival holds wake (standing_of q) → (waits : Waits)
+    → IsKept q × IsAt board (standing_of q) → IsAtWorkThere board n arrival holds wake (standing_of q) → (waits : Waits)
     → m ≡ (looking q.seat.me.0 o, q.seat.me.1)
     → HasCome board n (has_joined arrival) (looks_again arrival) waits q.seat.me wake (q.seat.me.0.part.core.attempts + 1) Lost m wake
-come_looked {wake} {q} kept at there waits is = record {
-  came = (work_looked (orderly_at refl kept at) there.working is, awake_looked q.seat.me is);
+come_looked {wake} {q} at there waits is = record {
+  came = (work_looked (orderly_at refl at.0 at.1) there.working is, awake_looked q.seat.me is);
   attempts = ap (λ (z : Sat). z.0.part.core.attempts) is;
   marked = subst (λ (z : Sat). HasMarked wake q.seat.me.0.part.core z.0.part.core wake) (sym is) (record {
     marked = marked_none q.seat.me.0.part.core wake there.woken;
@@ -174,23 +180,23 @@ is_attempt board n arrival waits q q' Lost x = (x.0.working, x.0.holds, x.1)
 is_attempt board n arrival waits q q' (Ended l) x = (x.0.1, x.1, x.2, x.3)
 
 -- the answer of an attempt
-pub attempted : {board : Board} {n : ℕ} {stands again : Bool} {waits : Waits} {wake wake' : List ℕ} {a : Attempt} (q q' : Stepper)
-    (arrival arrival' : Arrival) → IsKept q → IsAt board (standing_of q) → IsSameSeat board q q' → has_joined arrival' ≡ stands
+pub attempted : {board : Board} {n : ℕ} {stands again : Bool} {waits : Waits} {wake wake' : List ℕ} {a : Attempt} {q : Stepper} (q' : Stepper)
+    {arrival arrival' : Arrival} → IsKept q × IsAt board (standing_of q) → IsSameSeat board q q' → has_joined arrival' ≡ stands
     → looks_again arrival ≡ again → looks_again arrival' ≡ again
     → HasCome board n stands again waits q.seat.me wake (q.seat.me.0.part.core.attempts + 1) a q'.seat.me wake'
     → IsOrderly (size_of board) q'.seat.me
     × HasAttempted board.table.shared.key.places (standing_of q) n waits arrival wake a (standing_of q') arrival' wake'
-attempted {board} {n} {stands} {again} {waits} {a} q q' arrival arrival' kept at same joined was now x =
+attempted {board} {n} {stands} {again} {waits} {a} {q} q' {arrival' = arrival'} at same joined was now x =
     let orderly = came_orderly board n stands again waits q.seat.me q'.seat.me a x.came in (
       orderly,
       record {
         same = record {
           now = λ i. record {
-            home = (same.seat.home ∙ sym at.home) i;
+            home = (same.seat.home ∙ sym at.1.home) i;
             room = ap (λ r. vec_capacity r - vec_len r) same.records i;
             me = q'.seat.me;
           };
-          size = orderly.held ∙ sym at.size;
+          size = orderly.held ∙ sym at.1.size;
         };
         came = is_attempt board n arrival' waits q q' a
             (subst (λ (b : Bool × Bool). CameInside board n b.0 b.1 waits q.seat.me a q'.seat.me) (λ i. (sym joined i, sym now i)) x.came);

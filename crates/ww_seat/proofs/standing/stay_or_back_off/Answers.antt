@@ -8,7 +8,7 @@ use Rattle.ww_seat.specs.declared.waits.Waits as wait
 use Rattle.ww_seat.specs.declared.waits.Waits.TheVariants.{ToTheEnd}
 use Rattle.ww_seat.proofs.Stood.{stays_goes, stays_outside}
 use Rattle.ww_seat.proofs.Naps.{nap_left}
-use Rattle.ww_seat.proofs.Coming.{come_here, come_noted, come_out, come_told, come_touched}
+use Rattle.ww_seat.proofs.Coming.{come_here, come_here_still, come_noted, come_out, come_told, come_touched}
 use Rattle.ww_seat.proofs.standing.stay_or_back_off.Goals.{After-death}
 use Rattle.ww_seat.proofs.standing.stay_or_back_off.Goals as goal
 
@@ -16,16 +16,12 @@ pub returns-in_default-clause-came : goal.returns-in_default-clause-came
 returns-in_default-clause-came c = λ waits _. come_touched (come_here c.requires.at c.requires.marks waits) c.ask_if_first.ensures.asked.touched
 
 pub death-requires-clause-at : goal.death-requires-clause-at
-death-requires-clause-at c = let signed = c.sign_all.ensures.signed in
-    let came = come_noted (come_touched (come_here c.requires.at c.requires.marks ToTheEnd) c.ask_if_first.ensures.asked.touched) signed.0 signed.1 in (
-      looks_again c.args.arrival,
-      record {
-        seat = c.sign_all.ensures.same.seat;
-        lock = c.requires.at.lock;
-        orderly = came.came.0.orderly;
-        working = came.came.0.working;
-      },
-    )
+death-requires-clause-at c = let signed = c.sign_all.ensures.signed in (
+  looks_again c.args.arrival,
+  come_here_still
+      (come_noted (come_touched (come_here c.requires.at c.requires.marks ToTheEnd) c.ask_if_first.ensures.asked.touched) signed.0 signed.1)
+      c.sign_all.ensures.same.seat c.requires.at.lock,
+)
 
 -- once it asked, signed, and looked whether it has to die
 looked : (c : After-death) → (waits : wait.Waits) → HasCome c.args.board.now c.args.lock true (looks_again c.args.arrival)
@@ -40,7 +36,7 @@ leave-requires-clause-may c = stays_goes
     c.in-Some.ensures.asked.asked c.sign_all.ensures.signed.0 c.death.ensures.looked.told c.in-None.ensures.looked.life
 
 pub returns-in-None-clause-came : goal.returns-in-None-clause-came
-returns-in-None-clause-came c = λ waits found. let n = c.args.lock in let m3 = c.death.new.seat.seat.me in
+returns-in-None-clause-came c = λ waits found. let m3 = c.death.new.seat.seat.me in
     let m4 = c.leave.new.seat.seat.me in let out = c.leave.ensures.out in
     let came = looked (goal.at.returns-in-None-clause-came c).After-death waits in
     come_out came m4 Waits (stays_outside m3 came.came.0.working out.view out.orderly)
@@ -50,14 +46,10 @@ returns-in-None-clause-came c = λ waits found. let n = c.args.lock in let m3 = 
     (nap_left m3 m4 came.came.0.working.place.0 out.view) (ap (λ (z : Sight). deeds_of z.part.core) out.view)
 
 pub back_off-requires-clause-at : goal.back_off-requires-clause-at
-back_off-requires-clause-at c = let came = looked (goal.at.back_off-requires-clause-at c).After-death ToTheEnd in (
+back_off-requires-clause-at c = (
   looks_again c.args.arrival,
-  record {
-    seat = c.death.ensures.same.seat;
-    lock = c.requires.at.lock;
-    orderly = came.came.0.orderly;
-    working = came.came.0.working;
-  },
+  come_here_still
+      (looked (goal.at.back_off-requires-clause-at c).After-death ToTheEnd) c.death.ensures.same.seat c.requires.at.lock,
 )
 
 pub returns-then-not-back_off-clause-came : goal.returns-then-not-back_off-clause-came
