@@ -13,38 +13,27 @@ use Rattle.ww_seat.proofs.look.look_once.Goals.{In_default-stop_if_cancelled}
 use Rattle.ww_seat.proofs.look.look_once.Goals as goal
 
 pub take_inside-requires-clause-at : goal.take_inside-requires-clause-at
-take_inside-requires-clause-at c = (
-  has_joined c.args.arrival.now,
-  looks_again c.args.arrival.now,
-  come_here_still
-      (come_looked c.requires.at c.requires.may c.args.waits c.look-seen.ensures.looked) c.look-seen.ensures.seat c.requires.may.there,
-)
+take_inside-requires-clause-at c = let x = come_looked c.requires.at c.requires.may c.args.waits c.look-seen.ensures.looked in
+    (has_joined c.args.arrival.now, looks_again c.args.arrival.now, come_here_still x c.look-seen.ensures.seat c.requires.may.there)
 
 pub take_inside-requires-clause-marks : goal.take_inside-requires-clause-marks
 take_inside-requires-clause-marks c = marks_there c.args.board.now c.look-seen.ensures.seat (search rules) c.requires.may.marks
 
 pub returns-in-Some-clause-came : goal.returns-in-Some-clause-came
 returns-in-Some-clause-came c = let same = c.take_inside.ensures.same in
-    let looked = come_looked c.requires.at c.requires.may c.args.waits c.look-seen.ensures.looked in
-    attempted c.take_inside.new.seat c.requires.at
-    (record { seat = same.seat; records = same.records ∙ c.look-seen.ensures.records }) refl refl refl
-    (come_then looked (c.in-Some.ensures.came (has_joined c.args.arrival.now) (looks_again c.args.arrival.now) c.args.waits
-    looked.came.0.working))
+    let x = come_looked c.requires.at c.requires.may c.args.waits c.look-seen.ensures.looked in
+    attempted c.take_inside.new.seat c.requires.at (record { seat = same.seat; records = same.records ∙ c.look-seen.ensures.records }) refl refl refl
+    (come_then x (c.in-Some.ensures.came (has_joined c.args.arrival.now) (looks_again c.args.arrival.now) c.args.waits x.came.0.working))
 
 pub returns-in-None-clause-came : goal.returns-in-None-clause-came
 returns-in-None-clause-came c = let same = c.take_inside.ensures.same in
-    let looked = come_looked c.requires.at c.requires.may c.args.waits c.look-seen.ensures.looked in
-    attempted c.take_inside.new.seat c.requires.at
-    (record { seat = same.seat; records = same.records ∙ c.look-seen.ensures.records }) refl refl refl
-    (come_then looked (c.in-None.ensures.came (has_joined c.args.arrival.now) (looks_again c.args.arrival.now) c.args.waits
-    looked.came.0.working))
+    let x = come_looked c.requires.at c.requires.may c.args.waits c.look-seen.ensures.looked in
+    attempted c.take_inside.new.seat c.requires.at (record { seat = same.seat; records = same.records ∙ c.look-seen.ensures.records }) refl refl refl
+    (come_then x (c.in-None.ensures.came (has_joined c.args.arrival.now) (looks_again c.args.arrival.now) c.args.waits x.came.0.working))
 
 pub stand-requires-clause-at : goal.stand-requires-clause-at
-stand-requires-clause-at c = (
-  looks_again c.args.arrival.now,
-  come_here_still
-      (come_looked c.requires.at c.requires.may c.args.waits c.look-seen.ensures.looked) c.look-seen.ensures.seat c.requires.may.there,
-)
+stand-requires-clause-at c = let x = come_looked c.requires.at c.requires.may c.args.waits c.look-seen.ensures.looked in
+    (looks_again c.args.arrival.now, come_here_still x c.look-seen.ensures.seat c.requires.may.there)
 
 pub stand-requires-clause-holds : goal.stand-requires-clause-holds
 stand-requires-clause-holds c = ap (λ (z : Sat). any_below (length z.0.part.core.owned) (owns z.0.part.core))
@@ -52,18 +41,14 @@ stand-requires-clause-holds c = ap (λ (z : Sat). any_below (length z.0.part.cor
 
 pub returns-in_default-clause-came : goal.returns-in_default-clause-came
 returns-in_default-clause-came c = let same = c.stand.ensures.same in
-    attempted c.stand.new.seat c.requires.at
-    (record { seat = same.seat; records = same.records ∙ c.look-seen.ensures.records }) refl refl refl
+    attempted c.stand.new.seat c.requires.at (record { seat = same.seat; records = same.records ∙ c.look-seen.ensures.records }) refl refl refl
     (come_touched (come_looked c.requires.at c.requires.may c.args.waits c.look-seen.ensures.looked)
     c.in_default.ensures.stands)
 
 pub stop_if_cancelled-requires-clause-at : goal.stop_if_cancelled-requires-clause-at
-stop_if_cancelled-requires-clause-at c = (
-  looks_again c.args.arrival.now,
-  come_here_still
-      (come_stood (come_looked c.requires.at c.requires.may c.args.waits c.look-seen.ensures.looked) c.in-Some-stand.ensures.stands)
-      c.stand.ensures.same.seat c.requires.may.there,
-)
+stop_if_cancelled-requires-clause-at c =
+    let x = come_stood (come_looked c.requires.at c.requires.may c.args.waits c.look-seen.ensures.looked) c.in-Some-stand.ensures.stands in
+    (looks_again c.args.arrival.now, come_here_still x c.stand.ensures.same.seat c.requires.may.there)
 
 pub returns-in-Some-stop_if_cancelled-clause-came : goal.returns-in-Some-stop_if_cancelled-clause-came
 returns-in-Some-stop_if_cancelled-clause-came c = let same = c.stop_if_cancelled.ensures.same in

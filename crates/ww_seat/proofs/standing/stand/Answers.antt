@@ -1,6 +1,5 @@
 use Rattle.std.proofs.Common.{sym, subst, ◌∙◌, ℕ, ◌<◌}
 use Rattle.ww_word.specs.AnySeats.{Fits}
-use Rattle.ww_seat.specs.Work.{has_joined}
 use Rattle.ww_seat.proofs.Stood.{has_stood}
 use Rattle.ww_seat.proofs.standing.stand.Goals as goal
 

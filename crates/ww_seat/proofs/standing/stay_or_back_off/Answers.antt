@@ -16,12 +16,9 @@ pub returns-in_default-clause-came : goal.returns-in_default-clause-came
 returns-in_default-clause-came c = λ waits _. come_touched (come_here c.requires.at c.requires.marks waits) c.ask_if_first.ensures.asked.touched
 
 pub death-requires-clause-at : goal.death-requires-clause-at
-death-requires-clause-at c = let signed = c.sign_all.ensures.signed in (
-  looks_again c.args.arrival,
-  come_here_still
-      (come_noted (come_touched (come_here c.requires.at c.requires.marks ToTheEnd) c.ask_if_first.ensures.asked.touched) signed.0 signed.1)
-      c.sign_all.ensures.same.seat c.requires.at.lock,
-)
+death-requires-clause-at c = let signed = c.sign_all.ensures.signed in
+    let asked = come_touched (come_here c.requires.at c.requires.marks ToTheEnd) c.ask_if_first.ensures.asked.touched in
+    (looks_again c.args.arrival, come_here_still (come_noted asked signed.0 signed.1) c.sign_all.ensures.same.seat c.requires.at.lock)
 
 -- once it asked, signed, and looked whether it has to die
 looked : (c : After-death) → (waits : wait.Waits) → HasCome c.args.board.now c.args.lock true (looks_again c.args.arrival)
@@ -46,11 +43,8 @@ returns-in-None-clause-came c = λ waits found. let m3 = c.death.new.seat.seat.m
     (nap_left m3 m4 came.came.0.working.place.0 out.view) (ap (λ (z : Sight). deeds_of z.part.core) out.view)
 
 pub back_off-requires-clause-at : goal.back_off-requires-clause-at
-back_off-requires-clause-at c = (
-  looks_again c.args.arrival,
-  come_here_still
-      (looked (goal.at.back_off-requires-clause-at c).After-death ToTheEnd) c.death.ensures.same.seat c.requires.at.lock,
-)
+back_off-requires-clause-at c = let x = looked (goal.at.back_off-requires-clause-at c).After-death ToTheEnd in
+    (looks_again c.args.arrival, come_here_still x c.death.ensures.same.seat c.requires.at.lock)
 
 pub returns-then-not-back_off-clause-came : goal.returns-then-not-back_off-clause-came
 returns-then-not-back_off-clause-came c = λ waits _. come_touched
