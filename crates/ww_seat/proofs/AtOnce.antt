@@ -66,7 +66,7 @@ taken_at_once n y {m} won now was low lacks w r =
 pub taken_bare_at_once : {size : ℕ} (n : ℕ) (y : Node) {m now : Sat} → IsOrderly size m → size ≤ n → IsNodeOf (length m.0.held) y
     → now ≡ (knowing m.0 (fast_taken m.0.part.core n), m.1) → IsTaken size n y m now
 taken_bare_at_once {size} n y {m} was big fits is = let wide = was.held in
-    taken_by n y m (subst (IsOrderly size) (sym is) (orderly_bare n true (fast_taken m.0.part.core n) was big refl refl refl refl)) fits
+    taken_by n y m (subst (IsOrderly size) (sym is) (orderly_bare n true was big refl refl)) fits
     (ap (λ (z : Sat). z.0) is ∙ (λ i. record (m.0) {
       part = record (m.0.part) { core = fast_taken m.0.part.core n };
       held = sym (set_past m.0.held n (Some y) (omega arith)) i;

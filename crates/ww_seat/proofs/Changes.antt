@@ -173,11 +173,9 @@ module _ {size : ℕ} {m : Sat} (r : Record) {before : List Node} (was : IsOrder
 
   end_placed : (place : ℕ) (slots : List (ℕ × Cell)) → IsChanged size m.0.held after ns (placing m.0 place r, slots)
       → IsOrderly size (placing m.0 place r, slots)
-  end_placed place slots is = orderly_named
-      (placing m.0 place r, slots) is.orderly refl refl refl refl refl
-      (renewed_long 0 m.0.held (graph_after (graph_of m.0.held) t) ∙ was.held ∙ sym is.orderly.held)
+  end_placed place slots is = orderly_named is.orderly refl (renewed_long 0 m.0.held (graph_after (graph_of m.0.held) t) ∙ was.held ∙ sym is.orderly.held)
       (λ n low own. ⊎_elim (λ e. named_after n e ∙ sym (is.named n e))
-      (λ e. named_else n e own ∙ sym (is.others n e)) (true_or_false (is_among n ns)))
+      (λ e. named_else n e own ∙ sym (is.others n e)) (true_or_false (is_among n ns))) refl is.orderly.apart (λ k. refl)
 
   pub end_orderly : (place : ℕ) (m1 m2 : Sat) → m1 ≡ placed place → m2.0 ≡ m1.0 → IsChanged size m.0.held after ns m2 → IsOrderly size m2
   end_orderly place m1 m2 is view changed = let v : m2.0 ≡ placing m.0 place r = view ∙ ap (λ (z : Sat). z.0) is in

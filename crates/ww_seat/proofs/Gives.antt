@@ -28,7 +28,7 @@ use Rattle.ww_seat.specs.Standings.{HasLetNode}
 use Rattle.ww_seat.proofs.Naps.{out_by}
 use Rattle.ww_seat.proofs.Holds.{holds_by, holds_then}
 use Rattle.ww_seat.proofs.Slots.{front_same, front_apart, is_out}
-use Rattle.ww_seat.proofs.Outside.{orderly_still, orderly_bare, set_past, owned_low, owns_here}
+use Rattle.ww_seat.proofs.Outside.{orderly_brought, orderly_knowing, orderly_still, orderly_bare, set_past, owned_low, owns_here}
 use Rattle.ww_seat.proofs.Guards.{HasEntered, exiting_orderly, listed_orderly, without_node}
 
 -- ---- what the calls say of the seat, one after another
@@ -56,13 +56,19 @@ pub node_out : {size : ℕ} {m : Sat} (n : ℕ) → IsOrderly size m → n < siz
     → (x : Node) × (slot_of m.1 n ≡ Some (Content x)) × (get_elem? m.0.held n ≡ some (Some x))
 node_out n o low own = let z = o.nodes n low own in (z.0, z.2, z.1)
 
-pub given_free : {size : ℕ} {m : Sat} (m' : Sat) {n : ℕ} {x : Node} → IsOrderly size m → IsAway m.0.part.core → n < size → m'.0 ≡ giving m.0 n
-    → AreOthers m.1 n (Content x) m'.1 → IsOrderly size m' × IsAway m'.0.part.core × HasGiven m n m'
-given_free {size} {m} m' {n} o away small view home = (
-  subst (λ (w : Sight). IsOrderly size (w, m'.1)) (sym view) (without_node o small home refl refl refl refl refl),
+-- it released the lock, by what its view is then
+given_by : (m m' : Sat) (n : ℕ) {size : ℕ} → m'.0 ≡ giving m.0 n → IsAway m.0.part.core → IsOrderly size m'
+    → IsOrderly size m' × IsAway m'.0.part.core × HasGiven m n m'
+given_by m m' n view away o = (
+  o,
   subst (λ (w : Sight). IsAway w.part.core) (sym view) (away.0, away.1),
   subst (λ (w : Sight). HasGiven m n (w, m'.1)) (sym view) refl,
 )
+
+pub given_free : {size : ℕ} {m : Sat} (m' : Sat) {n : ℕ} {x : Node} → IsOrderly size m → IsAway m.0.part.core → n < size → m'.0 ≡ giving m.0 n
+    → AreOthers m.1 n (Content x) m'.1 → IsOrderly size m' × IsAway m'.0.part.core × HasGiven m n m'
+given_free {size} {m} m' {n} o away small view home = given_by m m' n view away
+    (subst (λ (w : Sight). IsOrderly size (w, m'.1)) (sym view) (without_node o small home refl refl))
 
 pub kept_free : {size : ℕ} {m m' : Sat} {n : ℕ} {x : Node} {others : List (ℕ × Cell)} → IsOrderly size m → AreOthers m.1 n (Content x) others
     → m' ≡ (keeping m.0, (n, Content x) ∷ others) → IsOrderly size m'
@@ -88,25 +94,18 @@ entered_giving {size} {m} {m'} {n} e o waits own = subst (λ (w : Sight). IsOrde
     })
     o
 
-pub looked_giving : {size : ℕ} {m m' : Sat} {n : ℕ} {o : Owner} → IsGiving size n m → m' ≡ (looking m.0 o, m.1) → IsGiving size n m'
-looked_giving {size} {n} g is = subst (IsGiving size n) (sym is) (record {
-  orderly = orderly_still g.orderly refl refl g.orderly.apart (λ k. refl);
-  inside = g.inside;
-  waits = g.waits;
-  owner = g.owner;
-  seats = g.seats;
-  unsigned = g.unsigned;
-})
-
-pub read_giving : {size : ℕ} {m m' : Sat} {n : ℕ} → IsGiving size n m → HasListOnTop m n m' → IsGiving size n m'
-read_giving {size} {n} g t = subst (IsGiving size n) (sym t.now) (record {
-  orderly = listed_orderly g.orderly g.inside t.apart refl;
-  inside = g.inside;
-  waits = g.waits;
-  owner = g.owner;
-  seats = g.seats;
-  unsigned = g.unsigned;
-})
+-- it read the owner word, and then the wait list
+pub read_giving : {size n : ℕ} {m m' m'' : Sat} {o : Owner} → IsGiving size n m → m' ≡ (looking m.0 o, m.1) → HasListOnTop m' n m''
+    → IsGiving size n m''
+read_giving {size} {n} {m'' = m''} g looked read = subst (λ (w : Sight). IsOrderly size (w, m''.1) → IsGiving size n (w, m''.1))
+    (sym (ap (λ (z : Sat). z.0) read.now ∙ ap (λ (z : Sat). z.0) looked)) (λ orderly. record {
+      orderly = orderly;
+      inside = g.inside;
+      waits = g.waits;
+      owner = g.owner;
+      seats = g.seats;
+      unsigned = g.unsigned;
+    }) (orderly_brought (orderly_knowing g.orderly looked refl refl) read.apart read.now)
 
 pub giving_out : {size : ℕ} {m : Sat} {n : ℕ} → IsGiving size n m → n < size
     → (x : Node) × IsOut m.1 n (Content x) × (get_elem? m.0.held n ≡ some (Some x))
@@ -143,24 +142,17 @@ pub let_go : {size : ℕ} {m m' : Sat} {n : ℕ} {x : Node} {others : List (ℕ 
     → AreOthers ((64 + n, Line m.0.part.core.list) ∷ others) n (Content x) m'.1 → HasLet size n m m'
 let_go {size} {m} {m'} {n} {others} asked g small view top home = let first : Sat = (m.0, (64 + n, Line m.0.part.core.list) ∷ others) in
     let o : IsOrderly size first = listed_orderly g.orderly g.inside top refl in
-    lets asked g (subst (λ (w : Sight). IsOrderly size (w, m'.1)) (sym view) (without_node o small home refl refl refl refl refl)) view
+    lets asked g (subst (λ (w : Sight). IsOrderly size (w, m'.1)) (sym view) (without_node o small home refl refl)) view
 
 -- ---- a lock that guards no node
 
 pub given_bare : {size : ℕ} {m m' : Sat} (n : ℕ) → IsOrderly size m → IsAway m.0.part.core → size ≤ n
     → m' ≡ (knowing m.0 (fast_given m.0.part.core n), m.1) → IsOrderly size m' × IsAway m'.0.part.core × HasGiven m n m'
 given_bare {size} {m} {m'} n o away big is = let wide = o.held in
-    let view : m'.0 ≡ giving m.0 n = ap (λ (z : Sat). z.0) is ∙ (λ i. record (m.0) {
+    given_by m m' n (ap (λ (z : Sat). z.0) is ∙ (λ i. record (m.0) {
       part = record (m.0.part) { core = fast_given m.0.part.core n };
       held = sym (set_past m.0.held n None (omega arith)) i;
-    }) in (
-      subst (IsOrderly size) (sym is) (orderly_bare n false (fast_given m.0.part.core n) o big refl refl refl refl),
-      subst (λ (w : Sight). IsAway w.part.core) (sym view) (away.0, away.1),
-      subst (λ (w : Sight). HasGiven m n (w, m'.1)) (sym view) refl,
-    )
-
-pub kept_bare : {size : ℕ} {m m' : Sat} → IsOrderly size m → m' ≡ (keeping m.0, m.1) → IsOrderly size m'
-kept_bare {size} o is = subst (IsOrderly size) (sym is) (orderly_still o refl refl o.apart (λ k. refl))
+    })) away (subst (IsOrderly size) (sym is) (orderly_bare n false o big refl refl))
 
 -- one try to release it, of which the lock's word tells whether the seat has it
 pub let_once : {size : ℕ} (n : ℕ) {m : Sat} (m' : Sat) (a : Giving) → IsOrderly size m → IsAway m.0.part.core → size ≤ n → HasTriedToGive m n a m'
@@ -168,7 +160,7 @@ pub let_once : {size : ℕ} (n : ℕ) {m : Sat} (m' : Sat) (a : Giving) → IsOr
 let_once n m' Gave o away big t = let z = given_bare n o away big t.1 in
     (z.0, z.1, (t.0, z.2, ap (λ (w : Sat). w.0.part.core.kept) t.1))
 let_once n {m} m' Kept o away big t = (
-  kept_bare o t.1,
+  orderly_knowing o t.1 refl refl,
   subst (λ (w : Sat). IsAway w.0.part.core) (sym t.1) (away.0, away.1),
   (t.0, holds_by m m' (ap (λ (w : Sat). w.0) t.1) refl, ap (λ (w : Sat). w.0.part.core.kept) t.1),
 )
@@ -182,7 +174,7 @@ let_go_bare {size} {n} {m} {m'} asked g big got = let wide = g.orderly.held in
       part = record (m.0.part) { core = given m.0.part.core n asked };
       held = sym (set_past m.0.held n None (omega arith)) i;
     }) in
-    lets asked g (subst (IsOrderly size) (sym got.2) (orderly_bare n false (given m.0.part.core n asked) o big refl refl refl refl)) view
+    lets asked g (subst (IsOrderly size) (sym got.2) (orderly_bare n false o big refl refl)) view
 
 -- ---- outside again
 

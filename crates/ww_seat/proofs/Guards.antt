@@ -97,11 +97,13 @@ listed_by {size} o inside got outs = subst (IsOrderly size) (sym got.2) (listed_
 
 -- a node went home, and its lock is released
 pub without_node : {size : ℕ} {m : Sat} {n : ℕ} {x : Node} {w : Sight} {slots : List (ℕ × Cell)} → IsOrderly size m → n < size
-    → AreOthers m.1 n (Content x) slots → w.part.core.owned ≡ slice_set m.0.part.core.owned n false → w.held ≡ slice_set m.0.held n None
-    → w.part.core.inside ≡ m.0.part.core.inside → w.part.core.list ≡ m.0.part.core.list → w.part.core.heeded ≡ m.0.part.core.heeded
-    → IsOrderly size (w, slots)
-without_node {m} {n} {w} {slots} o small home owned held inside list heeded = let same =
-    others_else o.apart home in let few = o.few in let long = o.owned in
+    → AreOthers m.1 n (Content x) slots
+    → outs_of w ≡ record (outs_of m.0) { owned = slice_set m.0.part.core.owned n false; held = slice_set m.0.held n None }
+    → w.part.core.list ≡ m.0.part.core.list → IsOrderly size (w, slots)
+without_node {m} {n} {w} {slots} o small home outs list = let same = others_else o.apart home in let few = o.few in let long = o.owned in
+    let owned : w.part.core.owned ≡ slice_set m.0.part.core.owned n false = ap (λ (z : Outs). z.owned) outs in
+    let held : w.held ≡ slice_set m.0.held n None = ap (λ (z : Outs). z.held) outs in
+    let inside : w.part.core.inside ≡ m.0.part.core.inside = ap (λ (z : Outs). z.inside) outs in
     let gone : get_or w.part.core.owned n false ≡ false = ap (λ xs. get_or xs n false) owned
     ∙ owns_here m.0.part.core.owned n false (omega arith) in
     let kept : (k : ℕ) → k ≢ n → get_or w.part.core.owned k false ≡ get_or m.0.part.core.owned k false =
@@ -118,5 +120,5 @@ without_node {m} {n} {w} {slots} o small home owned held inside list heeded = le
           (λ isnt. same k isnt ∙ o.others k low (⊎_elim (λ big. inl big) (λ lacks. inr (sym (kept k isnt) ∙ lacks)) own));
       list = λ k e. same (64 + k) (λ z. omega arith) ∙ o.list k (sym inside ∙ e) ∙ ap (λ (q : List Entry). Some (Line q)) (sym list);
       lists = λ k isnt. same (64 + k) (λ z. omega arith) ∙ o.lists k (λ e. isnt (inside ∙ e));
-      unheeded = heeded ∙ o.unheeded;
+      unheeded = ap (λ (z : Outs). z.heeded) outs ∙ o.unheeded;
     }

@@ -34,24 +34,32 @@ pub record Outs : Type 0 where
 abbrev pub outs_of : Sight → Outs
 outs_of v = record { owned = v.part.core.owned; held = v.held; inside = v.part.core.inside; heeded = v.part.core.heeded }
 
--- these are the same, as is the wait list, and the slots have the same: their order may be another
-pub orderly_still : {size : ℕ} {m m' : Sat} → IsOrderly size m → outs_of m'.0 ≡ outs_of m.0 → m'.0.part.core.list ≡ m.0.part.core.list
-    → AreApart m'.1 → ((k : ℕ) → slot_of m'.1 k ≡ slot_of m.1 k) → IsOrderly size m'
-orderly_still {m} {m'} was outs list apart slots =
+-- they are the same but for what the view names, which is the same of each node whose lock the seat owns, as are the wait list and what
+-- the slots have: their order may be another
+pub orderly_named : {size : ℕ} {m m' : Sat} → IsOrderly size m → outs_of m'.0 ≡ record (outs_of m.0) { held = m'.0.held }
+    → length m'.0.held ≡ length m.0.held → ((n : ℕ) → n < size → owns m.0.part.core n ≡ true → get_elem? m'.0.held n ≡ get_elem? m.0.held n)
+    → m'.0.part.core.list ≡ m.0.part.core.list → AreApart m'.1 → ((k : ℕ) → slot_of m'.1 k ≡ slot_of m.1 k) → IsOrderly size m'
+orderly_named {m} {m'} was outs long named list apart slots =
     let owned : m'.0.part.core.owned ≡ m.0.part.core.owned = ap (λ (z : Outs). z.owned) outs in
     let inside : m'.0.part.core.inside ≡ m.0.part.core.inside = ap (λ (z : Outs). z.inside) outs in record {
       few = was.few;
       owned = omega (arith, was.owned, ap (λ (l : List Bool). length l) owned);
-      held = ap (λ (z : Outs). length z.held) outs ∙ was.held;
+      held = long ∙ was.held;
       apart = apart;
-      nodes = λ n low own. let t = was.nodes n low (ap (λ (l : List Bool). get_or l n false) (sym owned) ∙ own) in
-          (t.0, ap (λ (z : Outs). get_elem? z.held n) outs ∙ t.1, slots n ∙ t.2);
+      nodes = λ n low own. let old = ap (λ (l : List Bool). get_or l n false) (sym owned) ∙ own in
+          let t = was.nodes n low old in (t.0, named n low old ∙ t.1, slots n ∙ t.2);
       others = λ n small why. slots n ∙ was.others n small
           (⊎_elim (λ big. inl big) (λ lacks. inr (ap (λ (l : List Bool). get_or l n false) (sym owned) ∙ lacks)) why);
       list = λ n is. slots (list_at n) ∙ was.list n (sym inside ∙ is) ∙ ap (λ q. Some (Line q)) (sym list);
       lists = λ n isnt. slots (list_at n) ∙ was.lists n (λ is. isnt (inside ∙ is));
       unheeded = ap (λ (z : Outs). z.heeded) outs ∙ was.unheeded;
     }
+
+-- ... and the view names the same
+pub orderly_still : {size : ℕ} {m m' : Sat} → IsOrderly size m → outs_of m'.0 ≡ outs_of m.0 → m'.0.part.core.list ≡ m.0.part.core.list
+    → AreApart m'.1 → ((k : ℕ) → slot_of m'.1 k ≡ slot_of m.1 k) → IsOrderly size m'
+orderly_still {m'} was outs = orderly_named was (ap (λ (z : Outs). record z { held = m'.0.held }) outs)
+    (ap (λ (z : Outs). length z.held) outs) (λ n _ _. ap (λ (z : Outs). get_elem? z.held n) outs)
 
 -- a step that leaves the slots as they are
 pub orderly_knowing : {size : ℕ} {m m' : Sat} {w : View} → IsOrderly size m → m' ≡ (knowing m.0 w, m.1) → outs_of (knowing m.0 w) ≡ outs_of m.0
@@ -140,28 +148,6 @@ pub orderly_swapped : {size : ℕ} {m m' : Sat} {n : ℕ} {x y : Node} {others :
 orderly_swapped {size} {m} {n} {x} {y} {others} was low owner are is =
     subst (IsOrderly size) (sym is) (swapped_orderly size m n x was low y others owner are)
 
--- the view names the same of each node whose lock the seat owns
-pub orderly_named : {size : ℕ} {m : Sat} (m' : Sat) → IsOrderly size m → m'.1 ≡ m.1 → m'.0.part.core.owned ≡ m.0.part.core.owned
-    → m'.0.part.core.inside ≡ m.0.part.core.inside → m'.0.part.core.list ≡ m.0.part.core.list → m'.0.part.core.heeded ≡ m.0.part.core.heeded
-    → length m'.0.held ≡ length m.0.held → ((n : ℕ) → n < size → owns m.0.part.core n ≡ true → get_elem? m'.0.held n ≡ get_elem? m.0.held n)
-    → IsOrderly size m'
-orderly_named {m} m' was slots owned inside list heeded long named = record {
-  few = was.few;
-  owned = omega (arith, was.owned, ap (λ (l : List Bool). length l) owned);
-  held = long ∙ was.held;
-  apart = subst AreApart (sym slots) was.apart;
-  nodes = λ n low own. let old = ap (λ (l : List Bool). get_or l n false) (sym owned) ∙ own in
-      let t = was.nodes n low old in (t.0, named n low old ∙ t.1, at n ∙ t.2);
-  others = λ n small why. at n ∙ was.others n small
-      (⊎_elim (λ big. inl big) (λ lacks. inr (ap (λ (l : List Bool). get_or l n false) (sym owned) ∙ lacks)) why);
-  list = λ n is. at (list_at n) ∙ was.list n (sym inside ∙ is) ∙ ap (λ q. Some (Line q)) (sym list);
-  lists = λ n isnt. at (list_at n) ∙ was.lists n (λ is. isnt (inside ∙ is));
-  unheeded = heeded ∙ was.unheeded;
-}
-  where
-    at : (k : ℕ) → slot_of m'.1 k ≡ slot_of m.1 k
-    at k = ap (λ (l : List (ℕ × Cell)). slot_of l k) slots
-
 -- ---- what the steps ask
 
 pub high_list : (n : ℕ) → 64 ≤ n → (k : ℕ) × (n ≡ list_at k)
@@ -193,9 +179,12 @@ set_past (y ∷ ys) (suc n) x past = ap (λ l. y ∷ l) (set_past ys n x (omega 
 
 -- ---- a lock taken, or released, that guards no node: what is out stays
 
-pub orderly_bare : {size : ℕ} {m : Sat} (n : ℕ) (b : Bool) (w : View) → IsOrderly size m → size ≤ n → w.owned ≡ set m.0.part.core.owned n b
-    → w.inside ≡ m.0.part.core.inside → w.list ≡ m.0.part.core.list → w.heeded ≡ m.0.part.core.heeded → IsOrderly size (knowing m.0 w, m.1)
-orderly_bare {size} {m} n b w was big owned inside list heeded =
+pub orderly_bare : {size : ℕ} {m : Sat} (n : ℕ) (b : Bool) {w : View} → IsOrderly size m → size ≤ n
+    → outs_of (knowing m.0 w) ≡ record (outs_of m.0) { owned = set m.0.part.core.owned n b } → w.list ≡ m.0.part.core.list
+    → IsOrderly size (knowing m.0 w, m.1)
+orderly_bare {size} {m} n b {w} was big outs list =
+    let owned : w.owned ≡ set m.0.part.core.owned n b = ap (λ (z : Outs). z.owned) outs in
+    let inside : w.inside ≡ m.0.part.core.inside = ap (λ (z : Outs). z.inside) outs in
     let else_ : (k : ℕ) → k < size → get_or w.owned k false ≡ get_or m.0.part.core.owned k false =
     λ k low. ap (λ (l : List Bool). get_or l k false) owned ∙ owns_else m.0.part.core.owned n b k (λ e. absurd (omega arith)) in record {
       few = was.few;
@@ -207,7 +196,7 @@ orderly_bare {size} {m} n b w was big owned inside list heeded =
           (λ low. inr (sym (else_ k (omega arith)) ∙ lacks))) why);
       list = λ k is. was.list k (sym inside ∙ is) ∙ ap (λ q. Some (Line q)) (sym list);
       lists = λ k isnt. was.lists k (λ is. isnt (inside ∙ is));
-      unheeded = heeded ∙ was.unheeded;
+      unheeded = ap (λ (z : Outs). z.heeded) outs ∙ was.unheeded;
     }
 
 -- ---- whether it holds a lock

@@ -155,7 +155,7 @@ pub is_taken_bare : {size n : ℕ} {m m1 : Sat} → IsOrderly size m → size �
 is_taken_bare {size} {n} {m} o big inside got = let wide = o.held in
     let w : Sight = knowing m.0 (record (m.0.part.core) { list = left m.0.part.core.list m.0.part.core.who }) in
     let listed : IsOrderly size (w, (64 + n, Line w.part.core.list) ∷ got.0) = listed_orderly o inside got.1 refl in record {
-      orderly = subst (IsOrderly size) (sym got.2) (orderly_bare n true (taken m.0.part.core n) listed big refl refl refl refl);
+      orderly = subst (IsOrderly size) (sym got.2) (orderly_bare n true listed big refl refl);
       view = ap (λ (z : Sat). z.0) got.2 ∙ (λ i. record (m.0) {
         part = record (m.0.part) { core = taken m.0.part.core n };
         held = sym (set_past m.0.held n (Some no_node) (omega arith)) i;
