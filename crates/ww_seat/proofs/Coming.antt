@@ -186,7 +186,7 @@ pub attempted : {board : Board} {n : ℕ} {stands again : Bool} {waits : Waits} 
     → HasCome board n stands again waits q.seat.me wake (q.seat.me.0.part.core.attempts + 1) a q'.seat.me wake'
     → IsOrderly (size_of board) q'.seat.me
     × HasAttempted board.table.shared.key.places (standing_of q) n waits arrival wake a (standing_of q') arrival' wake'
-attempted {board} {n} {stands} {again} {waits} {a} {q} q' {arrival' = arrival'} at same joined was now x =
+attempted {board} {n} {stands} {again} {waits} {a} {q} q' {arrival'} at same joined was now x =
     let orderly = came_orderly board n stands again waits q.seat.me q'.seat.me a x.came in (
       orderly,
       record {

@@ -97,7 +97,7 @@ entered_giving {size} {m} {m'} {n} e o waits own = subst (λ (w : Sight). IsOrde
 -- it read the owner word, and then the wait list
 pub read_giving : {size n : ℕ} {m m' m'' : Sat} {o : Owner} → IsGiving size n m → m' ≡ (looking m.0 o, m.1) → HasListOnTop m' n m''
     → IsGiving size n m''
-read_giving {size} {n} {m'' = m''} g looked read = subst (λ (w : Sight). IsOrderly size (w, m''.1) → IsGiving size n (w, m''.1))
+read_giving {size} {n} {m''} g looked read = subst (λ (w : Sight). IsOrderly size (w, m''.1) → IsGiving size n (w, m''.1))
     (sym (ap (λ (z : Sat). z.0) read.now ∙ ap (λ (z : Sat). z.0) looked)) (λ orderly. record {
       orderly = orderly;
       inside = g.inside;

@@ -69,7 +69,8 @@ holds_kept {q} is k = subst (λ (x : Standing). (view_in x).inside ≡ 0 → Own
 -- outside every guard the slot on top is that of a node
 first_is_node : {size : ℕ} {m : Sat} (n : ℕ) (y : Cell) (others : List (ℕ × Cell)) → IsOrderly size m → m.0.part.core.inside ≡ 0
     → m.1 ≡ (n, y) ∷ others → n < size
-first_is_node {size} {m} n y others was outside out = let here : slot_of m.1 n ≡ Some y = ap (λ (l : List (ℕ × Cell)). slot_of l n) out ∙ slot_here n y others in
+first_is_node {size} {m} n y others was outside out =
+    let here : slot_of m.1 n ≡ Some y = ap (λ (l : List (ℕ × Cell)). slot_of l n) out ∙ slot_here n y others in
     dite (dec_le size n) (λ high. absurd (not_both (dite (dec_le 64 n)
     (λ list. let k = high_list n list in ap (slot_of m.1) k.1 ∙ was.lists k.0 (λ is. absurd (omega arith)))
     (λ small. was.others n (omega arith) (inl high))) here)) (λ low. omega arith)

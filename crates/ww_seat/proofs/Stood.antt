@@ -22,7 +22,10 @@ use Rattle.ww_invariant.specs.Rule.{Sat}
 use Rattle.ww_invariant.specs.Steps.{knowing}
 use Rattle.ww_invariant.specs.Guards.{AreSeats, exiting}
 use Rattle.ww_invariant.specs.Waiting.{HasListOnTop, joining, asking, dying}
-use Rattle.ww_table.specs.Inside.{HasListThen}
+use Rattle.ww_table.specs.declared.board.Board.{Board}
+use Rattle.ww_table.specs.declared.seat.Stepper.{Stepper}
+use Rattle.ww_table.specs.Seat.{view_of}
+use Rattle.ww_table.specs.Inside.{HasListThen, HasReadFirst}
 use Rattle.ww_seat.specs.Orderly.{IsOrderly}
 use Rattle.ww_seat.specs.Accounts.{account_of}
 use Rattle.ww_seat.specs.Calls.{HoldsAsBefore, HasToDie}
@@ -84,21 +87,24 @@ first_of : (q : List Entry) {e : Entry} → slice_get q 0 ≡ Some e → IsFirst
 first_of [] is = absurd cc
 first_of (x ∷ xs) {e} is = let a : x ≡ e = cc in (x, xs, refl, ap (λ (z : Entry). z.seat) a)
 
-pub nothing_by_other : {n : ℕ} {m m1 : Sat} {o : Owner} {e : Entry} {who : ℕ} → SeesOther o m.0.part.core → HasListOnTop m n m1
-    → slice_get m.0.part.core.list 0 ≡ Some e → m.0.part.core.who ≡ who → e.seat ≢ who → NothingToAsk m1.0.part.core
-nothing_by_other {m} {o} sees top is at isnt = subst (λ (z : Sat). NothingToAsk z.0.part.core) (sym top.now)
-    (o, sees.seen, inr (inr (λ first. isnt (first_is m.0.part.core.list m.0.part.core.who is first ∙ at))))
+-- whoever reads the first waiter is who it was
+first_who : {b : Board} {s s' : Stepper} {n : ℕ} {first : Option Entry} → HasReadFirst b s n first s' → (view_of s).who ≡ s'.who
+first_who first = sym (ap (λ (z : Sat). z.0.part.core.who) first.read.now) ∙ first.seat.who
+
+pub nothing_by_other : {b : Board} {s s' : Stepper} {n : ℕ} {first : Option Entry} {o : Owner} {e : Entry} → SeesOther o (view_of s)
+    → HasReadFirst b s n first s' → first ≡ Some e → e.seat ≢ s'.who → NothingToAsk (view_of s')
+nothing_by_other {s} {o} sees first is isnt = subst (λ (z : Sat). NothingToAsk z.0.part.core) (sym first.read.now)
+    (o, sees.seen, inr (inr (λ f. isnt (first_is (view_of s).list (view_of s).who (sym first.first ∙ is) f ∙ first_who first))))
 
 pub sees_read : {n : ℕ} {m m1 : Sat} {o : Owner} → SeesOther o m.0.part.core → HasListOnTop m n m1 → SeesOther o m1.0.part.core
 sees_read {o} sees top = subst (λ (z : Sat). SeesOther o z.0.part.core) (sym top.now) sees
 
-pub may_ask : {n : ℕ} {m m1 : Sat} {o : Owner} {e : Entry} {who : ℕ} → IsWorking n true true m.0.part.core → SeesOther o m.0.part.core
-    → HasListOnTop m n m1 → slice_get m.0.part.core.list 0 ≡ Some e → m.0.part.core.who ≡ who → e.seat ≡ who → o.flags ≡ 1
-    → MayAsk m1.0.part.core n o
-may_ask {n} {m} {o} w sees top is at same one = subst (λ (z : Sat). MayAsk z.0.part.core n o) (sym top.now) (record {
+pub may_ask : {b : Board} {s s' : Stepper} {n : ℕ} {first : Option Entry} {o : Owner} {e : Entry} → IsWorking n true true (view_of s)
+    → SeesOther o (view_of s) → HasReadFirst b s n first s' → first ≡ Some e → e.seat ≡ s'.who → o.flags ≡ 1 → MayAsk (view_of s') n o
+may_ask {s} {n} {o} w sees first is same one = subst (λ (z : Sat). MayAsk z.0.part.core n o) (sym first.read.now) (record {
   inside = w.inside;
   later = w.later;
-  first = subst (IsFirst m.0.part.core.list) (same ∙ sym at) (first_of m.0.part.core.list is);
+  first = subst (IsFirst (view_of s).list) (same ∙ sym (first_who first)) (first_of (view_of s).list (sym first.first ∙ is));
   other = sees.other;
   flags = one;
 })

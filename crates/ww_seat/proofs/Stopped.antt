@@ -29,7 +29,10 @@ pub has_left : {size n mark : ℕ} {l : Bool} {m m1 m2 : Sat} {o : Owner} → Is
     → m1 ≡ (heeding m.0 mark, m.1) → HasListThen m1 n (stopping m1.0 o) (interrupted m1.0.part.core o).list m2 → HasLeft size mark m o m2
 has_left {size} {n} {mark} {m} {m2} {o} ord w is = subst
     (λ (z : Sat). HasListThen z n (stopping z.0 o) (interrupted z.0.part.core o).list m2 → HasLeft size mark m o m2) (sym is)
-    (λ got. record { orderly = listed_by ord w.inside got (ap (λ (k : ℕ). record (outs_of m.0) { heeded = k }) (sym ord.unheeded)); view = ap (λ (z : Sat). z.0) got.2 })
+    (λ got. record {
+      orderly = listed_by ord w.inside got (ap (λ (k : ℕ). record (outs_of m.0) { heeded = k }) (sym ord.unheeded));
+      view = ap (λ (z : Sat). z.0) got.2;
+    })
 
 pub stopped_goes : {size n mark : ℕ} {l : Bool} {m m2 : Sat} {o : Owner} → IsWorking n true l m.0.part.core → HasLeft size mark m o m2
     → MayGo n m2.0.part.core

@@ -34,7 +34,7 @@ use Rattle.ww_seat.specs.Orderly.{IsOrderly}
 use Rattle.ww_seat.specs.Accounts.{Account, account_of, having_taken}
 use Rattle.ww_seat.specs.Calls.{HasTaken}
 use Rattle.ww_seat.specs.Looks.{IsLook}
-use Rattle.ww_seat.specs.Work.{signing, IsWorking, MayGo, HasNoted, HasSigned, HasTakenInside}
+use Rattle.ww_seat.specs.Work.{signing, IsWorking, MayGo, HasNoted, HasReadNode, HasSigned, HasTakenInside}
 use Rattle.ww_seat.specs.declared.look.Look.TheVariants.{Locked}
 use Rattle.ww_seat.proofs.Slots.{slot_here, slot_else, others_gone, others_else, others_apart}
 use Rattle.ww_seat.proofs.Outside.{orderly_brought, orderly_bare, orderly_taken, set_past}
@@ -56,7 +56,9 @@ taking_orderly {n} {m} x {others} o low inside lacks out = let few = o.few in
     (slot_here (64 + n) q ((n, Content x) ∷ others))
 
 pub is_taken : {size n : ℕ} {m m1 : Sat} → IsOrderly size m → n < size → m.0.part.core.inside ≡ suc n → owns m.0.part.core n ≡ false
-    → (got : (x : Node) × (others : List (ℕ × Cell)) × IsNodeOf (length m.0.held) x × AreOthers m.1 (64 + n) (Line m.0.part.core.list) others × (m1 ≡ (taking_inside m.0 n x, (64 + n, Line (taken m.0.part.core n).list) ∷ (n, Content x) ∷ others)))
+    → (got : (x : Node) × (others : List (ℕ × Cell)) × IsNodeOf (length m.0.held) x
+    × AreOthers m.1 (64 + n) (Line m.0.part.core.list) others
+    × (m1 ≡ (taking_inside m.0 n x, (64 + n, Line (taken m.0.part.core n).list) ∷ (n, Content x) ∷ others)))
     → HasTakenInside size n m got.0 m1
 is_taken {size} o low inside lacks got = record {
   orderly = subst (IsOrderly size) (sym got.4) (taking_orderly got.0 o low inside lacks got.3);
@@ -164,25 +166,24 @@ is_taken_bare {size} {n} {m} o big inside got = let wide = o.held in
     }
 
 -- the node that is given then is the one that was taken, or a blank one where the lock guards none
-pub look_taken : {size n : ℕ} {m m2 m3 : Sat} (m4 : Sat) {m5 : Sat} {x : Node} (r : Node) {owed : List (ℕ × ℕ)} → IsOrderly size m
-    → HasTakenInside size n m x m2 → HasNoted size owed m2 m3 → m4.0 ≡ exiting m3.0 → IsOrderly size m5 → m5.0 ≡ m4.0
-    → (n < size → get_elem? m4.0.held n ≡ some (Some r)) → (size ≤ n → (k : ℕ) → IsNodeOf k r)
+pub look_taken : {size n : ℕ} {m m2 m3 m4 m5 : Sat} {x r : Node} {owed : List (ℕ × ℕ)} → IsOrderly size m
+    → HasTakenInside size n m x m2 → HasNoted size owed m2 m3 → m4.0 ≡ exiting m3.0 → HasReadNode size n m4 r m5
     → IsLook size n m (Locked r) m5 × (m5.0.part.core.attempts ≡ m.0.part.core.attempts)
-look_taken {size} {n} {m} m4 {m5} {x} r o t h out o5 still node blank =
+look_taken {size} {n} {m} {m4} {m5} {x} {r} o t h out read =
     let wide = o.held in
     let base = out_view m4 t h out in
     let fits : (set m.0.held n (Some x) ≡ set m.0.held n (Some r)) × IsNodeOf (length m.0.held) r = dite (dec_le size n)
-    (λ big. (set_past m.0.held n (Some x) (omega arith) ∙ sym (set_past m.0.held n (Some r) (omega arith)), blank big (length m.0.held)))
+    (λ big. (set_past m.0.held n (Some x) (omega arith) ∙ sym (set_past m.0.held n (Some r) (omega arith)), read.blank big (length m.0.held)))
     (λ small. let low : n < size = omega arith in
     let had : get_elem? m4.0.held n ≡ some (Some x) = ap (λ (z : Sight). get_elem? z.held n) base ∙ set_here m.0.held n (Some x) (omega arith) in
-    let same : x ≡ r = ap (named no_node) (sym had ∙ node low) in
+    let same : x ≡ r = ap (named no_node) (sym had ∙ read.node low) in
     (ap (λ (y : Node). set m.0.held n (Some y)) same, subst (IsNodeOf (length m.0.held)) same t.node)) in
-    let view = still ∙ base in
+    let view = read.view ∙ base in
     let took : HasTaken m n r m5 = subst (λ (z : Sight). HasTaken m n r (z, m5.1)) (sym view) (record {
       now = ap (λ hs. let y : Account = record (having_taken (account_of m) n r) { held = hs } in y) fits.0;
       node = fits.1;
       unmet = refl;
     }) in (
-      (o5, ((ap (λ (z : Sight). z.part.core.inside) view, ap (λ (z : Sight). z.part.core.waits) view), took)),
+      (read.orderly, ((ap (λ (z : Sight). z.part.core.inside) view, ap (λ (z : Sight). z.part.core.waits) view), took)),
       ap (λ (z : Sight). z.part.core.attempts) view,
     )

@@ -2,7 +2,6 @@ use Rattle.std.proofs.Common.{rules, sym, subst, ◌∙◌}
 use Rattle.ww_word.specs.declared.owner.Owner.{Owner}
 use Rattle.ww_seat.specs.Work.{looks_again, HasAsked}
 use Rattle.ww_seat.proofs.Working.{touched_same, touched_read, touched_lost, touched_then, touched_asking}
-use Rattle.ww_seat.proofs.Took.{read_who}
 use Rattle.ww_seat.proofs.Stood.{later_work, nothing_by_other, sees_read, may_ask, has_asked}
 use Rattle.ww_seat.proofs.standing.ask_if_first.Goals as goal
 
@@ -25,12 +24,11 @@ returns-in_err-first-clause-asked c = record {
 }
 
 pub returns-then-seat-who-clause-asked : goal.returns-then-seat-who-clause-asked
-returns-then-seat-who-clause-asked c = let sees = c.requires.seen.sees in let read = c.first.ensures.read in record {
-  touched = touched_read c.requires.at.orderly read;
+returns-then-seat-who-clause-asked c = let sees = c.requires.seen.sees in record {
+  touched = touched_read c.requires.at.orderly c.first.ensures.read;
   asked = record {
-    sees = sees_read sees read;
-    asked = λ _. nothing_by_other sees read (sym c.first.ensures.first ∙ c.in_ok-first.was) (sym (read_who read c.first.ensures.seat.who))
-        (λ same. c.if-seat-who.true (c.seat.ensures ∙ same ∙ sym c.who.ensures));
+    sees = sees_read sees c.first.ensures.read;
+    asked = λ _. nothing_by_other sees c.first.ensures c.in_ok-first.was (λ same. c.if-seat-who.true (c.seat.ensures ∙ same ∙ sym c.who.ensures));
   };
 }
 
@@ -38,8 +36,8 @@ pub ask-requires-clause-may : goal.ask-requires-clause-may
 ask-requires-clause-may c = record {
   lock = c.requires.at.lock;
   may = may_ask (later_work (sym c.looks_again.ensures ∙ c.if-not-looks_again.false) c.requires.at.working) c.requires.seen.sees
-      c.first.ensures.read (sym c.first.ensures.first ∙ c.in_ok-first.was) (sym (read_who c.first.ensures.read c.first.ensures.seat.who))
-      (sym c.seat.ensures ∙ c.if-seat-who.false ∙ c.who.ensures) (sym c.flags.ensures ∙ c.if-flags-ne-WAITERS.false);
+      c.first.ensures c.in_ok-first.was (sym c.seat.ensures ∙ c.if-seat-who.false ∙ c.who.ensures)
+      (sym c.flags.ensures ∙ c.if-flags-ne-WAITERS.false);
   valid = search rules;
 }
 

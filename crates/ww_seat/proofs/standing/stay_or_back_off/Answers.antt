@@ -25,7 +25,8 @@ looked : (c : After-death) → (waits : wait.Waits) → HasCome c.args.board.now
     waits c.args.seat.now.seat.me c.args.wake.now c.args.seat.now.seat.me.0.part.core.attempts Lost
     c.death.new.seat.seat.me c.sign_all.new.wake
 looked c waits = let signed = c.sign_all.ensures.signed in
-    come_told (come_noted (come_touched (come_here c.requires.at c.requires.marks waits) c.ask_if_first.ensures.asked.touched) signed.0 signed.1) c.death.ensures.looked.told
+    come_told (come_noted (come_touched (come_here c.requires.at c.requires.marks waits) c.ask_if_first.ensures.asked.touched) signed.0 signed.1)
+    c.death.ensures.looked.told
 
 pub leave-requires-clause-may : goal.leave-requires-clause-may
 leave-requires-clause-may c = stays_goes

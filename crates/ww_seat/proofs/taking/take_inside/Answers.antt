@@ -48,8 +48,7 @@ returns-clause-came c = λ stands again waits working. let m = c.args.seat.now.s
     let t = has_it (goal.at.returns-clause-came c).After-own_word-word in let h = c.sign_all.ensures.signed.0 in
     let took : HasCondemnedNone m m2 = none_condemned t.1.view refl refl refl in
     let out = n.view ∙ c.leave.ensures.out.view in
-    let look = look_taken c.leave.new.seat.seat.me c.node_or_blank.result c.requires.at.2.orderly
-    t.1 h c.leave.ensures.out.view n.orderly n.view n.node n.blank in record {
+    let look = look_taken c.requires.at.2.orderly t.1 h c.leave.ensures.out.view n in record {
       came = (
         look.0,
         tt,
