@@ -137,12 +137,12 @@ lets {size} {m} {m'} {n} asked g o view = let low = owned_low m.0.part.core.owne
       awake = record { naps = refl; deaf = refl };
     }) o
 
-pub let_go : {size : ℕ} {m m' : Sat} {n : ℕ} {x : Node} {others : List (ℕ × Cell)} (asked : Bool) → IsGiving size n m → n < size
-    → m'.0 ≡ giving_inside m.0 n asked → AreOthers m.1 (64 + n) (Line m.0.part.core.list) others
-    → AreOthers ((64 + n, Line m.0.part.core.list) ∷ others) n (Content x) m'.1 → HasLet size n m m'
-let_go {size} {m} {m'} {n} {others} asked g small view top home = let first : Sat = (m.0, (64 + n, Line m.0.part.core.list) ∷ others) in
-    let o : IsOrderly size first = listed_orderly g.orderly g.inside top refl in
-    lets asked g (subst (λ (w : Sight). IsOrderly size (w, m'.1)) (sym view) (without_node o small home refl refl)) view
+pub let_go : {size n : ℕ} {m m' : Sat} (asked : Bool) → IsGiving size n m → n < size
+    → (x : Node) × (others : List (ℕ × Cell)) × (m'.0 ≡ giving_inside m.0 n asked) × AreOthers m.1 (64 + n) (Line m.0.part.core.list) others
+    × AreOthers ((64 + n, Line m.0.part.core.list) ∷ others) n (Content x) m'.1 → HasLet size n m m'
+let_go {size} {n} {m} {m'} asked g small got =
+    let o : IsOrderly size (m.0, (64 + n, Line m.0.part.core.list) ∷ got.1) = listed_orderly g.orderly g.inside got.3 refl in
+    lets asked g (subst (λ (w : Sight). IsOrderly size (w, m'.1)) (sym got.2) (without_node o small got.4 refl refl)) got.2
 
 -- ---- a lock that guards no node
 

@@ -30,5 +30,5 @@ slept_not a b = record { parker = b.parker ∙ a.parker; heard = b.heard ∙ a.h
 -- each seat that has to be woken has a mark, and the bell of each that has one gave a token
 pub woken_ring : (v : View) (marks : List ℕ) (bells bells' : List Bell) → AreWoken v marks → AreRung marks bells bells'
     → HaveRung v bells bells'
-woken_ring v marks bells bells' woken rang u condemned other low = rang u low
+woken_ring v marks bells bells' woken rang = λ u condemned other low. rang u low
     ∙ ap (λ (b : Bool). option_map (one_more b) (rung_at bells u)) (woken u (condemned, other))

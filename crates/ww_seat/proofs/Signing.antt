@@ -22,7 +22,6 @@ use Rattle.ww_view.specs.Made.{entry_of_view, has_read, with_condemned}
 use Rattle.ww_invariant.specs.declared.cells.Sight.{Sight}
 use Rattle.ww_invariant.specs.Rule.{Sat}
 use Rattle.ww_invariant.specs.Steps.{knowing}
-use Rattle.ww_invariant.specs.Guards.{AreSeats}
 use Rattle.ww_invariant.specs.Signs.{condemning, noting, reading, finding_none}
 use Rattle.ww_invariant.specs.Waiting.{HasListOnTop}
 use Rattle.ww_table.specs.declared.board.Board.{Board}
@@ -49,12 +48,10 @@ has_at (x ∷ xs) zero d low = inl refl
 has_at (x ∷ xs) (suc i) d low = inr (has_at xs i d (omega arith))
 
 -- whoever is owed a sign is one of the seats
-pub victim_there : (kind : Kind) (o : Owner) (seats : ℕ) (q : List Entry) (me u k : ℕ) → ((v : ℕ) → o.seat ≡ Some v → v < seats)
-    → AreSeats seats q → Has (owed_signs kind o q me) (u, k) → u < seats
-victim_there WoundWait o n q me u k owns seats has = owns u (wounded_why o q me u k has).owns
-victim_there WaitDie o n q me u k owns seats has = let w =
-    must_die_why WaitDie o q u 0 k (signed_why o q me u k has).1 in let small = (seats w.0 w.1).0 in
-    let same = w.2 in omega arith
+victim_there : {v : View} {o : Owner} (kind : Kind) (u k : ℕ) → SeesSeats o v → Has (owed_signs kind o v.list v.who) (u, k) → u < v.seats
+victim_there {v} {o} WoundWait u k sees has = sees.there u (wounded_why o v.list v.who u k has).owns
+victim_there {v} {o} WaitDie u k sees has = let w = must_die_why WaitDie o v.list u 0 k (signed_why o v.list v.who u k has).1 in
+    let small = (sees.seats w.0 w.1).0 in let same = w.2 in omega arith
 
 pub may_sign : {size n : ℕ} {done : List (ℕ × ℕ)} (owed : List (ℕ × ℕ)) {m m1 : Sat} {u k : ℕ} → m.0.part.core.inside ≡ suc n
     → HasNoted size done m m1 → AreOwed m.0.part.core owed → Has owed (u, k) → MaySign m1.0.part.core n u k
@@ -329,10 +326,10 @@ has_back (x ∷ xs) ys y h = inr (has_back xs ys y h)
 -- the next of the signs that are owed are owed
 pub part_owed : {v : View} {o : Owner} (done owed rest : List (ℕ × ℕ)) → SeesSeats o v → done ++ (owed ++ rest) ≡ owed_signs v.kind o v.list v.who
     → AreOwed v owed
-part_owed {v} {o} done owed rest sees whole u k has =
+part_owed {v} {o} done owed rest sees whole = λ u k has.
     let all : Has (owed_signs v.kind o v.list v.who) (u, k) = subst (λ (l : List (ℕ × ℕ)). Has l (u, k)) whole
     (has_back done (owed ++ rest) (u, k) (has_front owed rest (u, k) has)) in
-    (victim_there v.kind o v.seats v.list v.who u k sees.there sees.seats all, (o, sees.seen, all))
+    (victim_there v.kind u k sees all, (o, sees.seen, all))
 
 -- the signs that are left
 abbrev pub left_of : View → Owner → Option ℕ → List (ℕ × ℕ)

@@ -92,10 +92,10 @@ gone_in_to_give true {q} seated t o away own = let e = t.entered refl in
 gone_in_to_give false seated t o away own = shut_by seated t o
 
 -- another was inside, so it is where it was
-pub shut_stays : {b : Board} {n : ℕ} {first s : Standing} (s' : Standing) → IsAt b s → MayGoIn b n s → HasGoneIn first s
+pub shut_stays : {b : Board} {n : ℕ} {first s s' : Standing} → IsAt b s → MayGoIn b n s → HasGoneIn first s
     → (view_in s).waits ≡ (view_in first).waits → WasShutOut s s'
     → IsAt b s' × MayGoIn b n s' × HasGoneIn first s' × ((view_in s').waits ≡ (view_in first).waits)
-shut_stays {b} {n} {first} {s} s' at may gone waits is = subst
+shut_stays {b} {n} {first} {s} at may gone waits is = subst
     (λ (x : Standing). IsAt b x × MayGoIn b n x × HasGoneIn first x × ((view_in x).waits ≡ (view_in first).waits)) (sym is) (
       record { home = at.home; size = at.size },
       record { there = may.there; want = record { lacks = may.want.lacks; base = may.want.base; signs = may.want.signs }; outside = may.outside; place = may.place },

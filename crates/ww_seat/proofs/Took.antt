@@ -34,7 +34,7 @@ use Rattle.ww_seat.specs.Orderly.{IsOrderly}
 use Rattle.ww_seat.specs.Accounts.{Account, account_of, having_taken}
 use Rattle.ww_seat.specs.Calls.{HasTaken}
 use Rattle.ww_seat.specs.Looks.{IsLook}
-use Rattle.ww_seat.specs.Work.{signing, IsWorking, MayGo, HasNoted, HasReadNode, HasSigned, HasTakenInside}
+use Rattle.ww_seat.specs.Work.{signing, IsWorking, MayGo, HasNoted, HasReadNode, HasSigned, HasTakenInside, IsOwnWord}
 use Rattle.ww_seat.specs.declared.look.Look.TheVariants.{Locked}
 use Rattle.ww_seat.proofs.Slots.{slot_here, slot_else, others_gone, others_else, others_apart}
 use Rattle.ww_seat.proofs.Outside.{orderly_brought, orderly_bare, orderly_taken, set_past}
@@ -110,9 +110,9 @@ read_who top is = sym is ∙ ap (λ (z : Sat). z.0.part.core.who) top.now
 pub read_stamp : {n : ℕ} {m m1 : Sat} {w : ℕ} → HasListOnTop m n m1 → m1.0.part.core.stamp ≡ w → w ≡ m.0.part.core.stamp
 read_stamp top is = sym is ∙ ap (λ (z : Sat). z.0.part.core.stamp) top.now
 
-pub word_read : {n : ℕ} {m m1 : Sat} {o : Owner} → HasListOnTop m n m1 → o ≡ taken_word m.0.part.core.who m.0.part.core.stamp m.0.part.core.list
+pub word_read : {n : ℕ} {m m1 : Sat} {o : Owner} → IsOwnWord n m o m1
     → o ≡ taken_word m1.0.part.core.who m1.0.part.core.stamp m1.0.part.core.list
-word_read top is = is ∙ ap (λ (z : Sat). taken_word z.0.part.core.who z.0.part.core.stamp z.0.part.core.list) (sym top.now)
+word_read own = own.word ∙ ap (λ (z : Sat). taken_word z.0.part.core.who z.0.part.core.stamp z.0.part.core.list) (sym own.read.now)
 
 -- ---- on the way out
 

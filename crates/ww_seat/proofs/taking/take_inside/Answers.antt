@@ -30,7 +30,7 @@ sign_all-requires-clause-at c = let t = has_it (goal.at.sign_all-requires-clause
 pub sign_all-requires-clause-seen : goal.sign_all-requires-clause-seen
 sign_all-requires-clause-seen c = let m2 = c.own_word-word.new.seat.seat.me in let seat = c.own_word-word.ensures.same.seat in
     let owes = owes_after c.requires.at.2.working (has_it (goal.at.sign_all-requires-clause-seen c).After-own_word-word).1 in
-    let word = word_read c.own_word-word.ensures.word.read c.own_word-word.ensures.word.word in record {
+    let word = word_read c.own_word-word.ensures.word in record {
       seen = owes.seen ∙ ap Some (sym word);
       there = λ u is. own_there m2.0.part.core.seats (ap (λ (o : Owner). o.seat) word) (omega (arith, seat.few, seat.who, seat.seats)) is;
       seats = owes.seats;
@@ -39,7 +39,7 @@ sign_all-requires-clause-seen c = let m2 = c.own_word-word.new.seat.seat.me in l
 
 pub leave-requires-clause-may : goal.leave-requires-clause-may
 leave-requires-clause-may c = taken_goes c.requires.at.2.working (has_it (goal.at.leave-requires-clause-may c).After-own_word-word).1
-    (word_read c.own_word-word.ensures.word.read c.own_word-word.ensures.word.word) c.sign_all.ensures.signed.0
+    (word_read c.own_word-word.ensures.word) c.sign_all.ensures.signed.0
 
 pub returns-clause-came : goal.returns-clause-came
 returns-clause-came c = λ stands again waits working. let m = c.args.seat.now.seat.me in

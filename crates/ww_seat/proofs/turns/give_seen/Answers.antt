@@ -16,8 +16,8 @@ give-requires-clause-may c = let giving = c.requires.giving in
     }
 
 pub returns-then-lock-from-clause-gave : goal.returns-then-lock-from-clause-gave
-returns-then-lock-from-clause-gave c = let e = c.give.ensures.gave in
-    let_go _ c.requires.giving (omega (arith, c.if-lock-from.true, c.from.ensures, c.size.ensures)) e.2 e.3 e.4
+returns-then-lock-from-clause-gave c =
+    let_go _ c.requires.giving (omega (arith, c.if-lock-from.true, c.from.ensures, c.size.ensures)) c.give.ensures.gave
 
 pub returns-else-lock-from-clause-gave : goal.returns-else-lock-from-clause-gave
 returns-else-lock-from-clause-gave c =
