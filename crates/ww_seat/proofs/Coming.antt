@@ -130,23 +130,17 @@ pub come_here_still : {board : Board} {n : ℕ} {stands again : Bool} {waits : W
 come_here_still x seat lock = record { seat = seat; lock = lock; orderly = x.came.0.orderly; working = x.came.0.working }
 
 -- one part of it after another
-came_then : (board : Board) (n : ℕ) (s1 s2 again : Bool) (waits : Waits) (m m1 m2 : Sat) (a : Attempt)
-    → CameInside board n s1 again waits m Lost m1 → CameInside board n s2 again waits m1 a m2
-    → CameInside board n s2 again waits m a m2
-came_then board n s1 s2 again waits m m1 m2 Lost x y = (work_then x.0 y.0, awake_then x.1 y.1)
-came_then board n s1 s2 again waits m m1 m2 (Ended l) x y = (
-  (y.0.0, holding_then n m m1 m2 l x.0.holds y.0.1),
-  y.1,
-  y.2,
-  nap_then m2.0.part.core l x.1 y.3,
-)
-
 pub come_then : {board : Board} {n : ℕ} {s1 s2 again : Bool} {waits : Waits} {m m1 m2 : Sat} {wake wake1 wake2 : List ℕ} {looks : ℕ}
     {a : Attempt} → HasCome board n s1 again waits m wake looks Lost m1 wake1
     → HasCome board n s2 again waits m1 wake1 m1.0.part.core.attempts a m2 wake2
     → HasCome board n s2 again waits m wake looks a m2 wake2
-come_then {board} {n} {s1} {s2} {again} {waits} {m} {m1} {m2} {a} x y = record {
-  came = came_then board n s1 s2 again waits m m1 m2 a x.came y.came;
+come_then {a = Lost} x y = record {
+  came = (work_then x.came.0 y.came.0, awake_then x.came.1 y.came.1);
+  attempts = y.attempts ∙ x.attempts;
+  marked = marks_then x.marked y.marked;
+}
+come_then {n} {m} {m1} {m2} {a = Ended l} x y = let e = y.came in record {
+  came = ((e.0.0, holding_then n m m1 m2 l x.came.0.holds e.0.1), e.1, e.2, nap_then m2.0.part.core l x.came.1 e.3);
   attempts = y.attempts ∙ x.attempts;
   marked = marks_then x.marked y.marked;
 }
