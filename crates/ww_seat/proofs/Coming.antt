@@ -107,18 +107,13 @@ pub come_goes_on : {board : Board} {n : ℕ} {again : Bool} {waits : Waits} {m m
 come_goes_on x g none = come_next x (work_goes_on x.came.0 g) none
 
 -- its look is at its end
-pub come_out : {board : Board} {n : ℕ} {stands again : Bool} {waits : Waits} {m m1 : Sat} {wake wake1 : List ℕ} {looks : ℕ}
-    → HasCome board n stands again waits m wake looks Lost m1 wake1 → (m2 : Sat) (l : Look) → IsLook (size_of board) n m1 l m2
+pub come_out : {board : Board} {n : ℕ} {stands again : Bool} {waits : Waits} {m m1 m2 : Sat} {wake wake1 : List ℕ} {looks : ℕ} {l : Look}
+    → HasCome board n stands again waits m wake looks Lost m1 wake1 → IsLook (size_of board) n m1 l m2
     → MayLookSo board.table.shared.key.places waits l → MayWaitSo waits m2.0.part.core l
     → IsNap m1.0.part.core l m2.0.part.core → deeds_of m2.0.part.core ≡ deeds_of m1.0.part.core
     → HasCome board n stands again waits m wake looks (Ended l) m2 wake1
-come_out {n} {m} {m1} x m2 l look so may nap same = record {
-  came = (
-    (look.0, holding_then n m m1 m2 l x.came.0.holds look.1),
-    so,
-    may,
-    nap_then m2.0.part.core l x.came.1 nap,
-  );
+come_out {n} {m} {m1} {m2} {l = l} x look so may nap same = record {
+  came = ((look.0, holding_then n m m1 m2 l x.came.0.holds look.1), so, may, nap_then m2.0.part.core l x.came.1 nap);
   attempts = ap (λ (d : Deeds). d.attempts) same ∙ x.attempts;
   marked = marks_idle_then x.marked same;
 }

@@ -3,7 +3,6 @@ use Rattle.ww_model.specs.State.{any_below}
 use Rattle.ww_view.specs.View.{owns}
 use Rattle.ww_invariant.specs.Rule.{Sat}
 use Rattle.ww_seat.specs.declared.look.Attempt.TheVariants.{Lost}
-use Rattle.ww_seat.specs.declared.look.Look.TheVariants.{Interrupted}
 use Rattle.ww_seat.specs.Work.{has_joined, looks_again, HasCome, IsAtWorkHere}
 use Rattle.ww_seat.proofs.Coming.{attempted, come_goes_on, come_here_still, come_looked, come_out, come_stood, come_then, come_touched}
 use Rattle.ww_seat.proofs.Stood.{flags_later}
@@ -56,8 +55,8 @@ returns-in-Some-stop_if_cancelled-clause-came c = let same = c.stop_if_cancelled
     attempted c.stop_if_cancelled.new.seat c.requires.at
     (record { seat = same.seat; records = same.records ∙ c.stand.ensures.same.records ∙ c.look-seen.ensures.records })
     c.joining.ensures.joined refl c.joining.ensures.again
-    (come_out (come_stood (come_looked c.requires.at c.requires.may c.args.waits c.look-seen.ensures.looked)
-    c.in-Some-stand.ensures.stands) c.stop_if_cancelled.new.seat.seat.me (Interrupted c.in-Some-stop_if_cancelled.by)
+    (come_out
+    (come_stood (come_looked c.requires.at c.requires.may c.args.waits c.look-seen.ensures.looked) c.in-Some-stand.ensures.stands)
     stopped.0 stopped.1 tt stopped.2.awake stopped.2.deeds)
 
 -- it stands in the wait list, and goes on

@@ -3,7 +3,6 @@ use Rattle.ww_invariant.specs.declared.cells.Sight.{Sight}
 use Rattle.ww_invariant.specs.Guards.{exiting}
 use Rattle.ww_seat.specs.Work.{deeds_of, looks_again, HasCome}
 use Rattle.ww_seat.specs.declared.look.Attempt.TheVariants.{Lost}
-use Rattle.ww_seat.specs.declared.look.Look.TheVariants.{Deadlk, Waits}
 use Rattle.ww_seat.specs.declared.waits.Waits as wait
 use Rattle.ww_seat.specs.declared.waits.Waits.TheVariants.{ToTheEnd}
 use Rattle.ww_seat.proofs.Stood.{stays_goes, stays_outside}
@@ -37,7 +36,7 @@ pub returns-in-None-clause-came : goal.returns-in-None-clause-came
 returns-in-None-clause-came c = λ waits found. let m3 = c.death.new.seat.seat.me in
     let m4 = c.leave.new.seat.seat.me in let out = c.leave.ensures.out in
     let came = looked (goal.at.returns-in-None-clause-came c).After-death waits in
-    come_out came m4 Waits (stays_outside m3 came.came.0.working out.view out.orderly)
+    come_out came (stays_outside m3 came.came.0.working out.view out.orderly)
     tt (λ is. ap (λ (z : Sight). z.part.core.uncancelled) (out.view ∙ ap exiting c.death.ensures.looked.told.view)
     ∙ ap (λ (z : Sight). z.part.core.uncancelled) c.sign_all.ensures.signed.0.view
     ∙ ap (λ (z : Sight). z.part.core.uncancelled) c.ask_if_first.ensures.asked.touched.view ∙ found is)
@@ -48,12 +47,10 @@ back_off-requires-clause-at c = let x = looked (goal.at.back_off-requires-clause
     (looks_again c.args.arrival, come_here_still x c.death.ensures.same.seat c.requires.at.lock)
 
 pub returns-then-not-back_off-clause-came : goal.returns-then-not-back_off-clause-came
-returns-then-not-back_off-clause-came c = λ waits _. come_touched
-    (looked (goal.at.returns-then-not-back_off-clause-came c).After-death waits)
-    (c.back_off.ensures.backed_off.lost c.if-not-back_off.true)
+returns-then-not-back_off-clause-came c = λ waits _.
+    come_touched (looked (goal.at.returns-then-not-back_off-clause-came c).After-death waits) (c.back_off.ensures.backed_off.lost c.if-not-back_off.true)
 
 pub returns-else-not-back_off-clause-came : goal.returns-else-not-back_off-clause-came
 returns-else-not-back_off-clause-came c = λ waits _. let off = c.back_off.ensures.backed_off in
-    come_out (looked (goal.at.returns-else-not-back_off-clause-came c).After-death waits) c.back_off.new.seat.seat.me
-    (Deadlk c.in-Some-death.met) (off.met c.if-not-back_off.false c.in-Some-death.met c.in-Some-death.ensures.looked.death)
-    tt tt off.idle.awake off.idle.deeds
+    come_out (looked (goal.at.returns-else-not-back_off-clause-came c).After-death waits)
+    (off.met c.if-not-back_off.false c.in-Some-death.met c.in-Some-death.ensures.looked.death) tt tt off.idle.awake off.idle.deeds
