@@ -28,10 +28,11 @@ use Rattle.ww_table.specs.Seat.{view_of}
 use Rattle.ww_table.specs.Inside.{HasListThen, HasReadFirst}
 use Rattle.ww_seat.specs.Orderly.{IsOrderly}
 use Rattle.ww_seat.specs.Accounts.{account_of}
-use Rattle.ww_seat.specs.Calls.{HoldsAsBefore, HasToDie}
+use Rattle.ww_seat.specs.Calls.{HasToDie}
 use Rattle.ww_seat.specs.Looks.{MayWant, IsLook}
-use Rattle.ww_seat.specs.Work.{signing, told, IsTold, IsPlaced, IsWorking, IsAtWork, SeesOther, HasStood, HasAsked, HasSigned, MayGo, MayStay}
+use Rattle.ww_seat.specs.Work.{signing, told, IsTold, IsPlaced, IsWorking, IsAtWork, SeesOther, HasStood, HasAsked, HasSigned, MayGo, MayStay, IsOut}
 use Rattle.ww_seat.specs.declared.look.Look.TheVariants.{Deadlk, Waits}
+use Rattle.ww_seat.proofs.Holds.{holds_by}
 use Rattle.ww_seat.proofs.Guards.{listed_orderly, listed_by}
 use Rattle.ww_seat.proofs.Working.{none_condemned, work_then}
 use Rattle.ww_seat.proofs.Signing.{dying_holds, owns_one}
@@ -153,10 +154,10 @@ shown_outside : (kind : Kind) {sign : Option ℕ} {q : List Entry} {who : ℕ} {
 shown_outside WoundWait s = s
 shown_outside WaitDie s = record { wounded = λ w. absurd (cc); older = s.older }
 
-pub look_died : {size n : ℕ} {l : Bool} (m m1 : Sat) {m2 : Sat} {o : Owner} {k : ℕ} → IsWorking n true l m.0.part.core → MayDie m.0.part.core n o k
-    → k < m.0.part.core.stamp → m1.0 ≡ dying m.0 o → m2.0 ≡ exiting m1.0 → IsOrderly size m2 → IsLook size n m (Deadlk k) m2
-look_died {n} m m1 {m2} {o} {k} w may older is out ord =
-    let view : m2.0 ≡ exiting (dying m.0 o) = out ∙ ap exiting is in
+pub look_died : {size n : ℕ} {l : Bool} (m : Sat) {m1 m2 : Sat} {o : Owner} {k : ℕ} → IsWorking n true l m.0.part.core → MayDie m.0.part.core n o k
+    → k < m.0.part.core.stamp → m1.0 ≡ dying m.0 o → IsOut size m1 m2 → IsLook size n m (Deadlk k) m2
+look_died {n} m {m2} {o} {k} w may older is out =
+    let view : m2.0 ≡ exiting (dying m.0 o) = out.view ∙ ap exiting is in
     let met : HasToDie m n k m2 = record {
       now = ap (λ (z : Sight). account_of (z, m2.1)) view;
       one = owns_one m.0.part.core (dying_holds m.0.part.core o may.why.0 w.place.1 may.why.2);
@@ -169,7 +170,7 @@ look_died {n} m m1 {m2} {o} {k} w may older is out ord =
         shown = subst (λ (z : Sight). IsShownBy z.part.core.kind z.part.core.sign m.0.part.core.list z.part.core.who o k) (sym view)
             (shown_outside m.0.part.core.kind (die_shows m.0.part.core n o k may));
       };
-    } in (ord, ((ap (λ (z : Sight). z.part.core.inside) view, ap (λ (z : Sight). z.part.core.waits) view), met))
+    } in (out.orderly, ((ap (λ (z : Sight). z.part.core.inside) view, ap (λ (z : Sight). z.part.core.waits) view), met))
 
 -- ---- it stays
 
@@ -178,16 +179,15 @@ wants_outside WoundWait v is wants = ⊎_elim (λ z. inl z)
     (λ r. ⊎_elim (λ z. inr (inl (ap (λ (x : Kind). once_outside x v.sign) is ∙ z))) (λ r2. inr (inr r2)) r) wants
 wants_outside WaitDie v is wants = inr (inr (inr is))
 
-pub stays_outside : {size n : ℕ} {l : Bool} (m : Sat) {m' : Sat} → IsWorking n true l m.0.part.core → m'.0 ≡ exiting m.0 → IsOrderly size m'
-    → IsLook size n m Waits m'
-stays_outside {n} m {m'} w out ord = let v : View = m.0.part.core in (
-  ord,
+pub stays_outside : {size n : ℕ} {l : Bool} {m m' : Sat} → IsWorking n true l m.0.part.core → IsOut size m m' → IsLook size n m Waits m'
+stays_outside {n} {m} {m'} w out = let v : View = m.0.part.core in (
+  out.orderly,
   (
-    subst (λ (z : Sight). MayWant n z.part.core) (sym out)
+    subst (λ (z : Sight). MayWant n z.part.core) (sym out.view)
         (record { lacks = w.want.lacks; base = w.want.base; signs = wants_outside v.kind v refl w.want.signs }),
-    ap (λ (z : Sight). z.part.core.inside) out,
-    ap (λ (z : Sight). z.part.core.waits) out ∙ w.place.0,
-    subst (λ (z : Sight). HoldsAsBefore m (z, m'.1)) (sym out) refl,
+    ap (λ (z : Sight). z.part.core.inside) out.view,
+    ap (λ (z : Sight). z.part.core.waits) out.view ∙ w.place.0,
+    holds_by m m' out.view refl,
   ),
 )
 
@@ -195,10 +195,9 @@ stays_outside {n} m {m'} w out ord = let v : View = m.0.part.core in (
 pub stays_goes : {size n : ℕ} {l : Bool} {m1 m2 m3 : Sat} {o : Owner} → IsWorking n true l m1.0.part.core → HasAsked o l m1.0.part.core
     → HasSigned size o m1 m2 → (t : IsTold size m2 m3) → MayStay o m3.0.part.core → MayGo n m3.0.part.core
 stays_goes {n} {m1} {m3} {o} w asked h t stay =
-    let view : m3.0 ≡ knowing m1.0 (told (signing m1.0.part.core h.signed h.condemned h.debts h.fresh)
-    t.sign t.fresh) = t.view ∙ ap (λ (z : Sight). knowing z (told z.part.core t.sign t.fresh)) h.view in
-    let stay2 : MayStay o (told (signing m1.0.part.core h.signed h.condemned h.debts h.fresh) t.sign
-    t.fresh) = subst (λ (z : Sight). MayStay o z.part.core) view stay in
+    let v : View = told (signing m1.0.part.core h.signed h.condemned h.debts h.fresh) t.sign t.fresh in
+    let view : m3.0 ≡ knowing m1.0 v = t.view ∙ ap (λ (z : Sight). knowing z (told z.part.core t.sign t.fresh)) h.view in
+    let stay2 : MayStay o v = subst (λ (z : Sight). MayStay o z.part.core) view stay in
     subst (λ (z : Sight). MayGo n z.part.core) (sym view) (record {
       inside = w.inside;
       why = inr (record { word = o; seen = asked.sees.seen; signed = h.all; other = inr asked.sees.other; lives = stay2.lives });

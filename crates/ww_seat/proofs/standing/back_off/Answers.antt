@@ -24,7 +24,7 @@ leave-requires-clause-may c = let at = c.requires.at.1 in
 pub returns-clause-backed_off : goal.returns-clause-backed_off
 returns-clause-backed_off c = let m = c.args.seat.now.seat.me in let at = c.requires.at.1 in let out = c.leave.ensures.out in
     let is = (dying_orderly c.args.seen at.orderly at.working.inside (c.die.ensures.gone.gone c.if-not-die.false)).1 in record {
-      met = λ _ k may. look_died m c.die.new.self.seat.me at.working may (c.die.ensures.older k may) is out.view out.orderly;
+      met = λ _ k may. look_died m at.working may (c.die.ensures.older k may) is out;
       lost = λ off. absurd (true≢false off);
       idle = none_condemned (out.view ∙ ap exiting is) refl refl refl;
     }

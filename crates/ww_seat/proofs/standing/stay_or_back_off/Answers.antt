@@ -36,7 +36,7 @@ pub returns-in-None-clause-came : goal.returns-in-None-clause-came
 returns-in-None-clause-came c = λ waits found. let m3 = c.death.new.seat.seat.me in
     let m4 = c.leave.new.seat.seat.me in let out = c.leave.ensures.out in
     let came = looked (goal.at.returns-in-None-clause-came c).After-death waits in
-    come_out came (stays_outside m3 came.came.0.working out.view out.orderly)
+    come_out came (stays_outside came.came.0.working out)
     tt (λ is. ap (λ (z : Sight). z.part.core.uncancelled) (out.view ∙ ap exiting c.death.ensures.looked.told.view)
     ∙ ap (λ (z : Sight). z.part.core.uncancelled) c.sign_all.ensures.signed.0.view
     ∙ ap (λ (z : Sight). z.part.core.uncancelled) c.ask_if_first.ensures.asked.touched.view ∙ found is)
