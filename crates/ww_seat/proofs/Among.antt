@@ -26,10 +26,10 @@ others_among front n m differ = among_added front n m ∙ ap (λ (b : Bool). is_
     ∙ or_nothing (is_among m front)
 
 -- it owns what is held, as before but for one lock
-pub owns_held : (owned new : List Bool) (was held : List ℕ) (n : ℕ) (b : Bool) → n < length owned
-    → new ≡ set owned n b → ((m : ℕ) → get_or owned m false ≡ is_among m was)
-    → is_among n held ≡ b → ((m : ℕ) → m ≢ n → is_among m held ≡ is_among m was) → (m : ℕ) → get_or new m false ≡ is_among m held
-owns_held owned new was held n b lt is owns here others m = ap (λ (os : List Bool). get_or os m false) is ∙ dite (ℕ_discrete m n)
+pub owns_held : (owned : List Bool) {new : List Bool} (was held : List ℕ) (n : ℕ) {b : Bool} → n < length owned → new ≡ set owned n b
+    → ((m : ℕ) → get_or owned m false ≡ is_among m was) → is_among n held ≡ b → ((m : ℕ) → m ≢ n → is_among m held ≡ is_among m was) → (m : ℕ)
+    → get_or new m false ≡ is_among m held
+owns_held owned was held n {b} lt is owns here others m = ap (λ (os : List Bool). get_or os m false) is ∙ dite (ℕ_discrete m n)
     (λ same. subst (λ (k : ℕ). get_or (set owned n b) k false ≡ is_among k held) (sym same) (get_or-set_same owned n b false lt ∙ sym here))
     (λ differ. get_or-set_other owned n m b false differ ∙ owns m ∙ sym (others m differ))
 
@@ -37,5 +37,4 @@ owns_held owned new was held n b lt is owns here others m = ap (λ (os : List Bo
 pub owns_more : (owned new : List Bool) (held : List ℕ) (n : ℕ) → n < length owned → new ≡ set owned n true
     → ((m : ℕ) → get_or owned m false ≡ is_among m held) → (m : ℕ)
     → get_or new m false ≡ is_among m (held ++ n ∷ [])
-owns_more owned new held n lt is owns =
-    owns_held owned new held (held ++ n ∷ []) n true lt is owns (last_among held n) (others_among held n)
+owns_more owned new held n lt is owns = owns_held owned held (held ++ n ∷ []) n lt is owns (last_among held n) (others_among held n)

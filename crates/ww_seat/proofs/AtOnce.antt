@@ -12,7 +12,7 @@ use Rattle.ww_invariant.specs.declared.cells.Sight.{Sight}
 use Rattle.ww_invariant.specs.Rule.{Sat}
 use Rattle.ww_invariant.specs.Out.{AreOthers, slot_of}
 use Rattle.ww_invariant.specs.Steps.{knowing, taking}
-use Rattle.ww_view.specs.Made.{fast_taken, fast_missed}
+use Rattle.ww_view.specs.Made.{fast_taken}
 use Rattle.ww_table.specs.Seat.{HasTriedToTake}
 use Rattle.ww_table.specs.declared.seat.Taking.{Taking}
 use Rattle.ww_table.specs.declared.seat.Taking.TheVariants.{Took, Had, Missed}
@@ -40,9 +40,9 @@ pub record IsTaken (size n : ℕ) (y : Node) (m m' : Sat) : Type 0 where
   pub waits : m'.0.part.core.waits ≡ m.0.part.core.waits
 
 -- the view names one lock more, and this node
-taken_by : (size n : ℕ) (y : Node) (m now : Sat) → IsOrderly size now → IsNodeOf (length m.0.held) y
-    → now.0 ≡ taking m.0 n y → IsTaken size n y m now
-taken_by size n y m now orderly fits view = record {
+taken_by : {size : ℕ} (n : ℕ) (y : Node) (m : Sat) {now : Sat} → IsOrderly size now → IsNodeOf (length m.0.held) y → now.0 ≡ taking m.0 n y
+    → IsTaken size n y m now
+taken_by n y m {now} orderly fits view = record {
   orderly = orderly;
   taken = record {
     now = ap (λ (v : Sight). account_of (v, now.1)) view;
@@ -53,24 +53,20 @@ taken_by size n y m now orderly fits view = record {
   waits = ap (λ v. v.part.core.waits) view;
 }
 
-pub taken_at_once : (size n : ℕ) (y : Node) (m won now : Sat) → IsOrderly size m → n < size
-    → owns m.0.part.core n ≡ false → IsWon n m won → IsRead n y won now → IsTaken size n y m now
-taken_at_once size n y m won now was low lacks w r =
-    let orderly = orderly_taken size m won n w.node was low lacks w.now in
-    let had = others_had won.1 n (Content y) r.others orderly.apart r.are in
-    let same : w.node ≡ y = same_node w.node y
-    (same_cell (slot_of won.1 n) (Content w.node) (Content y)
-    (ap (λ (z : Sat). slot_of z.1 n) w.now ∙ slot_here n (Content w.node) m.1) had) in
-    taken_by size n y m now (orderly_brought size won now n (Content y) r.others orderly r.are r.now)
-    (subst (IsNodeOf (length m.0.held)) same w.fits)
+pub taken_at_once : {size : ℕ} (n : ℕ) (y : Node) {m : Sat} (won now : Sat) → IsOrderly size m → n < size → owns m.0.part.core n ≡ false
+    → IsWon n m won → IsRead n y won now → IsTaken size n y m now
+taken_at_once n y {m} won now was low lacks w r =
+    let orderly = orderly_taken was low lacks w.now in
+    let had = others_had orderly.apart r.are in
+    let same : w.node ≡ y = same_node w.node y (same_cell (ap (λ (z : Sat). slot_of z.1 n) w.now ∙ slot_here n (Content w.node) m.1) had) in
+    taken_by n y m (orderly_brought orderly r.are r.now) (subst (IsNodeOf (length m.0.held)) same w.fits)
     (ap (λ (z : Sat). z.0) r.now ∙ ap (λ (z : Sat). z.0) w.now ∙ ap (taking m.0 n) same)
 
 -- the lock was won, and guards no node
-pub taken_bare_at_once : (size n : ℕ) (y : Node) (m now : Sat) → IsOrderly size m → size ≤ n
-    → IsNodeOf (length m.0.held) y → now ≡ (knowing m.0 (fast_taken m.0.part.core n), m.1) → IsTaken size n y m now
-taken_bare_at_once size n y m now was big fits is = let wide = was.held in
-    taken_by size n y m now (subst (IsOrderly size) (sym is)
-    (orderly_bare size m n true (fast_taken m.0.part.core n) was big refl refl refl refl)) fits
+pub taken_bare_at_once : {size : ℕ} (n : ℕ) (y : Node) {m now : Sat} → IsOrderly size m → size ≤ n → IsNodeOf (length m.0.held) y
+    → now ≡ (knowing m.0 (fast_taken m.0.part.core n), m.1) → IsTaken size n y m now
+taken_bare_at_once {size} n y {m} was big fits is = let wide = was.held in
+    taken_by n y m (subst (IsOrderly size) (sym is) (orderly_bare n true was big refl refl)) fits
     (ap (λ (z : Sat). z.0) is ∙ (λ i. record (m.0) {
       part = record (m.0.part) { core = fast_taken m.0.part.core n };
       held = sym (set_past m.0.held n (Some y) (omega arith)) i;
@@ -78,22 +74,21 @@ taken_bare_at_once size n y m now was big fits is = let wide = was.held in
 
 -- ---- one try, of which the lock's word tells whether the seat had the lock
 
-pub tried_settled : (size n : ℕ) (m m' : Sat) (a : Taking) → IsOrderly size m → IsAway m.0.part.core → size ≤ n
+pub tried_settled : {size : ℕ} (n : ℕ) {m : Sat} (m' : Sat) (a : Taking) → IsOrderly size m → IsAway m.0.part.core → size ≤ n
     → HasTriedToTake m n a m' → IsOrderly size m' × IsAway m'.0.part.core
-tried_settled size n m m' Took o away big t = let z = taken_bare_at_once size n no_node m m' o big tt t.1 in
+tried_settled n m' Took o away big t = let z = taken_bare_at_once n no_node o big tt t.1 in
     (z.orderly, (z.inside ∙ away.0, z.waits ∙ away.1))
-tried_settled size n m m' Had o away big t =
-    (subst (IsOrderly size) (sym t.1) o, subst (λ (z : Sat). IsAway z.0.part.core) (sym t.1) away)
-tried_settled size n m m' Missed o away big t = (
-  orderly_knowing size m m' (fast_missed m.0.part.core) o t.1 refl refl refl refl,
+tried_settled {size} n m' Had o away big t = (subst (IsOrderly size) (sym t.1) o, subst (λ (z : Sat). IsAway z.0.part.core) (sym t.1) away)
+tried_settled n m' Missed o away big t = (
+  orderly_knowing o t.1 refl refl,
   subst (λ (z : Sat). IsAway z.0.part.core) (sym t.1) (away.0, away.1),
 )
 
-pub tried_once : (size n : ℕ) (m m' : Sat) (a : Taking) → IsOrderly size m → size ≤ n → WantsSigns m.0.part.core
+pub tried_once : {size : ℕ} (n : ℕ) {m : Sat} (m' : Sat) (a : Taking) → IsOrderly size m → size ≤ n → WantsSigns m.0.part.core
     → HasTriedToTake m n a m' → HasTriedOnce m n a m'
-tried_once size n m m' Took o big signs t = (t.0, (taken_bare_at_once size n no_node m m' o big tt t.1).taken)
-tried_once size n m m' Had o big signs t = t
-tried_once size n m m' Missed o big signs t = record {
+tried_once n m' Took o big signs t = (t.0, (taken_bare_at_once n no_node o big tt t.1).taken)
+tried_once n m' Had o big signs t = t
+tried_once n m' Missed o big signs t = record {
   lacks = t.0;
   tried = ap account_of t.1;
   met = ap (λ (z : Sat). z.0.part.core.met) t.1;

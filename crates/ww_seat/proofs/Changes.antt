@@ -48,21 +48,18 @@ item_past (x ∷ xs) (suc n) past = item_past xs n (omega arith)
 -- ---- the nodes change one after another, the last one first
 
 -- a node that the seat owns is out, whatever the view names
-pub out_there : (size : ℕ) (held : List (Option Node)) (after : List Node) (ns : List ℕ) (m : Sat) (n : ℕ)
-    → IsChanged size held after ns m → n < size → owns m.0.part.core n ≡ true → (x : Node)
-    × (slot_of m.1 n ≡ Some (Content x))
-out_there size held after ns m n is low own = let t = is.orderly.nodes n low own in (t.0, t.2)
+pub out_there : {size : ℕ} {held : List (Option Node)} {after : List Node} {ns : List ℕ} {m : Sat} (n : ℕ) → IsChanged size held after ns m
+    → n < size → owns m.0.part.core n ≡ true → (x : Node) × (slot_of m.1 n ≡ Some (Content x))
+out_there n is low own = let t = is.orderly.nodes n low own in (t.0, t.2)
 
-changed_more : (size : ℕ) (held : List (Option Node)) (after : List Node) (ns : List ℕ) (m m' : Sat) (n : ℕ)
-    (x : Node) → IsChanged size held after ns m → n < size → owns m.0.part.core n ≡ true
-    → (others : List (ℕ × Cell)) × AreOthers m.1 n (Content x) others
-    × (m' ≡ (m.0, (n, Content (node_at after n)) ∷ others)) → IsChanged size held after (n ∷ ns) m'
-changed_more size held after ns m m' n x is low own t = let y : Node = node_at after n in let long = is.orderly.held in record {
+changed_more : {size : ℕ} {held : List (Option Node)} {after : List Node} {ns : List ℕ} {m m' : Sat} {n : ℕ} {x : Node}
+    → IsChanged size held after ns m → n < size → owns m.0.part.core n ≡ true
+    → (others : List (ℕ × Cell)) × AreOthers m.1 n (Content x) others × (m' ≡ (m.0, (n, Content (node_at after n)) ∷ others))
+    → IsChanged size held after (n ∷ ns) m'
+changed_more {after} {ns} {n} is low own t = let y : Node = node_at after n in let long = is.orderly.held in record {
   now = set is.now n (Some y);
-  orderly = orderly_swapped size (naming m is.now) (naming m' (set is.now n (Some y))) n x y t.0 is.orderly low own
-      t.1 (ap (λ (z : Sat). naming z (set is.now n (Some y))) t.2);
-  named = λ k e. dite (ℕ_discrete k n)
-      (λ same. subst (λ (j : ℕ). get_elem? (set is.now n (Some y)) j ≡ some (Some (node_at after j))) (sym same)
+  orderly = orderly_swapped is.orderly low own t.1 (ap (λ (z : Sat). naming z (set is.now n (Some y))) t.2);
+  named = λ k e. dite (ℕ_discrete k n) (λ same. subst (λ (j : ℕ). get_elem? (set is.now n (Some y)) j ≡ some (Some (node_at after j))) (sym same)
       (set_here is.now n (Some y) (omega arith)))
       (λ differ. set_else is.now n k (Some y) differ ∙ is.named k (elim (or_cases (eqb n k) (is_among k ns) e) [
         | inl z ↦ absurd (differ (sym (same_from_eqb n k z)))
@@ -93,28 +90,23 @@ drop_here (n ∷ ns) zero lt = refl
 drop_here (n ∷ ns) (suc i) lt = drop_here ns i (omega arith)
 
 -- the node before those that were written was written
-pub changed_next : (size : ℕ) (held : List (Option Node)) (before after : List Node) (ns : List ℕ)
-    (changes : List NodeChange) (i : ℕ) (d : NodeChange) (m m' : Sat) (x : Node)
-    → changes ≡ map (change_at before after) ns
-    → i < length ns → IsChanged size held after (drop (suc i) ns) m → (get_or changes i d).number < size
-    → owns m.0.part.core (get_or changes i d).number ≡ true
+pub changed_next : {size : ℕ} {held : List (Option Node)} (before : List Node) {after : List Node} (ns : List ℕ) {changes : List NodeChange} (i : ℕ)
+    (d : NodeChange) {m m' : Sat} {x : Node} → changes ≡ map (change_at before after) ns → i < length ns
+    → IsChanged size held after (drop (suc i) ns) m → (get_or changes i d).number < size → owns m.0.part.core (get_or changes i d).number ≡ true
     → (others : List (ℕ × Cell)) × AreOthers m.1 (get_or changes i d).number (Content x) others
-    × (m' ≡ (m.0, ((get_or changes i d).number, Content (get_or changes i d).after) ∷ others))
-    → IsChanged size held after (drop i ns) m'
-changed_next size held before after ns changes i d m m' x are lt is low own t =
+    × (m' ≡ (m.0, ((get_or changes i d).number, Content (get_or changes i d).after) ∷ others)) → IsChanged size held after (drop i ns) m'
+changed_next {size} {held} before {after} ns {changes} i d {m} {m'} {x} are lt is low own t =
     let n : ℕ = get_or ns i 0 in
     let here : get_or changes i d ≡ change_at before after n = ap (λ (cs : List NodeChange). get_or cs i d) are
     ∙ change_item before after ns i d lt in
-    subst (λ (l : List ℕ). IsChanged size held after l m') (sym (drop_here ns i lt))
-    (changed_more size held after (drop (suc i) ns) m m' n x is
-    (subst (λ (c : NodeChange). c.number < size) here low)
-    (sym (ap (λ (c : NodeChange). owns m.0.part.core c.number) here) ∙ own)
+    subst (λ (l : List ℕ). IsChanged size held after l m') (sym (drop_here ns i lt)) (changed_more is
+    (subst (λ (c : NodeChange). c.number < size) here low) (sym (ap (λ (c : NodeChange). owns m.0.part.core c.number) here) ∙ own)
     (subst (λ (c : NodeChange). (others : List (ℕ × Cell)) × AreOthers m.1 c.number (Content x) others
     × (m' ≡ (m.0, (c.number, Content c.after) ∷ others))) here t))
 
 -- ---- the record may be placed, and the nodes are as it says
 
-module _ (size : ℕ) (m : Sat) (r : Record) (before : List Node) (was : IsOrderly size m)
+module _ {size : ℕ} {m : Sat} (r : Record) {before : List Node} (was : IsOrderly size m)
     (next : IsNext before (recorded_of r)) (sizes : length before ≡ size)
     (holds : HoldsAll m before (footprint_of before (transaction_of r.txn))) where
   abbrev t : Transaction
@@ -177,16 +169,13 @@ module _ (size : ℕ) (m : Sat) (r : Record) (before : List Node) (was : IsOrder
   placed place = (placing m.0 place r, m.1)
 
   pub start_orderly : (place : ℕ) (m1 : Sat) → m1 ≡ placed place → IsOrderly size (naming m1 m.0.held)
-  start_orderly place m1 is = subst (λ (z : Sat). IsOrderly size (naming z m.0.held)) (sym is)
-      (orderly_still size m (naming (placed place) m.0.held) was refl refl refl refl refl was.apart (λ k. refl))
+  start_orderly place m1 is = subst (λ (z : Sat). IsOrderly size (naming z m.0.held)) (sym is) (orderly_still was refl refl was.apart (λ k. refl))
 
   end_placed : (place : ℕ) (slots : List (ℕ × Cell)) → IsChanged size m.0.held after ns (placing m.0 place r, slots)
       → IsOrderly size (placing m.0 place r, slots)
-  end_placed place slots is = orderly_named size (naming (placing m.0 place r, slots) is.now)
-      (placing m.0 place r, slots) is.orderly refl refl refl refl refl
-      (renewed_long 0 m.0.held (graph_after (graph_of m.0.held) t) ∙ was.held ∙ sym is.orderly.held)
+  end_placed place slots is = orderly_named is.orderly refl (renewed_long 0 m.0.held (graph_after (graph_of m.0.held) t) ∙ was.held ∙ sym is.orderly.held)
       (λ n low own. ⊎_elim (λ e. named_after n e ∙ sym (is.named n e))
-      (λ e. named_else n e own ∙ sym (is.others n e)) (true_or_false (is_among n ns)))
+      (λ e. named_else n e own ∙ sym (is.others n e)) (true_or_false (is_among n ns))) refl is.orderly.apart (λ k. refl)
 
   pub end_orderly : (place : ℕ) (m1 m2 : Sat) → m1 ≡ placed place → m2.0 ≡ m1.0 → IsChanged size m.0.held after ns m2 → IsOrderly size m2
   end_orderly place m1 m2 is view changed = let v : m2.0 ≡ placing m.0 place r = view ∙ ap (λ (z : Sat). z.0) is in
@@ -209,15 +198,15 @@ module _ (size : ℕ) (m : Sat) (r : Record) (before : List Node) (was : IsOrder
 -- ---- of a seat as its caller has it
 
 -- what the caller says, of the seat itself
-pub may_commit : (b : Board) (r : Record) (before : List Node) (changes : List NodeChange) (q : Stepper) (s : Standing)
-    → standing_of q ≡ s → MayCommit b r before changes s → MayCommit b r before changes (standing_of q)
-may_commit b r before changes q s is may = subst (MayCommit b r before changes) (sym is) may
+pub may_commit : {b : Board} {r : Record} {before : List Node} {changes : List NodeChange} (q : Stepper) {s : Standing} → standing_of q ≡ s
+    → MayCommit b r before changes s → MayCommit b r before changes (standing_of q)
+may_commit {b} {r} {before} {changes} q is may = subst (MayCommit b r before changes) (sym is) may
 
 -- there is room for one record fewer
-pub less_room : (t : TableId) (q q' : Stepper) (place : ℕ) (r : Record) → IsSeated t q → IsSeated t q'
+pub less_room : {t : TableId} {q q' : Stepper} (place : ℕ) (r : Record) → IsSeated t q → IsSeated t q'
     → q'.seat.me.0.part.own ≡ q.seat.me.0.part.own ++ (place, r) ∷ [] → vec_capacity q'.records ≡ vec_capacity q.records
     → standing_of q' ≡ record (standing_of q) { room = (standing_of q).room - 1; me = q'.seat.me }
-less_room t q q' place r seated seated' own capacity =
+less_room {q} {q'} place r seated seated' own capacity =
     let many : length q'.records.items ≡ length q.records.items + 1 = ap length (seated'.records ∙ own)
     ∙ length-append q.seat.me.0.part.own ((place, r) ∷ []) ∙ ap (λ (l : List (ℕ × Record)). length l + 1) (sym seated.records) in
     let room : vec_capacity q'.records - vec_len q'.records ≡ vec_capacity q.records - vec_len q.records - 1 = omega (arith, many, capacity) in

@@ -19,19 +19,18 @@ abbrev pub wakes : ℕ → ℕ → List ℕ → Bool
 wakes who x condemned = cond (eqb x who) false (is_one_of x condemned)
 
 -- one more that was condemned, seat u: it is the own one, or x, or was condemned before
-one_step : (own self this was before : Bool) (t k : ℕ) → (this ≡ true → own ≡ self) → (this ≡ true → was ≡ before)
-    → t ≡ one_more (cond self false before) k
-    → cond own t (cond was t (one_more this t)) ≡ one_more (cond self false (cond this true before)) k
-one_step true self false was before t k a b e = e
-one_step false self false true before t k a b e = e
-one_step false self false false before t k a b e = e
-one_step true true true was before t k a b e = e
-one_step true false true was before t k a b e = absurd (true≢false (a refl))
-one_step false true true was before t k a b e = absurd (true≢false (sym (a refl)))
-one_step false false true true true t k a b e = e
-one_step false false true true false t k a b e = absurd (true≢false (b refl))
-one_step false false true false true t k a b e = absurd (true≢false (sym (b refl)))
-one_step false false true false false t k a b e = ap (one_more true) e
+one_step : (own self this was before : Bool) {t : ℕ} (k : ℕ) → (this ≡ true → own ≡ self) → (this ≡ true → was ≡ before)
+    → t ≡ one_more (cond self false before) k → cond own t (cond was t (one_more this t)) ≡ one_more (cond self false (cond this true before)) k
+one_step true self false was before k a b e = e
+one_step false self false true before k a b e = e
+one_step false self false false before k a b e = e
+one_step true true true was before k a b e = e
+one_step true false true was before k a b e = absurd (true≢false (a refl))
+one_step false true true was before k a b e = absurd (true≢false (sym (a refl)))
+one_step false false true true true k a b e = e
+one_step false false true true false k a b e = absurd (true≢false (b refl))
+one_step false false true false true k a b e = absurd (true≢false (sym (b refl)))
+one_step false false true false false k a b e = ap (one_more true) e
 
 times_cond : (b : Bool) (x : ℕ) (us vs : List ℕ) → times x (cond b us vs) ≡ cond b (times x us) (times x vs)
 times_cond true x us vs = refl
@@ -50,7 +49,7 @@ times_booked who x [] debts = none (eqb x who)
     none true = refl
     none false = refl
 times_booked who x (u ∷ us) debts = times_with who x u us (debts_with who us debts)
-    ∙ one_step (eqb u who) (eqb x who) (eqb u x) (is_one_of u us) (is_one_of x us) (times x (debts_with who us debts))
+    ∙ one_step (eqb u who) (eqb x who) (eqb u x) (is_one_of u us) (is_one_of x us)
     (times x debts) (λ this. ap (λ (v : ℕ). eqb v who) (same_from_eqb u x this))
     (λ this. ap (λ (v : ℕ). is_one_of v us) (same_from_eqb u x this)) (times_booked who x us debts)
 

@@ -19,44 +19,58 @@ use Rattle.ww_invariant.specs.Rule.{Sat}
 use Rattle.ww_invariant.specs.Out.{slot_of, AreOthers}
 use Rattle.ww_invariant.specs.Steps.{knowing, taking}
 use Rattle.ww_seat.specs.Orderly.{AreApart, IsOrderly}
+use Rattle.ww_invariant.specs.declared.cells.Sight.{Sight}
 use Rattle.ww_seat.proofs.Slots.{slot_here, not_both, same_cell, same_node, others_had, slot_else, front_apart, front_else, front_same, few_slots, fewer_beside}
 
 -- ---- what stays
 
--- The seat owns the same, its view names the same nodes, it is inside as before, and the slots have the same: their order
--- may be another.
-pub orderly_still : (size : ℕ) (m m' : Sat) → IsOrderly size m → m'.0.part.core.owned ≡ m.0.part.core.owned
-    → m'.0.held ≡ m.0.held → m'.0.part.core.inside ≡ m.0.part.core.inside → m'.0.part.core.list ≡ m.0.part.core.list
-    → m'.0.part.core.heeded ≡ m.0.part.core.heeded
+-- which locks a seat owns, which nodes its view names, and where it is: what is out fits these
+pub record Outs : Type 0 where
+  pub owned : List Bool
+  pub held : List (Option Node)
+  pub inside : ℕ
+  pub heeded : ℕ
+
+abbrev pub outs_of : Sight → Outs
+outs_of v = record { owned = v.part.core.owned; held = v.held; inside = v.part.core.inside; heeded = v.part.core.heeded }
+
+-- they are the same but for what the view names, which is the same of each node whose lock the seat owns, as are the wait list and what
+-- the slots have: their order may be another
+pub orderly_named : {size : ℕ} {m m' : Sat} → IsOrderly size m → outs_of m'.0 ≡ record (outs_of m.0) { held = m'.0.held }
+    → length m'.0.held ≡ length m.0.held → ((n : ℕ) → n < size → owns m.0.part.core n ≡ true → get_elem? m'.0.held n ≡ get_elem? m.0.held n)
+    → m'.0.part.core.list ≡ m.0.part.core.list → AreApart m'.1 → ((k : ℕ) → slot_of m'.1 k ≡ slot_of m.1 k) → IsOrderly size m'
+orderly_named {m} {m'} was outs long named list apart slots =
+    let owned : m'.0.part.core.owned ≡ m.0.part.core.owned = ap (λ (z : Outs). z.owned) outs in
+    let inside : m'.0.part.core.inside ≡ m.0.part.core.inside = ap (λ (z : Outs). z.inside) outs in record {
+      few = was.few;
+      owned = omega (arith, was.owned, ap (λ (l : List Bool). length l) owned);
+      held = long ∙ was.held;
+      apart = apart;
+      nodes = λ n low own. let old = ap (λ (l : List Bool). get_or l n false) (sym owned) ∙ own in
+          let t = was.nodes n low old in (t.0, named n low old ∙ t.1, slots n ∙ t.2);
+      others = λ n small why. slots n ∙ was.others n small
+          (⊎_elim (λ big. inl big) (λ lacks. inr (ap (λ (l : List Bool). get_or l n false) (sym owned) ∙ lacks)) why);
+      list = λ n is. slots (list_at n) ∙ was.list n (sym inside ∙ is) ∙ ap (λ q. Some (Line q)) (sym list);
+      lists = λ n isnt. slots (list_at n) ∙ was.lists n (λ is. isnt (inside ∙ is));
+      unheeded = ap (λ (z : Outs). z.heeded) outs ∙ was.unheeded;
+    }
+
+-- ... and the view names the same
+pub orderly_still : {size : ℕ} {m m' : Sat} → IsOrderly size m → outs_of m'.0 ≡ outs_of m.0 → m'.0.part.core.list ≡ m.0.part.core.list
     → AreApart m'.1 → ((k : ℕ) → slot_of m'.1 k ≡ slot_of m.1 k) → IsOrderly size m'
-orderly_still size m m' was owned held inside list heeded apart slots = record {
-  few = was.few;
-  owned = omega (arith, was.owned, ap (λ (l : List Bool). length l) owned);
-  held = ap (λ (l : List (Option Node)). length l) held ∙ was.held;
-  apart = apart;
-  nodes = λ n low own. let t = was.nodes n low (ap (λ (l : List Bool). get_or l n false) (sym owned) ∙ own) in
-      (t.0, ap (λ (l : List (Option Node)). get_elem? l n) held ∙ t.1, slots n ∙ t.2);
-  others = λ n small why. slots n ∙ was.others n small
-      (⊎_elim (λ big. inl big) (λ lacks. inr (ap (λ (l : List Bool). get_or l n false) (sym owned) ∙ lacks)) why);
-  list = λ n is. slots (list_at n) ∙ was.list n (sym inside ∙ is) ∙ ap (λ q. Some (Line q)) (sym list);
-  lists = λ n isnt. slots (list_at n) ∙ was.lists n (λ is. isnt (inside ∙ is));
-  unheeded = heeded ∙ was.unheeded;
-}
+orderly_still {m'} was outs = orderly_named was (ap (λ (z : Outs). record z { held = m'.0.held }) outs)
+    (ap (λ (z : Outs). length z.held) outs) (λ n _ _. ap (λ (z : Outs). get_elem? z.held n) outs)
 
 -- a step that leaves the slots as they are
-pub orderly_knowing : (size : ℕ) (m m' : Sat) (w : View) → IsOrderly size m → m' ≡ (knowing m.0 w, m.1)
-    → w.owned ≡ m.0.part.core.owned → w.inside ≡ m.0.part.core.inside → w.list ≡ m.0.part.core.list
-    → w.heeded ≡ m.0.part.core.heeded → IsOrderly size m'
-orderly_knowing size m m' w was is owned inside list heeded =
-    subst (IsOrderly size) (sym is) (orderly_still size m (knowing m.0 w, m.1) was owned refl inside list heeded
-    was.apart (λ k. refl))
+pub orderly_knowing : {size : ℕ} {m m' : Sat} {w : View} → IsOrderly size m → m' ≡ (knowing m.0 w, m.1) → outs_of (knowing m.0 w) ≡ outs_of m.0
+    → w.list ≡ m.0.part.core.list → IsOrderly size m'
+orderly_knowing {size} was is outs list = subst (IsOrderly size) (sym is) (orderly_still was outs list was.apart (λ k. refl))
 
 -- a slot that was only brought to the front
-pub orderly_brought : (size : ℕ) (m m' : Sat) (n : ℕ) (y : Cell) (others : List (ℕ × Cell)) → IsOrderly size m
-    → AreOthers m.1 n y others → m' ≡ (m.0, (n, y) ∷ others) → IsOrderly size m'
-orderly_brought size m m' n y others was are is =
-    subst (IsOrderly size) (sym is) (orderly_still size m (m.0, (n, y) ∷ others) was refl refl refl refl refl
-    (front_apart m.1 n y others was.apart are y) (front_same m.1 n y others was.apart are))
+pub orderly_brought : {size : ℕ} {m m' : Sat} {n : ℕ} {y : Cell} {others : List (ℕ × Cell)} → IsOrderly size m → AreOthers m.1 n y others
+    → m' ≡ (m.0, (n, y) ∷ others) → IsOrderly size m'
+orderly_brought {size} {y} was are is = subst (IsOrderly size) (sym is) (orderly_still was refl refl
+    (front_apart was.apart are y) (front_same was.apart are))
 
 -- ---- which locks it owns
 
@@ -104,7 +118,7 @@ module _ (size : ℕ) (m : Sat) (n : ℕ) (x : Node) (was : IsOrderly size m) (l
     few = was.few;
     owned = was.owned;
     held = length-set m.0.held n (Some y) ∙ was.held;
-    apart = front_apart m.1 n (Content x) others was.apart are (Content y);
+    apart = front_apart was.apart are (Content y);
     nodes = λ k in_graph own. dite (ℕ_discrete k n)
         (λ is. subst (λ (j : ℕ). (z : Node) × (get_elem? (set m.0.held n (Some y)) j ≡ some (Some z))
         × (slot_of ((n, Content y) ∷ others) j ≡ Some (Content z))) (sym is)
@@ -113,52 +127,26 @@ module _ (size : ℕ) (m : Sat) (n : ℕ) (x : Node) (was : IsOrderly size m) (l
           t.0,
           set_else m.0.held n k (Some y) isnt
               ∙ t.1,
-          front_else m.1 n (Content x) others was.apart are (Content y) k isnt ∙ t.2,
+          front_else was.apart are (Content y) k isnt ∙ t.2,
         ));
     others = λ k less why. dite (ℕ_discrete k n)
         (λ is. ⊎_elim (λ big. absurd (omega arith))
         (λ own. absurd (true≢false (sym owner ∙ ap (λ (j : ℕ). get_or m.0.part.core.owned j false) (sym is)
-        ∙ own))) why)
-        (λ isnt. front_else m.1 n (Content x) others was.apart are (Content y) k isnt ∙ was.others k less why);
-    list = λ k is. front_else m.1 n (Content x) others was.apart are (Content y) (list_at k) (λ e. absurd (omega arith)) ∙ was.list k is;
-    lists = λ k isnt. front_else m.1 n (Content x) others was.apart are (Content y) (list_at k)
-        (λ e. absurd (omega arith)) ∙ was.lists k isnt;
+        ∙ own))) why) (λ isnt. front_else was.apart are (Content y) k isnt ∙ was.others k less why);
+    list = λ k is. front_else was.apart are (Content y) (list_at k) (λ e. absurd (omega arith)) ∙ was.list k is;
+    lists = λ k isnt. front_else was.apart are (Content y) (list_at k) (λ e. absurd (omega arith)) ∙ was.lists k isnt;
     unheeded = was.unheeded;
   }
 
-pub orderly_taken : (size : ℕ) (m m' : Sat) (n : ℕ) (x : Node) → IsOrderly size m → n < size
-    → owns m.0.part.core n ≡ false → m' ≡ (taking m.0 n x, (n, Content x) ∷ m.1) → IsOrderly size m'
-orderly_taken size m m' n x was low lacks is = subst (IsOrderly size) (sym is) (taken_orderly size m n x was low lacks)
+pub orderly_taken : {size : ℕ} {m m' : Sat} {n : ℕ} {x : Node} → IsOrderly size m → n < size → owns m.0.part.core n ≡ false
+    → m' ≡ (taking m.0 n x, (n, Content x) ∷ m.1) → IsOrderly size m'
+orderly_taken {size} {m} {n} {x} was low lacks is = subst (IsOrderly size) (sym is) (taken_orderly size m n x was low lacks)
 
-pub orderly_swapped : (size : ℕ) (m m' : Sat) (n : ℕ) (x y : Node) (others : List (ℕ × Cell)) → IsOrderly size m
-    → n < size → owns m.0.part.core n ≡ true → AreOthers m.1 n (Content x) others
+pub orderly_swapped : {size : ℕ} {m m' : Sat} {n : ℕ} {x y : Node} {others : List (ℕ × Cell)} → IsOrderly size m → n < size
+    → owns m.0.part.core n ≡ true → AreOthers m.1 n (Content x) others
     → m' ≡ (record (m.0) { held = set m.0.held n (Some y) }, (n, Content y) ∷ others) → IsOrderly size m'
-orderly_swapped size m m' n x y others was low owner are is =
+orderly_swapped {size} {m} {n} {x} {y} {others} was low owner are is =
     subst (IsOrderly size) (sym is) (swapped_orderly size m n x was low y others owner are)
-
--- the view names the same of each node whose lock the seat owns
-pub orderly_named : (size : ℕ) (m m' : Sat) → IsOrderly size m → m'.1 ≡ m.1
-    → m'.0.part.core.owned ≡ m.0.part.core.owned → m'.0.part.core.inside ≡ m.0.part.core.inside
-    → m'.0.part.core.list ≡ m.0.part.core.list → m'.0.part.core.heeded ≡ m.0.part.core.heeded
-    → length m'.0.held ≡ length m.0.held →
-    ((n : ℕ) → n < size → owns m.0.part.core n ≡ true → get_elem? m'.0.held n ≡ get_elem? m.0.held n)
-    → IsOrderly size m'
-orderly_named size m m' was slots owned inside list heeded long named = record {
-  few = was.few;
-  owned = omega (arith, was.owned, ap (λ (l : List Bool). length l) owned);
-  held = long ∙ was.held;
-  apart = subst AreApart (sym slots) was.apart;
-  nodes = λ n low own. let old = ap (λ (l : List Bool). get_or l n false) (sym owned) ∙ own in
-      let t = was.nodes n low old in (t.0, named n low old ∙ t.1, at n ∙ t.2);
-  others = λ n small why. at n ∙ was.others n small
-      (⊎_elim (λ big. inl big) (λ lacks. inr (ap (λ (l : List Bool). get_or l n false) (sym owned) ∙ lacks)) why);
-  list = λ n is. at (list_at n) ∙ was.list n (sym inside ∙ is) ∙ ap (λ q. Some (Line q)) (sym list);
-  lists = λ n isnt. at (list_at n) ∙ was.lists n (λ is. isnt (inside ∙ is));
-  unheeded = heeded ∙ was.unheeded;
-}
-  where
-    at : (k : ℕ) → slot_of m'.1 k ≡ slot_of m.1 k
-    at k = ap (λ (l : List (ℕ × Cell)). slot_of l k) slots
 
 -- ---- what the steps ask
 
@@ -166,22 +154,22 @@ pub high_list : (n : ℕ) → 64 ≤ n → (k : ℕ) × (n ≡ list_at k)
 high_list n high = (n - 64, omega arith)
 
 -- outside every guard at most all nodes are out
-pub room_outside : (size : ℕ) (m : Sat) → IsOrderly size m → m.0.part.core.inside ≡ 0 → length m.1 < 65
-room_outside size m was outside = let f =
+pub room_outside : {size : ℕ} {m : Sat} → IsOrderly size m → m.0.part.core.inside ≡ 0 → length m.1 < 65
+room_outside {m} was outside = let f =
     few_slots 64 m.1 was.apart (λ n high. let k = high_list n high in ap (slot_of m.1) k.1
     ∙ was.lists k.0 (λ is. absurd (omega arith))) in omega arith
 
-lists_else : (size : ℕ) (m : Sat) (n : ℕ) → IsOrderly size m → m.0.part.core.inside ≡ suc n → (j : ℕ) → 64 ≤ j
-    → j ≢ list_at n → slot_of m.1 j ≡ None
-lists_else size m n was inside j high isnt = let k = high_list j high in ap (slot_of m.1) k.1
+lists_else : {size : ℕ} {m : Sat} {n : ℕ} → IsOrderly size m → m.0.part.core.inside ≡ suc n → (j : ℕ) → 64 ≤ j → j ≢ list_at n
+    → slot_of m.1 j ≡ None
+lists_else {m} {n} was inside j high isnt = let k = high_list j high in ap (slot_of m.1) k.1
     ∙ was.lists k.0 (λ is. isnt (k.1 ∙ ap list_at (let z : k.0 ≡ n = omega arith in z)))
 
 -- inside the guard of a lock that it lacks there is room for its node
-pub room_inside : (size : ℕ) (m : Sat) (n : ℕ) → IsOrderly size m → n < size → m.0.part.core.inside ≡ suc n
-    → owns m.0.part.core n ≡ false → length m.1 < 65
-room_inside size m n was low inside lacks = let few = was.few in
-    fewer_beside 64 m.1 (list_at n) (Line m.0.part.core.list) n was.apart (was.list n inside) (omega arith)
-    (lists_else size m n was inside) (omega arith) (was.others n (omega arith) (inr lacks))
+pub room_inside : {size : ℕ} {m : Sat} {n : ℕ} → IsOrderly size m → n < size → m.0.part.core.inside ≡ suc n → owns m.0.part.core n ≡ false
+    → length m.1 < 65
+room_inside {m} {n} was low inside lacks = let few = was.few in
+    fewer_beside 64 m.1 (list_at n) n was.apart (was.list n inside) (omega arith)
+    (lists_else was inside) (omega arith) (was.others n (omega arith) (inr lacks))
 
 -- what is set behind the end of a list leaves it
 pub set_past : {A : Type 0} (xs : List A) (n : ℕ) (x : A) → length xs ≤ n → set xs n x ≡ xs
@@ -191,24 +179,24 @@ set_past (y ∷ ys) (suc n) x past = ap (λ l. y ∷ l) (set_past ys n x (omega 
 
 -- ---- a lock taken, or released, that guards no node: what is out stays
 
-pub orderly_bare : (size : ℕ) (m : Sat) (n : ℕ) (b : Bool) (w : View) → IsOrderly size m → size ≤ n
-    → w.owned ≡ set m.0.part.core.owned n b → w.inside ≡ m.0.part.core.inside → w.list ≡ m.0.part.core.list
-    → w.heeded ≡ m.0.part.core.heeded → IsOrderly size (knowing m.0 w, m.1)
-orderly_bare size m n b w was big owned inside list heeded =
+pub orderly_bare : {size : ℕ} {m : Sat} (n : ℕ) (b : Bool) {w : View} → IsOrderly size m → size ≤ n
+    → outs_of (knowing m.0 w) ≡ record (outs_of m.0) { owned = set m.0.part.core.owned n b } → w.list ≡ m.0.part.core.list
+    → IsOrderly size (knowing m.0 w, m.1)
+orderly_bare {size} {m} n b {w} was big outs list =
+    let owned : w.owned ≡ set m.0.part.core.owned n b = ap (λ (z : Outs). z.owned) outs in
+    let inside : w.inside ≡ m.0.part.core.inside = ap (λ (z : Outs). z.inside) outs in
     let else_ : (k : ℕ) → k < size → get_or w.owned k false ≡ get_or m.0.part.core.owned k false =
-    λ k low. ap (λ (l : List Bool). get_or l k false) owned
-    ∙ owns_else m.0.part.core.owned n b k (λ e. absurd (omega arith)) in record {
+    λ k low. ap (λ (l : List Bool). get_or l k false) owned ∙ owns_else m.0.part.core.owned n b k (λ e. absurd (omega arith)) in record {
       few = was.few;
       owned = omega (arith, was.owned, ap (λ (l : List Bool). length l) owned, length-set m.0.part.core.owned n b);
       held = was.held;
       apart = was.apart;
       nodes = λ k low own. was.nodes k low (sym (else_ k low) ∙ own);
-      others = λ k less why. was.others k less
-          (⊎_elim (λ high. inl high) (λ lacks. dite (dec_le size k) (λ high. inl high)
+      others = λ k less why. was.others k less (⊎_elim (λ high. inl high) (λ lacks. dite (dec_le size k) (λ high. inl high)
           (λ low. inr (sym (else_ k (omega arith)) ∙ lacks))) why);
       list = λ k is. was.list k (sym inside ∙ is) ∙ ap (λ q. Some (Line q)) (sym list);
       lists = λ k isnt. was.lists k (λ is. isnt (inside ∙ is));
-      unheeded = heeded ∙ was.unheeded;
+      unheeded = ap (λ (z : Outs). z.heeded) outs ∙ was.unheeded;
     }
 
 -- ---- whether it holds a lock
@@ -230,27 +218,20 @@ bare_of_none v none n = ⊎_elim
 -- ---- a node that it reads
 
 -- it is the one that its view names
-pub node_read : (size n : ℕ) (m m' : Sat) (r : Node) → IsOrderly size m → n < size → owns m.0.part.core n ≡ true
-    → (got : (others : List (ℕ × Cell)) × AreOthers m.1 n (Content r) others
-    × (m' ≡ (m.0, (n, Content r) ∷ others)))
+pub node_read : {size n : ℕ} {m m' : Sat} {r : Node} → IsOrderly size m → n < size → owns m.0.part.core n ≡ true
+    → (got : (others : List (ℕ × Cell)) × AreOthers m.1 n (Content r) others × (m' ≡ (m.0, (n, Content r) ∷ others)))
     → IsOrderly size m' × (get_elem? m.0.held n ≡ some (Some r))
-node_read size n m m' r o low own got =
+node_read {n} {r} o low own got =
     let at = o.nodes n low own in
-    let same : at.0 ≡ r = same_node at.0 r
-    (same_cell (slot_of m.1 n) (Content at.0) (Content r) at.2
-    (others_had m.1 n (Content r) got.0 o.apart got.1)) in
-    (orderly_brought size m m' n (Content r) got.0 o got.1 got.2, at.1 ∙ ap (λ (y : Node). some (Some y)) same)
+    let same : at.0 ≡ r = same_node at.0 r (same_cell at.2 (others_had o.apart got.1)) in
+    (orderly_brought o got.1 got.2, at.1 ∙ ap (λ (y : Node). some (Some y)) same)
 
 -- outside every guard what is out is the node of a lock that it owns
-pub owner_of_first : (size : ℕ) (m : Sat) (n : ℕ) (y : Cell) (others : List (ℕ × Cell)) → IsOrderly size m
-    → m.0.part.core.inside ≡ 0 → m.1 ≡ (n, y) ∷ others → owns m.0.part.core n ≡ true
-owner_of_first size m n y others was outside out = ⊎_elim
-    (λ own. own)
-    (λ lacks. absurd (not_both (slot_of m.1 n) y
-    (dite (dec_le 64 n)
+pub owner_of_first : {size : ℕ} {m : Sat} (n : ℕ) (y : Cell) (others : List (ℕ × Cell)) → IsOrderly size m → m.0.part.core.inside ≡ 0
+    → m.1 ≡ (n, y) ∷ others → owns m.0.part.core n ≡ true
+owner_of_first {m} n y others was outside out = ⊎_elim (λ own. own) (λ lacks. absurd (not_both (dite (dec_le 64 n)
     (λ high. let k = high_list n high in ap (slot_of m.1) k.1 ∙ was.lists k.0 (λ is. absurd (omega arith)))
-    (λ small. was.others n (omega arith) (inr lacks)))
-    (ap (λ (l : List (ℕ × Cell)). slot_of l n) out ∙ slot_here n y others)))
+    (λ small. was.others n (omega arith) (inr lacks))) (ap (λ (l : List (ℕ × Cell)). slot_of l n) out ∙ slot_here n y others)))
     (true_or_false (owns m.0.part.core n))
 
 -- a seat that owns none has nothing out
@@ -259,20 +240,17 @@ nothing_out size m was outside bare = go m.1 refl
   where
     go : (slots : List (ℕ × Cell)) → m.1 ≡ slots → slots ≡ []
     go [] out = refl
-    go (x ∷ xs) out = absurd (true≢false (sym (owner_of_first size m x.0 x.1 xs was outside out) ∙ bare x.0))
+    go (x ∷ xs) out = absurd (true≢false (sym (owner_of_first x.0 x.1 xs was outside out) ∙ bare x.0))
 
 -- so where each lock that it owns guards a node, it owns one just where something is out
-pub holds_outside : (size : ℕ) (m : Sat) → IsOrderly size m → m.0.part.core.inside ≡ 0
-    → ((n : ℕ) → owns m.0.part.core n ≡ true → n < size)
+pub holds_outside : {size : ℕ} {m : Sat} → IsOrderly size m → m.0.part.core.inside ≡ 0 → ((n : ℕ) → owns m.0.part.core n ≡ true → n < size)
     → any_below (length m.0.part.core.owned) (owns m.0.part.core) ≡ ltb 0 (length m.1)
-holds_outside size m was outside low = go m.1 refl
+holds_outside {m} was outside low = go m.1 refl
   where
     go : (slots : List (ℕ × Cell)) → m.1 ≡ slots → any_below (length m.0.part.core.owned) (owns m.0.part.core) ≡ ltb 0 (length slots)
-    go [] out = ⊎_elim
-        (λ some. let f = owner_of_some m.0.part.core some in let node = was.nodes f.0 (low f.0 f.1) f.1 in
-        absurd (not_both (slot_of m.1 f.0) (Content node.0) (ap (λ (l : List (ℕ × Cell)). slot_of l f.0) out) node.2))
-        (λ none. none)
+    go [] out = ⊎_elim (λ some. let f = owner_of_some m.0.part.core some in let node = was.nodes f.0 (low f.0 f.1) f.1 in
+        absurd (not_both (ap (λ (l : List (ℕ × Cell)). slot_of l f.0) out) node.2)) (λ none. none)
         (true_or_false (any_below (length m.0.part.core.owned) (owns m.0.part.core)))
-    go (x ∷ xs) out = let own = owner_of_first size m x.0 x.1 xs was outside out in
+    go (x ∷ xs) out = let own = owner_of_first x.0 x.1 xs was outside out in
         found_below (length m.0.part.core.owned) (owns m.0.part.core) x.0 (owned_low m.0.part.core.owned x.0 own)
         own ∙ sym (lt-ltb 0 (length (x ∷ xs)) (omega arith))

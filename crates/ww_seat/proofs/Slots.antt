@@ -34,11 +34,11 @@ pub some_or_none : (o : Option Cell) → (o ≡ None) ⊎ ((y : Cell) × (o ≡ 
 some_or_none None = inl refl
 some_or_none (Some y) = inr (y, refl)
 
-pub not_both : (o : Option Cell) (y : Cell) → o ≡ None → o ≡ Some y → ⊥
-not_both o y none some = cc
+pub not_both : {o : Option Cell} {y : Cell} → o ≡ None → o ≡ Some y → ⊥
+not_both none some = cc
 
-pub same_cell : (o : Option Cell) (x y : Cell) → o ≡ Some x → o ≡ Some y → x ≡ y
-same_cell o x y a b = cc
+pub same_cell : {o : Option Cell} {x y : Cell} → o ≡ Some x → o ≡ Some y → x ≡ y
+same_cell a b = cc
 
 pub same_node : (x y : Node) → Content x ≡ Content y → x ≡ y
 same_node x y e = cc
@@ -47,21 +47,17 @@ same_node x y e = cc
 
 past_none : (front back : List (ℕ × Cell)) (n : ℕ) → slot_of front n ≡ None → slot_of (front ++ back) n ≡ slot_of back n
 past_none [] back n none = refl
-past_none (x ∷ xs) back n none = dite (ℕ_discrete x.0 n)
-    (λ is. absurd (not_both (slot_of (x ∷ xs) n) x.1 none (first_here x xs n is)))
+past_none (x ∷ xs) back n none = dite (ℕ_discrete x.0 n) (λ is. absurd (not_both none (first_here x xs n is)))
     (λ isnt. first_else x (xs ++ back) n isnt ∙ past_none xs back n (sym (first_else x xs n isnt) ∙ none))
 
-in_front : (front back : List (ℕ × Cell)) (n : ℕ) (y : Cell) → slot_of front n ≡ Some y → slot_of (front ++ back) n ≡ Some y
-in_front [] back n y some = absurd cc
-in_front (x ∷ xs) back n y some = dite (ℕ_discrete x.0 n)
-    (λ is. first_here x (xs ++ back) n is ∙ sym (first_here x xs n is) ∙ some)
-    (λ isnt. first_else x (xs ++ back) n isnt ∙ in_front xs back n y (sym (first_else x xs n isnt) ∙ some))
+in_front : (front back : List (ℕ × Cell)) (n : ℕ) {y : Cell} → slot_of front n ≡ Some y → slot_of (front ++ back) n ≡ Some y
+in_front [] back n some = absurd cc
+in_front (x ∷ xs) back n some = dite (ℕ_discrete x.0 n) (λ is. first_here x (xs ++ back) n is ∙ sym (first_here x xs n is) ∙ some)
+    (λ isnt. first_else x (xs ++ back) n isnt ∙ in_front xs back n (sym (first_else x xs n isnt) ∙ some))
 
 -- in none of both
 both_none : (front back : List (ℕ × Cell)) (n : ℕ) → slot_of (front ++ back) n ≡ None → (slot_of front n ≡ None) × (slot_of back n ≡ None)
-both_none front back n none = ⊎_elim
-    (λ e. (e, sym (past_none front back n e) ∙ none))
-    (λ t. absurd (not_both (slot_of (front ++ back) n) t.0 none (in_front front back n t.0 t.1)))
+both_none front back n none = ⊎_elim (λ e. (e, sym (past_none front back n e) ∙ none)) (λ t. absurd (not_both none (in_front front back n t.1)))
     (some_or_none (slot_of front n))
 
 -- no number stands in both
@@ -81,34 +77,25 @@ apart_split (x ∷ xs) back apart = let more = apart_split xs back apart.1 in le
 apart_join : (front back : List (ℕ × Cell)) → AreApart front → AreApart back → Differ front back → AreApart (front ++ back)
 apart_join [] back one two differ = two
 apart_join (x ∷ xs) back one two differ = (
-  past_none xs back x.0 one.0 ∙ ⊎_elim (λ e. absurd
-      (not_both (slot_of (x ∷ xs) x.0) x.1 e (first_here x xs x.0 refl))) (λ e. e) (differ x.0),
-  apart_join xs back one.1 two (λ n. dite (ℕ_discrete x.0 n)
-      (λ is. inl (ap (slot_of xs) (sym is) ∙ one.0))
+  past_none xs back x.0 one.0 ∙ ⊎_elim (λ e. absurd (not_both e (first_here x xs x.0 refl))) (λ e. e) (differ x.0),
+  apart_join xs back one.1 two (λ n. dite (ℕ_discrete x.0 n) (λ is. inl (ap (slot_of xs) (sym is) ∙ one.0))
       (λ isnt. ⊎_elim (λ e. inl (sym (first_else x xs n isnt) ∙ e)) (λ e. inr e) (differ n))),
 )
 
 turned : (front back : List (ℕ × Cell)) → Differ front back → (n : ℕ) → slot_of (back ++ front) n ≡ slot_of (front ++ back) n
-turned front back differ n = ⊎_elim
-    (λ e. ⊎_elim
-    (λ f. past_none back front n f ∙ e ∙ sym (past_none front back n e ∙ f))
-    (λ t. in_front back front n t.0 t.1 ∙ sym (past_none front back n e ∙ t.1))
-    (some_or_none (slot_of back n)))
-    (λ f. past_none back front n f ∙ ⊎_elim
-    (λ e. e ∙ sym (past_none front back n e ∙ f))
-    (λ t. t.1 ∙ sym (in_front front back n t.0 t.1))
-    (some_or_none (slot_of front n)))
-    (differ n)
+turned front back differ n = ⊎_elim (λ e. ⊎_elim (λ f. past_none back front n f ∙ e ∙ sym (past_none front back n e ∙ f))
+    (λ t. in_front back front n t.1 ∙ sym (past_none front back n e ∙ t.1)) (some_or_none (slot_of back n))) (λ f. past_none back front n f ∙ ⊎_elim
+    (λ e. e ∙ sym (past_none front back n e ∙ f)) (λ t. t.1 ∙ sym (in_front front back n t.1)) (some_or_none (slot_of front n))) (differ n)
 
 -- ---- one slot taken out
 
-module _ (slots : List (ℕ × Cell)) (n : ℕ) (y : Cell) (others : List (ℕ × Cell)) (apart : AreApart slots)
+module _ {slots : List (ℕ × Cell)} {n : ℕ} {y : Cell} {others : List (ℕ × Cell)} (apart : AreApart slots)
     (are : AreOthers slots n y others) where
   split : AreApart are.front × AreApart ((n, y) ∷ are.back) × Differ are.front ((n, y) ∷ are.back)
   split = apart_split are.front ((n, y) ∷ are.back) (subst AreApart are.parts apart)
 
   front_none : slot_of are.front n ≡ None
-  front_none = ⊎_elim (λ e. e) (λ e. absurd (not_both (slot_of ((n, y) ∷ are.back) n) y e (slot_here n y are.back))) (split.2 n)
+  front_none = ⊎_elim (λ e. e) (λ e. absurd (not_both e (slot_here n y are.back))) (split.2 n)
 
   differ : Differ are.front are.back
   differ k = dite (ℕ_discrete k n)
@@ -129,7 +116,7 @@ module _ (slots : List (ℕ × Cell)) (n : ℕ) (y : Cell) (others : List (ℕ �
   others_else k isnt = ap (λ (l : List (ℕ × Cell)). slot_of l k) are.rest ∙ turned are.front are.back differ k
       ∙ ⊎_elim
       (λ e. past_none are.front are.back k e ∙ sym (past_none are.front ((n, y) ∷ are.back) k e ∙ slot_else n y are.back k isnt))
-      (λ t. in_front are.front are.back k t.0 t.1 ∙ sym (in_front are.front ((n, y) ∷ are.back) k t.0 t.1))
+      (λ t. in_front are.front are.back k t.1 ∙ sym (in_front are.front ((n, y) ∷ are.back) k t.1))
       (some_or_none (slot_of are.front k))
       ∙ ap (λ (l : List (ℕ × Cell)). slot_of l k) (sym are.parts)
 
@@ -156,13 +143,11 @@ module _ (slots : List (ℕ × Cell)) (n : ℕ) (y : Cell) (others : List (ℕ �
       let f = length-append are.front ((n, y) ∷ are.back) in let g = length-append are.back are.front in omega arith
 
 -- a slot that is out can be taken out
-pub take_out : (slots : List (ℕ × Cell)) (n : ℕ) (y : Cell) → slot_of slots n ≡ Some y → (others : List (ℕ × Cell))
-    × AreOthers slots n y others
-take_out [] n y is = absurd cc
-take_out (x ∷ xs) n y is = dite (ℕ_discrete x.0 n)
-    (λ e. let same : x.1 ≡ y = same_cell (slot_of (x ∷ xs) n) x.1 y (first_here x xs n e) is in
+pub take_out : (slots : List (ℕ × Cell)) (n : ℕ) {y : Cell} → slot_of slots n ≡ Some y → (others : List (ℕ × Cell)) × AreOthers slots n y others
+take_out [] n is = absurd cc
+take_out (x ∷ xs) n {y} is = dite (ℕ_discrete x.0 n) (λ e. let same : x.1 ≡ y = same_cell (first_here x xs n e) is in
     (xs ++ [], record { front = []; back = xs; parts = λ i. (e i, same i) ∷ xs; rest = refl }))
-    (λ isnt. let more = take_out xs n y (sym (first_else x xs n isnt) ∙ is) in (
+    (λ isnt. let more = take_out xs n (sym (first_else x xs n isnt) ∙ is) in (
       more.1.back ++ x ∷ more.1.front,
       record {
         front = x ∷ more.1.front;
@@ -176,19 +161,18 @@ take_out (x ∷ xs) n y is = dite (ℕ_discrete x.0 n)
 
 none_only : (slots : List (ℕ × Cell)) (n : ℕ) (y : Cell) → slot_of slots n ≡ None → HaveOnly n y slots
 none_only [] n y none = tt
-none_only (x ∷ xs) n y none = dite (ℕ_discrete x.0 n)
-    (λ is. absurd (not_both (slot_of (x ∷ xs) n) x.1 none (first_here x xs n is)))
+none_only (x ∷ xs) n y none = dite (ℕ_discrete x.0 n) (λ is. absurd (not_both none (first_here x xs n is)))
     (λ isnt. ((λ is. absurd (isnt is)), none_only xs n y (sym (first_else x xs n isnt) ∙ none)))
 
-has_only : (slots : List (ℕ × Cell)) (n : ℕ) (y : Cell) → AreApart slots → slot_of slots n ≡ Some y → HaveOnly n y slots
-has_only [] n y apart some = tt
-has_only (x ∷ xs) n y apart some = dite (ℕ_discrete x.0 n)
-    (λ is. ((λ _. same_cell (slot_of (x ∷ xs) n) x.1 y (first_here x xs n is) some), none_only xs n y (ap (slot_of xs) (sym is) ∙ apart.0)))
-    (λ isnt. ((λ is. absurd (isnt is)), has_only xs n y apart.1 (sym (first_else x xs n isnt) ∙ some)))
+has_only : (slots : List (ℕ × Cell)) (n : ℕ) {y : Cell} → AreApart slots → slot_of slots n ≡ Some y → HaveOnly n y slots
+has_only [] n apart some = tt
+has_only (x ∷ xs) n {y} apart some = dite (ℕ_discrete x.0 n)
+    (λ is. ((λ _. same_cell (first_here x xs n is) some), none_only xs n y (ap (slot_of xs) (sym is) ∙ apart.0)))
+    (λ isnt. ((λ is. absurd (isnt is)), has_only xs n apart.1 (sym (first_else x xs n isnt) ∙ some)))
 
 -- a slot of slots that are apart is out once
-pub is_out : (slots : List (ℕ × Cell)) (n : ℕ) (y : Cell) → AreApart slots → slot_of slots n ≡ Some y → IsOut slots n y
-is_out slots n y apart some = record { there = some; only = has_only slots n y apart some }
+pub is_out : (slots : List (ℕ × Cell)) (n : ℕ) {y : Cell} → AreApart slots → slot_of slots n ≡ Some y → IsOut slots n y
+is_out slots n apart some = record { there = some; only = has_only slots n apart some }
 
 -- ---- how many they are
 
@@ -200,8 +184,7 @@ numbers slots = map (λ (x : ℕ × Cell). x.0) slots
 
 not_among : (slots : List (ℕ × Cell)) (n : ℕ) → slot_of slots n ≡ None → list_any (λ m. eqb m n) (numbers slots) ≡ false
 not_among [] n none = refl
-not_among (x ∷ xs) n none = dite (ℕ_discrete x.0 n)
-    (λ is. absurd (not_both (slot_of (x ∷ xs) n) x.1 none (first_here x xs n is)))
+not_among (x ∷ xs) n none = dite (ℕ_discrete x.0 n) (λ is. absurd (not_both none (first_here x xs n is)))
     (λ isnt. ap (λ (b : Bool). b || list_any (λ m. eqb m n) (numbers xs)) (ne_eqb x.0 n isnt)
     ∙ not_among xs n (sym (first_else x xs n isnt) ∙ none))
 
@@ -213,9 +196,8 @@ below_each : (bound : ℕ) (slots : List (ℕ × Cell)) → AreApart slots → (
     → AllByRecursion (λ n. n < bound) (numbers slots)
 below_each bound [] apart low = tt
 below_each bound (x ∷ xs) apart low = (
-  ⊎_elim (λ z. z) (λ z. absurd (not_both (slot_of (x ∷ xs) x.0) x.1 (low x.0 z) (first_here x xs x.0 refl))) (lt_or_le x.0 bound),
-  below_each bound xs apart.1 (λ n high. dite (ℕ_discrete x.0 n)
-      (λ is. ap (slot_of xs) (sym is) ∙ apart.0)
+  ⊎_elim (λ z. z) (λ z. absurd (not_both (low x.0 z) (first_here x xs x.0 refl))) (lt_or_le x.0 bound),
+  below_each bound xs apart.1 (λ n high. dite (ℕ_discrete x.0 n) (λ is. ap (slot_of xs) (sym is) ∙ apart.0)
       (λ isnt. sym (first_else x xs n isnt) ∙ low n high)),
 )
 
@@ -233,18 +215,14 @@ fewer_slots bound slots k apart low small none = let f =
     few_slots bound ((k, Line []) ∷ slots) (none, apart)
     (λ n high. slot_else k (Line []) slots n (λ e. absurd (omega arith)) ∙ low n high) in omega arith
 
-low_without : (bound : ℕ) (slots : List (ℕ × Cell)) (l : ℕ) (y : Cell) (others : List (ℕ × Cell)) → AreApart slots
-    → AreOthers slots l y others → ((n : ℕ) → bound ≤ n → n ≢ l → slot_of slots n ≡ None) → (n : ℕ) → bound ≤ n
-    → slot_of others n ≡ None
-low_without bound slots l y others apart are low n high = dite (ℕ_discrete n l)
-    (λ is. ap (slot_of others) is ∙ others_gone slots l y others apart are)
-    (λ isnt. others_else slots l y others apart are n isnt ∙ low n high isnt)
+low_without : (bound : ℕ) {slots : List (ℕ × Cell)} {l : ℕ} {y : Cell} {others : List (ℕ × Cell)} → AreApart slots → AreOthers slots l y others
+    → ((n : ℕ) → bound ≤ n → n ≢ l → slot_of slots n ≡ None) → (n : ℕ) → bound ≤ n → slot_of others n ≡ None
+low_without bound {l} {others} apart are low n high = dite (ℕ_discrete n l) (λ is. ap (slot_of others) is ∙ others_gone apart are)
+    (λ isnt. others_else apart are n isnt ∙ low n high isnt)
 
-pub fewer_beside : (bound : ℕ) (slots : List (ℕ × Cell)) (l : ℕ) (y : Cell) (k : ℕ) → AreApart slots
-    → slot_of slots l ≡ Some y → bound ≤ l → ((n : ℕ) → bound ≤ n → n ≢ l → slot_of slots n ≡ None) → k < bound
-    → slot_of slots k ≡ None → length slots < bound + 1
-fewer_beside bound slots l y k apart out high low small none = let t = take_out slots l y out in
-    let f = fewer_slots bound t.0 k (others_apart slots l y t.0 apart t.1)
-    (low_without bound slots l y t.0 apart t.1 low) small
-    (others_else slots l y t.0 apart t.1 k (λ e. absurd (omega arith)) ∙ none) in
-    let g = others_long slots l y t.0 apart t.1 in omega arith
+pub fewer_beside : (bound : ℕ) (slots : List (ℕ × Cell)) (l : ℕ) {y : Cell} (k : ℕ) → AreApart slots → slot_of slots l ≡ Some y → bound ≤ l
+    → ((n : ℕ) → bound ≤ n → n ≢ l → slot_of slots n ≡ None) → k < bound → slot_of slots k ≡ None → length slots < bound + 1
+fewer_beside bound slots l k apart out high low small none = let t = take_out slots l out in
+    let f = fewer_slots bound t.0 k (others_apart apart t.1) (low_without bound apart t.1 low) small
+    (others_else apart t.1 k (λ e. absurd (omega arith)) ∙ none) in
+    let g = others_long apart t.1 in omega arith

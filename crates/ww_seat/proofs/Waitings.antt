@@ -13,26 +13,25 @@ use Rattle.ww_seat.proofs.Working.{IsInside}
 
 -- ---- into the guard
 
-pub wanter_enters : (size n : ℕ) (m : Sat) → IsOutside size n m → MayEnter m.0.part.core n
-wanter_enters size n m o = record {
+pub wanter_enters : {size n : ℕ} {m : Sat} → IsOutside size n m → MayEnter m.0.part.core n
+wanter_enters o = record {
   outside = o.outside;
   why = ⊎_elim (λ e. inr (inr (e, o.want.lacks, o.want.base, o.want.signs))) (λ e. inr (inl e)) o.place;
 }
 
-still_unsigned : (kind : Kind) (waits : ℕ) (sign : Option ℕ) → sign ≡ Some 0 → once_inside kind waits sign ≡ Some 0
-still_unsigned WaitDie zero sign e = refl
-still_unsigned WaitDie (suc n) sign e = e
-still_unsigned WoundWait waits sign e = e
+still_unsigned : (kind : Kind) (waits : ℕ) {sign : Option ℕ} → sign ≡ Some 0 → once_inside kind waits sign ≡ Some 0
+still_unsigned WaitDie zero e = refl
+still_unsigned WaitDie (suc n) e = e
+still_unsigned WoundWait waits e = e
 
-pub entered_inside : (size n : ℕ) (m m' : Sat) → IsOutside size n m → HasEntered m n m' → IsOrderly size m' → IsInside size n m'
-entered_inside size n m m' out e o = subst (λ (w : Sight). IsOrderly size (w, m'.1) → IsInside size n (w, m'.1))
+pub entered_inside : {size n : ℕ} {m m' : Sat} → IsOutside size n m → HasEntered m n m' → IsOrderly size m' → IsInside size n m'
+entered_inside {size} {n} {m} {m'} out e o = subst (λ (w : Sight). IsOrderly size (w, m'.1) → IsInside size n (w, m'.1))
     (sym e.view) (λ o'. record {
       orderly = o';
       want = record {
         lacks = out.want.lacks;
         base = out.want.base;
-        signs = ⊎_elim (λ s. inl s) (λ s. inr
-            (⊎_elim (λ t. inl (still_unsigned m.0.part.core.kind m.0.part.core.waits m.0.part.core.sign t)) (λ t. inr t)
+        signs = ⊎_elim (λ s. inl s) (λ s. inr (⊎_elim (λ t. inl (still_unsigned m.0.part.core.kind m.0.part.core.waits t)) (λ t. inr t)
             s)) out.want.signs;
       };
       inside = refl;
@@ -45,5 +44,5 @@ entered_inside size n m m' out e o = subst (λ (w : Sight). IsOrderly size (w, m
       acted = refl;
     }) o
 
-pub entered_later : (n : ℕ) (m m' : Sat) → HasEntered m n m' → m'.0.part.core.later ≡ not (m.0.part.core.waits == 0)
-entered_later n m m' e = ap (λ (w : Sight). w.part.core.later) e.view
+pub entered_later : {n : ℕ} {m m' : Sat} → HasEntered m n m' → m'.0.part.core.later ≡ not (m.0.part.core.waits == 0)
+entered_later e = ap (λ (w : Sight). w.part.core.later) e.view

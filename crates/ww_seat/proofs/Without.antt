@@ -34,8 +34,7 @@ stays n k (m ∷ ms) e = elim (true_or_false (eqb m n)) [
 pub owns_less : (owned new : List Bool) (held : List ℕ) (n : ℕ) → n < length owned → new ≡ set owned n false
     → ((m : ℕ) → get_or owned m false ≡ is_among m held) → (m : ℕ)
     → get_or new m false ≡ is_among m (without n held)
-owns_less owned new held n lt is owns =
-    owns_held owned new held (without n held) n false lt is owns (gone n held)
+owns_less owned new held n lt is owns = owns_held owned held (without n held) n lt is owns (gone n held)
     (λ m differ. stays n m held (apart n m differ))
 
 pub all_without : (P : ℕ → Type 0) (n : ℕ) (ns : List ℕ) → AllByRecursion P ns → AllByRecursion P (without n ns)

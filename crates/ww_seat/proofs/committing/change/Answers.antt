@@ -34,7 +34,7 @@ swap_node-requires-clause-out c =
     let mine = own_next (size_of c.args.board.now) c.loop-at.seat.seat.me.0 c.args.seat.now.seat.me.0
     c.args.changes.now (c.loop-at.at - 1) (omega arith) c.loop-at.invariant.view c.requires.may.owned in
     subst (λ (n : ℕ). (x : Node) × (slot_of c.loop-at.seat.seat.me.1 n ≡ Some (Content x))) (sym c.from.ensures)
-    (out_there _ _ _ _ c.loop-at.seat.seat.me (get_or c.args.changes.now (c.loop-at.at - 1) none).number is mine.0 mine.1)
+    (out_there (get_or c.args.changes.now (c.loop-at.at - 1) none).number is mine.0 mine.1)
 
 pub loop-at-preserved : goal.loop-at-preserved
 loop-at-preserved c =
@@ -53,8 +53,7 @@ loop-at-preserved c =
       records = c.swap_node.ensures.records ∙ c.loop-at.invariant.records;
       changed = λ held before after ns are was.
           let many : length c.args.changes.now ≡ length ns = ap length are ∙ length-map ns (change_at before after) in
-          changed_next (size_of c.args.board.now) held before after ns c.args.changes.now i none
-          c.loop-at.seat.seat.me c.swap_node.new.self.seat.me c.swap_node.result are (omega arith)
+          changed_next before ns i none are (omega arith)
           (subst (λ (k : ℕ). IsChanged (size_of c.args.board.now) held after (drop k ns) c.loop-at.seat.seat.me) up
           (c.loop-at.invariant.changed held before after ns are was))
           mine.0 mine.1

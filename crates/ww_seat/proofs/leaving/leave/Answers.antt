@@ -5,12 +5,12 @@ use Rattle.ww_seat.proofs.leaving.leave.Goals as goal
 pub exit-requires-clause-may : goal.exit-requires-clause-may
 exit-requires-clause-may c = record {
   lock = c.requires.at.lock;
-  may = may_leave c.args.lock c.args.seat.now.seat.me _ c.take_sign_back.ensures.cleared c.requires.may c.requires.at.orderly.unheeded;
+  may = may_leave c.take_sign_back.ensures.cleared c.requires.may c.requires.at.orderly.unheeded;
   list = search rules;
 }
 
 pub returns-clause-out : goal.returns-clause-out
-returns-clause-out c = let m = c.args.seat.now.seat.me in let cleared = c.take_sign_back.ensures.cleared in record {
-  orderly = left_orderly _ c.args.lock m _ _ c.requires.at.orderly cleared c.requires.may.inside c.exit.ensures.view c.exit.ensures.home;
-  view = left_view m _ c.exit.new.self.seat.me cleared c.exit.ensures.view;
+returns-clause-out c = let cleared = c.take_sign_back.ensures.cleared in record {
+  orderly = left_orderly c.requires.at.orderly cleared c.requires.may.inside c.exit.ensures.view c.exit.ensures.home;
+  view = left_view c.exit.new.self.seat.me cleared c.exit.ensures.view;
 }

@@ -12,28 +12,24 @@ take-requires-clause-may c = let at = c.requires.at.2 in
       may = search rules;
       valid = search rules;
       list = at.orderly.list c.args.lock at.working.inside;
-      room = room_inside (size_of c.args.board.now) c.args.seat.now.seat.me c.args.lock at.orderly low at.working.inside at.working.want.lacks;
+      room = room_inside at.orderly low at.working.inside at.working.want.lacks;
     }
 
 pub returns-then-lock-from-clause-tried : goal.returns-then-lock-from-clause-tried
-returns-then-lock-from-clause-tried c = let at = c.requires.at.2 in let m = c.args.seat.now.seat.me in
-    let m1 = c.take.new.self.seat.me in record {
-      took = λ t. let e = c.take.ensures.took t in (
-        e.0,
-        is_taken (size_of c.args.board.now) c.args.lock m m1 at.orderly
-            (omega (arith, c.if-lock-from.true, c.from.ensures, c.size.ensures)) at.working.inside at.working.want.lacks e,
-      );
-      lost = λ f. touched_lost_on_top _ c.args.lock m m1 at.orderly at.working.inside (c.take.ensures.lost f);
-    }
+returns-then-lock-from-clause-tried c = let at = c.requires.at.2 in record {
+  took = λ t. let e = c.take.ensures.took t in (
+    e.0,
+    is_taken at.orderly (omega (arith, c.if-lock-from.true, c.from.ensures, c.size.ensures)) at.working.inside at.working.want.lacks e,
+  );
+  lost = λ f. touched_lost_on_top at.orderly at.working.inside (c.take.ensures.lost f);
+}
 
 pub returns-else-lock-from-clause-tried : goal.returns-else-lock-from-clause-tried
-returns-else-lock-from-clause-tried c = let at = c.requires.at.2 in let m = c.args.seat.now.seat.me in
-    let m1 = c.take_bare_inside.new.self.seat.me in record {
-      took = λ t. (
-        _,
-        is_taken_bare (size_of c.args.board.now) c.args.lock m m1 at.orderly
-            (omega (arith, c.if-lock-from.false, c.from.ensures, c.size.ensures)) at.working.inside
-            (c.take_bare_inside.ensures.gone t),
-      );
-      lost = λ f. touched_lost_on_top _ c.args.lock m m1 at.orderly at.working.inside (c.take_bare_inside.ensures.lost f);
-    }
+returns-else-lock-from-clause-tried c = let at = c.requires.at.2 in record {
+  took = λ t. (
+    _,
+    is_taken_bare at.orderly (omega (arith, c.if-lock-from.false, c.from.ensures, c.size.ensures)) at.working.inside
+        (c.take_bare_inside.ensures.gone t),
+  );
+  lost = λ f. touched_lost_on_top at.orderly at.working.inside (c.take_bare_inside.ensures.lost f);
+}

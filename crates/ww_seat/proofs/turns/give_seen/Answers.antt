@@ -12,15 +12,13 @@ give-requires-clause-may c = let giving = c.requires.giving in
       seen = c.requires.seen.1;
       list = giving.orderly.list c.args.lock giving.inside;
       waiters = giving.seats;
-      out = giving_out (size_of c.args.board.now) c.args.seat.now.seat.me c.args.lock giving low;
+      out = giving_out giving low;
     }
 
 pub returns-then-lock-from-clause-gave : goal.returns-then-lock-from-clause-gave
-returns-then-lock-from-clause-gave c = let e = c.give.ensures.gave in
-    let_go (size_of c.args.board.now) c.args.seat.now.seat.me c.give.new.self.seat.me c.args.lock e.0 e.1 _
-    c.requires.giving (omega (arith, c.if-lock-from.true, c.from.ensures, c.size.ensures)) e.2 e.3 e.4
+returns-then-lock-from-clause-gave c =
+    let_go _ c.requires.giving (omega (arith, c.if-lock-from.true, c.from.ensures, c.size.ensures)) c.give.ensures.gave
 
 pub returns-else-lock-from-clause-gave : goal.returns-else-lock-from-clause-gave
-returns-else-lock-from-clause-gave c = let e = c.give_bare_inside.ensures.gave in
-    let_go_bare (size_of c.args.board.now) c.args.seat.now.seat.me c.give_bare_inside.new.self.seat.me c.args.lock
-    e.0 _ c.requires.giving (omega (arith, c.if-lock-from.false, c.from.ensures, c.size.ensures)) e.1 e.2
+returns-else-lock-from-clause-gave c =
+    let_go_bare _ c.requires.giving (omega (arith, c.if-lock-from.false, c.from.ensures, c.size.ensures)) c.give_bare_inside.ensures.gave

@@ -13,19 +13,18 @@ use Rattle.ww_seat.proofs.seats.Seat.give_bare.Goals as goal
 after : (c : After-give_bare) → let q = c.self.inside.seat in let m' = c.give_bare.new.self.seat.me in
     IsOrderly (length q.seat.me.0.held) m' × IsAway m'.0.part.core
     × HasLetOnce q.seat.me c.args.lock (giving_of c.give_bare.result) m'
-after c = let q = c.self.inside.seat in
-    let_once (length q.seat.me.0.held) c.args.lock q.seat.me c.give_bare.new.self.seat.me (giving_of c.give_bare.result)
+after c = let_once c.args.lock c.give_bare.new.self.seat.me (giving_of c.give_bare.result)
     c.self.invariant.orderly (subst (λ (s : Standing). IsAway (view_in s)) (sym c.self.view_is) c.requires.may.away)
     (subst (λ (k : ℕ). k ≤ c.args.lock) (sym (ap (λ (s : Standing). size_in s) c.self.view_is ∙ c.requires.at.size)) c.requires.may.bare)
     c.give_bare.ensures.tried
 
 pub invariant_of-self : goal.invariant_of-self
-invariant_of-self c = kept _ _ c.give_bare.new.self c.give_bare.ensures.seat (after c).0
+invariant_of-self c = kept c.give_bare.ensures.seat (after c).0
 
 pub returns : goal.returns
 returns c = let q = c.self.inside.seat in let q' = c.give_bare.new.self in
     subst (λ (s : Standing). IsGiveBare s c.args.lock (giving_of c.give_bare.result) (standing_of q')) c.self.view_is (
-      back_at_once c.args.board.now.table.shared.table_id _ q q' (seated_at _ q c.args.self.now c.self.view_is c.self.invariant c.requires.at)
+      back_at_once (seated_at c.self.view_is c.self.invariant c.requires.at)
           c.give_bare.ensures.seat c.give_bare.ensures.records c.self.invariant.orderly (after c).0 (after c).1
           (out_let q.seat.me q'.seat.me c.args.lock (giving_of c.give_bare.result) c.give_bare.ensures.tried),
       (after c).2,

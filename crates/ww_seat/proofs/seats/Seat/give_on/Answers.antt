@@ -1,9 +1,10 @@
-use Rattle.std.proofs.Common.{rules, refl}
+use Rattle.std.proofs.Common.{rules}
 use Rattle.ww_view.specs.View.{IsAway}
 use Rattle.ww_table.specs.Seat.{size_of}
 use Rattle.ww_seat.specs.Calls.{HasGiven}
 use Rattle.ww_seat.specs.Orderly.{IsOrderly}
-use Rattle.ww_seat.proofs.Gives.{read_still, still_view, looked_giving, read_giving, has_let}
+use Rattle.ww_seat.proofs.Holds.{holds_same}
+use Rattle.ww_seat.proofs.Gives.{read_still, read_giving, has_let}
 use Rattle.ww_seat.proofs.Kept.{kept}
 use Rattle.ww_seat.proofs.Stepwise.{giving_of}
 use Rattle.ww_seat.proofs.There.{first_there}
@@ -11,19 +12,14 @@ use Rattle.ww_seat.proofs.seats.Seat.give_on.Goals.{After-exit}
 use Rattle.ww_seat.proofs.seats.Seat.give_on.Goals as goal
 
 pub give_seen-requires-clause-giving : goal.give_seen-requires-clause-giving
-give_seen-requires-clause-giving c = read_giving _ c.look-seen.new.self.seat.me c.first-first.new.self.seat.me
-    c.args.lock (looked_giving _ c.self.inside.seat.seat.me c.look-seen.new.self.seat.me c.args.lock c.look-seen.result
-    (giving_of c.args.board.now c.args.lock c.self.inside.seat c.args.self.now c.self.view_is c.self.invariant c.requires.at c.requires.may.1)
-    c.look-seen.ensures.looked) c.first-first.ensures.read
+give_seen-requires-clause-giving c = read_giving (giving_of c.self.view_is c.self.invariant c.requires.at c.requires.may.1)
+    c.look-seen.ensures.looked c.first-first.ensures.read
 
 -- outside again
 out : (c : After-exit) → let m = c.self.inside.seat.seat.me in let m' = c.exit.new.self.seat.me in
     IsOrderly (size_of c.args.board.now) m' × IsAway m'.0.part.core × HasGiven m c.args.lock m'
 out c = let m = c.self.inside.seat.seat.me in
-    has_let (size_of c.args.board.now) m c.first-first.new.self.seat.me c.give_seen.new.seat.seat.me
-    c.exit.new.self.seat.me c.args.lock
-    (read_still m m c.look-seen.new.self.seat.me c.first-first.new.self.seat.me c.args.lock c.look-seen.result
-    (still_view m m refl) c.look-seen.ensures.looked c.first-first.ensures.read)
+    has_let m c.exit.new.self.seat.me (read_still m m (holds_same m) c.look-seen.ensures.looked c.first-first.ensures.read)
     c.give_seen.ensures.gave c.exit.ensures.view c.exit.ensures.home
 
 pub returns-clause-few : goal.returns-clause-few
@@ -31,4 +27,4 @@ returns-clause-few c = first_there c.args.board.now c.look-seen.new.self _ c.fir
     (search rules) c.first-first.ensures.first
 
 pub invariant_of-self : goal.invariant_of-self
-invariant_of-self c = kept _ _ c.exit.new.self c.exit.ensures.seat (out c).0
+invariant_of-self c = kept c.exit.ensures.seat (out c).0

@@ -3,5 +3,4 @@ use Rattle.ww_seat.proofs.Kept.{holds_kept}
 use Rattle.ww_seat.proofs.seats.Seat.holds.Goals as goal
 
 pub returns : goal.returns
-returns c = holds_kept c.self.inside.seat c.args.self.now c.self.view_is c.self.invariant c.requires.outside c.requires.nodes
-    ∙ sym c.has_out.ensures
+returns c = holds_kept c.self.view_is c.self.invariant c.requires.outside c.requires.nodes ∙ sym c.has_out.ensures

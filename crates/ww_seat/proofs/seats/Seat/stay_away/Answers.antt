@@ -5,27 +5,22 @@ use Rattle.ww_seat.proofs.seats.Seat.stay_away.Goals as goal
 
 pub returns-in_default : goal.returns-in_default
 returns-in_default c = let i = c.loop.invariant in (
-  stayed_more c.args.self.now c.loop.self c.glance-owner.new.self c.loop.stay i.1 i.2 c.glance-owner.ensures,
-  slept_not c.args.patience.now c.lose.new.self c.next.new.self c.lose.ensures
-      (slept_not c.lose.new.self c.loop.patience c.next.new.self i.3 c.next.ensures.awake),
+  stayed_more i.1 i.2 c.glance-owner.ensures,
+  slept_not c.lose.ensures (slept_not i.3 c.next.ensures.awake),
 )
 
 pub returns-then-take_rest : goal.returns-then-take_rest
 returns-then-take_rest c = let i = c.loop.invariant in (
-  stayed_further c.args.self.now c.glance-owner.new.self c.take_rest.new.self
-      (stayed_more c.args.self.now c.loop.self c.glance-owner.new.self c.loop.stay i.1 i.2 c.glance-owner.ensures)
-      c.take_rest.ensures.stayed (omega (arith, c.take_rest.ensures.may.few)),
-  slept_not c.args.patience.now c.lose.new.self c.next.new.self c.lose.ensures
-      (slept_not c.lose.new.self c.loop.patience c.next.new.self i.3 c.next.ensures.awake),
+  stayed_further (stayed_more i.1 i.2 c.glance-owner.ensures) c.take_rest.ensures.stayed (omega (arith, c.take_rest.ensures.may.few)),
+  slept_not c.lose.ensures (slept_not i.3 c.next.ensures.awake),
 )
 
 pub loop-preserved : goal.loop-preserved
 loop-preserved c = let i = c.loop.invariant in let s = c.args.self.now in
-    let stayed = stayed_further s c.glance-owner.new.self c.take_rest.new.self
-    (stayed_more s c.loop.self c.glance-owner.new.self c.loop.stay i.1 i.2 c.glance-owner.ensures)
+    let stayed = stayed_further (stayed_more i.1 i.2 c.glance-owner.ensures)
     c.take_rest.ensures.stayed (omega (arith, c.take_rest.ensures.may.few)) in (
-      stayed_at c.args.board.now s c.take_rest.new.self c.requires.at stayed,
+      stayed_at c.requires.at stayed,
       stayed,
       c.take_rest.ensures.may,
-      slept_not c.lose.new.self c.loop.patience c.next.new.self i.3 c.next.ensures.awake,
+      slept_not i.3 c.next.ensures.awake,
     )

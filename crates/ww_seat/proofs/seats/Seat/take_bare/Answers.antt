@@ -15,21 +15,18 @@ bare : (c : After-take_bare) → length c.self.inside.seat.seat.me.0.held ≤ c.
 bare c = subst (λ (k : ℕ). k ≤ c.args.lock) (sym (ap (λ (s : Standing). size_in s) c.self.view_is ∙ c.requires.at.size)) c.requires.may.bare
 
 after : (c : After-take_bare) → let m' = c.take_bare.new.self.seat.me in IsOrderly (length c.self.inside.seat.seat.me.0.held) m' × IsAway m'.0.part.core
-after c = let q = c.self.inside.seat in
-    tried_settled (length q.seat.me.0.held) c.args.lock q.seat.me c.take_bare.new.self.seat.me
-    (taking_of c.take_bare.result) c.self.invariant.orderly
+after c = tried_settled c.args.lock c.take_bare.new.self.seat.me (taking_of c.take_bare.result) c.self.invariant.orderly
     (subst (λ (s : Standing). IsAway (view_in s)) (sym c.self.view_is) c.requires.may.may.away) (bare c) c.take_bare.ensures.tried
 
 pub invariant_of-self : goal.invariant_of-self
-invariant_of-self c = kept _ _ c.take_bare.new.self c.take_bare.ensures.seat (after c).0
+invariant_of-self c = kept c.take_bare.ensures.seat (after c).0
 
 pub returns : goal.returns
 returns c = let q = c.self.inside.seat in let q' = c.take_bare.new.self in
     subst (λ (s : Standing). IsTryBare s c.args.lock (taking_of c.take_bare.result) (standing_of q')) c.self.view_is (
-      back_at_once c.args.board.now.table.shared.table_id _ q q' (seated_at _ q c.args.self.now c.self.view_is c.self.invariant c.requires.at)
+      back_at_once (seated_at c.self.view_is c.self.invariant c.requires.at)
           c.take_bare.ensures.seat c.take_bare.ensures.records c.self.invariant.orderly (after c).0 (after c).1
           (out_tried q.seat.me q'.seat.me c.args.lock (taking_of c.take_bare.result) c.take_bare.ensures.tried),
-      tried_once (length q.seat.me.0.held) c.args.lock q.seat.me q'.seat.me (taking_of c.take_bare.result)
-          c.self.invariant.orderly (bare c)
+      tried_once c.args.lock q'.seat.me (taking_of c.take_bare.result) c.self.invariant.orderly (bare c)
           (subst (λ (s : Standing). WantsSigns (view_in s)) (sym c.self.view_is) c.requires.may.may.signs) c.take_bare.ensures.tried,
     )

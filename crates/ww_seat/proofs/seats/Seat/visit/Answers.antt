@@ -22,10 +22,10 @@ returns g c = let s = c.args.self.now in let u = c.spin_into_wanted.new.self in 
       came = came_then c.args.lock s.me u.me s'.me c.look_at-look.result i.gone.holds e.came;
       may = e.may;
       uncancelled = e.uncancelled;
-      nap = nap_then (view_in s) (view_in u) (view_in s') c.look_at-look.result i.gone.awake e.nap;
+      nap = nap_then (view_in s') c.look_at-look.result i.gone.awake e.nap;
       booked = booked s u s' c.args.lock i e.booked;
       rung = woken_ring (view_in s') _ _ _ e.woken d.rung;
-      others = only_ring _ _ _ _ e.only d.rung d.placed;
+      others = only_ring _ _ e.only d.rung d.placed;
       placed = d.placed;
       paid = λ paid. paid_look s.me s'.me c.look_at-look.new.wake c.args.bells.now c.deliver.new.bells
           (came_cancels c.args.lock u.me s'.me c.look_at-look.result e.came ∙ ap (λ (a : Account). a.counts.cancelled) i.gone.holds)
