@@ -10,18 +10,18 @@ use Rattle.ww_invariant.specs.declared.cells.Start.{Start}
 use Rattle.ww_wakes.specs.Scene.{Step}
 use Rattle.ww_wakes.specs.Scene as scene
 use Rattle.ww_refines.specs.Moment.{Moment, Acts}
-use Rattle.ww_refines.specs.Moment as runs
 use Rattle.ww_refines.specs.Moves.{OthersStay, StepsThere, Reads, Follows}
 use Rattle.ww_refines.proofs.Standstill.{idles}
 use Rattle.ww_steps.specs.declared.turn.Answer.{Answer}
 use Rattle.ww_steps.specs.Situations.{Situation, is_inside}
-use Rattle.ww_steps.specs.Answers.{IsTaken, IsWakeAnswer, wakes_owed}
+use Rattle.ww_steps.specs.Answers.{IsTaken, IsWakeAnswer, owed_so_far}
 use Rattle.ww_drives.specs.Stages.{Stage}
 use Rattle.ww_drives.specs.Deeds.{Call, Deed, calls, steps, reads, answers, names, wakes, parks, rises, halts, is_sleeps, Calls, Names, Wakes, Parks, Rises, Steps, ReadsOnly, Answers, Does}
 use Rattle.ww_drives.specs.Laws.{move_of}
 use Rattle.ww_drives.proofs.Answered.{each_accounts}
 use Rattle.ww_drives.proofs.Kept.{OfDesk, of_desk, IsKept, Keeps, owed_there, other_part, call_untold, called, answered, names_one, wakes_one, sleeps_on, rises_up}
 use Rattle.ww_invariant.specs.declared.cells.Part.{Part}
+use Rattle.ww_invariant.specs.Rule.{wakes_owed}
 
 abbrev pub IsInOrder : {key : Start} → Stage key → Type 0
 IsInOrder {key = key} g = (d : ℕ) → d < key.seats → Keeps g d
@@ -101,15 +101,15 @@ module _ {key : Start} (g g' : Stage key) (i : IsInOrder g) where
       (λ t low isnt. let x = put_else g.desk d s' t isnt in let y = put_else g.named d n' t isnt in cc)
 
   -- what it owes, by the table
-  pub owes_there : (d u : ℕ) → d < key.seats → g.calling d ≡ false → wakes_owed (g.desk d) u ≡ runs.wakes_owed (g.moment.part d) u
+  pub owes_there : (d u : ℕ) → d < key.seats → g.calling d ≡ false → owed_so_far (g.desk d) u ≡ wakes_owed (g.moment.part d) u
   owes_there d u low idle = let k = i d low in
       owed_there (g.desk d) (g.moment.part d) u (k.current.view idle) (k.current.cancelled idle)
 
   wakes_keep : (d u : ℕ) → Wakes g g' d u → IsInOrder g'
   wakes_keep d u h = let m = g.moment in let k = i d h.at_hand.seat in
-      let j = m.rung d u + (runs.wakes_owed (m.part d) u - m.rung d u) in
+      let j = m.rung d u + (wakes_owed (m.part d) u - m.rung d u) in
       let r' = put (m.rung d) u j in let n' = put (g.named d) u false in
-      let paid : j ≡ wakes_owed (g.desk d) u = (let a = owes_there d u h.at_hand.seat h.at_hand.idle in let b = k.owes.even u in
+      let paid : j ≡ owed_so_far (g.desk d) u = (let a = owes_there d u h.at_hand.seat h.at_hand.idle in let b = k.owes.even u in
       omega arith) in
       each_keeps _ h.now d (record (of_desk g d) { named = n'; rung = r' })
       (let x = put_here m.rung d r' in let y = put_here g.named d n' in cc)
@@ -124,7 +124,7 @@ module _ {key : Start} (g g' : Stage key) (i : IsInOrder g) where
         awake = h.at_hand.awake;
         outside = ap (λ (v : View). v.inside) (sym (k.current.view h.at_hand.idle)) ∙ k.outside h.outside;
         waker = h.at_hand.seat;
-        count = runs.wakes_owed (m.part d) u - m.rung d u;
+        count = wakes_owed (m.part d) u - m.rung d u;
         most = omega arith;
         rung = refl;
         token = refl;

@@ -8,13 +8,11 @@ use Rattle.ww_model.proofs.Puts.{put_here, put_else, put_cases, put_was}
 use Rattle.ww_view.specs.declared.view.View.{View}
 use Rattle.ww_invariant.specs.declared.cells.Part.{Part}
 use Rattle.ww_invariant.specs.declared.cells.Start.{Start}
-use Rattle.ww_invariant.specs.Rule as rule
-use Rattle.ww_refines.specs.Moment as runs
-use Rattle.ww_seat.specs.Bells.{times}
+use Rattle.ww_invariant.specs.Rule.{wakes_owed, times}
 use Rattle.ww_seat.specs.Marks.{IsMarked}
 use Rattle.ww_steps.specs.declared.turn.Answer.{Answer}
 use Rattle.ww_steps.specs.Situations.{Situation}
-use Rattle.ww_steps.specs.Answers.{Balances, IsTaken, wakes_owed, CountsNaps}
+use Rattle.ww_steps.specs.Answers.{Balances, IsTaken, owed_so_far, CountsNaps}
 use Rattle.ww_drives.specs.Stages.{Stage, StandsOutside}
 use Rattle.ww_drives.specs.Deeds.{is_sleeps}
 use Rattle.ww_drives.proofs.Answered.{naps_alike, naps_more}
@@ -62,8 +60,8 @@ pub record MaySleep (s : Situation) (told asleep : Bool) (named : ℕ → Bool) 
 
 -- Whomever it has yet to wake is marked or named.
 pub record OwesMarked (d : ℕ) (s : Situation) (named : ℕ → Bool) (rung : ℕ → ℕ) : Type 0 where
-  pub even : (u : ℕ) → rung u ≤ wakes_owed s u
-  pub marked : (u : ℕ) → rung u < wakes_owed s u → u ≢ d → IsMarked s.wakes u ⊎ (named u ≡ true)
+  pub even : (u : ℕ) → rung u ≤ owed_so_far s u
+  pub marked : (u : ℕ) → rung u < owed_so_far s u → u ≢ d → IsMarked s.wakes u ⊎ (named u ≡ true)
 
 -- all of this of one desk, by what the stage says of it
 pub record IsKept (d : ℕ) (x : OfDesk) : Type 0 where
@@ -79,18 +77,10 @@ Keeps g d = IsKept d (of_desk g d)
 
 -- ---- wakes are counted alike
 
-times_alike : (u : ℕ) (us : List ℕ) → times u us ≡ rule.times u us
-times_alike u [] = refl
-times_alike u (v ∷ us) = let h = times_alike u us in elim (cases_Bool (v == u)) [
-  | inl is ↦ rw is (omega arith)
-  | inr isnt ↦ rw isnt (omega arith)
-]
-
 -- what a desk owes, by what the table tells of it
 pub owed_there : (s : Situation) (p : Part) (u : ℕ) → s.view ≡ p.core → s.cancelled ≡ p.counts.cancelled →
-    wakes_owed s u ≡ runs.wakes_owed p u
-owed_there s p u view cancelled = let a = times_alike u p.counts.cancelled in let b = times_alike u p.core.debts in
-    let c = ap (times u) cancelled in let d = ap (λ (v : View). times u v.debts) view in omega arith
+    owed_so_far s u ≡ wakes_owed p u
+owed_there s p u view cancelled = let a = ap (times u) cancelled in let b = ap (λ (v : View). times u v.debts) view in omega arith
 
 -- ---- a step at the table amid a call
 
@@ -156,7 +146,7 @@ module _ (d : ℕ) (x : OfDesk) (h : IsKept d x) where
     sleeps = is_awake s (is_sleeps ans) x.asleep x.named before.1;
     owes = record {
       even = λ u. let z = h.owes.even u in let y = b.owed u in omega arith;
-      marked = λ u few other. elim (cases_lt (x.rung u) (wakes_owed x.desk u)) [
+      marked = λ u few other. elim (cases_lt (x.rung u) (owed_so_far x.desk u)) [
         | inl less ↦ ⊎_elim (λ was. inl ((b.marks u).1 (inl was))) inr (h.owes.marked u less other)
         | inr more ↦ inl ((b.marks u).1 (inr (let z = h.owes.even u in omega arith, λ own. other (own ∙ h.number))))
       ];
@@ -181,7 +171,7 @@ module _ (d : ℕ) (x : OfDesk) (h : IsKept d x) where
   }
 
   -- whoever was named gets a token
-  pub wakes_one : (v j : ℕ) → x.asleep ≡ false → j ≡ wakes_owed x.desk v →
+  pub wakes_one : (v j : ℕ) → x.asleep ≡ false → j ≡ owed_so_far x.desk v →
       IsKept d (record x { named = put x.named v false; rung = put x.rung v j })
   wakes_one v j awake paid = record {
     number = h.number;
@@ -190,12 +180,12 @@ module _ (d : ℕ) (x : OfDesk) (h : IsKept d x) where
     rises = h.rises;
     sleeps = is_awake x.desk x.told x.asleep (put x.named v false) awake;
     owes = record {
-      even = λ u. put_cases x.rung v j u (λ (k : ℕ). k ≤ wakes_owed x.desk u)
-          (λ is. let e = ap (wakes_owed x.desk) is in omega arith) (λ _. h.owes.even u);
+      even = λ u. put_cases x.rung v j u (λ (k : ℕ). k ≤ owed_so_far x.desk u)
+          (λ is. let e = ap (owed_so_far x.desk) is in omega arith) (λ _. h.owes.even u);
       marked = λ u few other. ⊎_elim
-          (λ here. let e = ap (wakes_owed x.desk) here.0 in let f = here.1 in absurd (omega arith))
+          (λ here. let e = ap (owed_so_far x.desk) here.0 in let f = here.1 in absurd (omega arith))
           (λ else. ⊎_elim inl (λ named. inr (put_else x.named v false u else.0 ∙ named)) (h.owes.marked u else.1 other))
-          (put_was x.rung v j u (λ (k : ℕ). k < wakes_owed x.desk u) few);
+          (put_was x.rung v j u (λ (k : ℕ). k < owed_so_far x.desk u) few);
     };
   }
 

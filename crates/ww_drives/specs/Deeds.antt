@@ -3,7 +3,8 @@ use Rattle.std.specs.Prelude.{ℕ, ◌≡◌, ◌<◌, ◌+◌, ◌-◌, Bool, t
 use Rattle.ww_model.specs.State.{put}
 use Rattle.ww_invariant.specs.declared.cells.Start.{Start}
 use Rattle.ww_wakes.specs.Scene.{Step}
-use Rattle.ww_refines.specs.Moment.{Moment, wakes_owed, view, Acts, Rests}
+use Rattle.ww_invariant.specs.Rule.{wakes_owed}
+use Rattle.ww_refines.specs.Moment.{Moment, view, Acts, Rests}
 use Rattle.ww_refines.specs.Moves.{StepsThere, Reads, Follows}
 use Rattle.ww_refines.specs.Plays.{IsBy}
 use Rattle.ww_seat.specs.Marks.{IsMarked}

@@ -92,6 +92,11 @@ abbrev pub times : ℕ → List ℕ → ℕ
 times s [] = 0
 times s (t ∷ ts) = one_if (t == s) + times s ts
 
+-- how many wakes a seat owed seat u so far, by what its part says: one each time that it set the cancel of u, and one for
+-- each of its debts to u
+abbrev pub wakes_owed : Part → ℕ → ℕ
+wakes_owed p u = times u p.counts.cancelled + times u p.core.debts
+
 -- each cancel that one seat set for another was heeded by it, or is pending
 abbrev pub Balanced : (ℕ → ℕ) → (ℕ → Counts) → Type 0
 Balanced cancel counts = (s v : ℕ) →

@@ -8,14 +8,14 @@ use Rattle.ww_plain.specs.declared.node.Node.{Node}
 use Rattle.ww_view.specs.View.{owns, IsAway}
 use Rattle.ww_invariant.specs.declared.cells.Start.{Start}
 use Rattle.ww_table.specs.declared.seat.Stepper.{Stepper}
-use Rattle.ww_invariant.specs.Rule.{Sat, first_graph}
+use Rattle.ww_invariant.specs.Rule.{Sat, first_graph, wakes_owed}
 use Rattle.ww_table.specs.Seat.{IsNew}
 use Rattle.ww_plain.specs.Numbers.{is_among}
 use Rattle.ww_lock.specs.declared.hand.Hand.TheInside.{Inside}
 use Rattle.ww_lock.specs.Holding.{Home, Holding, Setting, IsAtHome, AreAtHome, by_of}
 use Rattle.ww_seat.specs.declared.bell.Bell.{Bell}
 use Rattle.ww_seat.specs.Accounts.{account_of}
-use Rattle.ww_seat.specs.Bells.{heard, rings_at, rung, rung_at, sleeps_at, wakes_owed}
+use Rattle.ww_seat.specs.Bells.{heard, rings_at, rung, rung_at, sleeps_at}
 use Rattle.ww_seat.specs.Standings.{Standing, standing_of, view_in}
 use Rattle.ww_lock.specs.Carried.{held_of, seen_with, holding_of}
 use Rattle.ww_lock.specs.Hands.{carried_of, Carries}
@@ -59,7 +59,7 @@ new_carries t key k q h new is marks seen few locks places left placed silent aw
       };
       placed = ap (slice_get (map rings_at h.bells.items)) who ∙ placed;
       even = record {
-        paid = λ u low. silent_at h.bells.items u low silent ∙ sym (ap (λ (m : Sat). Some (wakes_owed m u)) me);
+        paid = λ u low. silent_at h.bells.items u low silent ∙ sym (ap (λ (m : Sat). Some (wakes_owed m.0.part u)) me);
         slept = awake ∙ sym (ap (λ (m : Sat). m.0.part.core.naps) me);
       };
     }

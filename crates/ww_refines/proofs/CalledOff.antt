@@ -20,7 +20,8 @@ use Rattle.ww_invariant.specs.Guards.{exiting}
 use Rattle.ww_invariant.specs.Waiting.{joining}
 use Rattle.ww_invariant.specs.Cancels.{cancelling, heeding, stopping}
 use Rattle.ww_wakes.specs.Scene.{Step, performs}
-use Rattle.ww_refines.specs.Moment.{Moment, view, wakes_owed, HasToWake}
+use Rattle.ww_invariant.specs.Rule.{wakes_owed}
+use Rattle.ww_refines.specs.Moment.{Moment, view, HasToWake}
 use Rattle.ww_refines.specs.Moves.{Follows}
 use Rattle.ww_refines.specs.Plays as play
 use Rattle.ww_refines.specs.Deadlocks.{IsScheduledThere, HoldersGoOnThere, WaitsAreInEndlessRuns}

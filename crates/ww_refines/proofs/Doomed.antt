@@ -13,7 +13,7 @@ use Rattle.ww_view.specs.May.{MayDie, MayExit}
 use Rattle.ww_invariant.specs.declared.cells.Part.{Part}
 use Rattle.ww_invariant.specs.declared.cells.Sight.{Sight}
 use Rattle.ww_invariant.specs.Layout.{lock_at, owner_at}
-use Rattle.ww_invariant.specs.Rule.{St}
+use Rattle.ww_invariant.specs.Rule.{St, wakes_owed}
 use Rattle.ww_invariant.specs.Guards.{exiting}
 use Rattle.ww_invariant.specs.Waiting.{dying}
 use Rattle.ww_invariant.proofs.Fits.{place_low}
@@ -21,7 +21,7 @@ use Rattle.ww_wakes.specs.Scene.{Step, performs}
 use Rattle.ww_live.specs.Premises.{InTheEnd}
 use Rattle.ww_live.specs.Theorem.{AreDeadlocked}
 use Rattle.ww_live.proofs.Deadlocks.{are_deadlocked}
-use Rattle.ww_refines.specs.Moment.{Moment, core, view, wakes_owed, HasToWake}
+use Rattle.ww_refines.specs.Moment.{Moment, core, view, HasToWake}
 use Rattle.ww_refines.specs.Moves.{Follows}
 use Rattle.ww_refines.specs.Deadlocks.{IsScheduledThere, HasDeadlockThere, DeadlocksAreInEndlessRuns}
 use Rattle.ww_refines.proofs.Standstill.{idles}

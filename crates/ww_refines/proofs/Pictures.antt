@@ -23,13 +23,13 @@ use Rattle.ww_invariant.specs.declared.cells.Part.{Part}
 use Rattle.ww_invariant.specs.declared.cells.Sight.{Sight}
 use Rattle.ww_invariant.specs.declared.cells.Start.{Start}
 use Rattle.ww_invariant.specs.Layout.{owner_at, guard_at, stamp_at, list_at}
-use Rattle.ww_invariant.specs.Rule.{St, Sat, first_graph}
+use Rattle.ww_invariant.specs.Rule.{St, Sat, first_graph, wakes_owed}
 use Rattle.ww_invariant.specs.Steps.{MayDraw, taker, drawing, knowing}
 use Rattle.ww_invariant.specs.Guards.{entering, exiting}
 use Rattle.ww_invariant.specs.Waiting.{joining, dying}
 use Rattle.ww_invariant.proofs.Fits.{place_low}
 use Rattle.ww_wakes.specs.Scene.{Step, performs, leaves_to_sleep, finds_no_sign, finds_no_cancel, wakes, falls_asleep}
-use Rattle.ww_refines.specs.Moment.{Moment, wakes_owed, core, HasToWake, Acts}
+use Rattle.ww_refines.specs.Moment.{Moment, core, HasToWake, Acts}
 use Rattle.ww_refines.specs.Moves.{StepsThere, Follows}
 use Rattle.ww_refines.specs.Runs.{IsOfRun}
 use Rattle.ww_refines.specs.Runs as runs

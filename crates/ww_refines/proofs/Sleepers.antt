@@ -8,7 +8,8 @@ use Rattle.ww_invariant.specs.declared.cells.Part.{Part}
 use Rattle.ww_invariant.specs.Layout.{lock_at}
 use Rattle.ww_wakes.specs.Scene.{Step, wakes, rises}
 use Rattle.ww_wakes.specs.Theorem.{IsDue}
-use Rattle.ww_refines.specs.Moment.{Moment, wakes_owed, HasToWake, Rests}
+use Rattle.ww_invariant.specs.Rule.{wakes_owed}
+use Rattle.ww_refines.specs.Moment.{Moment, HasToWake, Rests}
 use Rattle.ww_refines.specs.Moves.{Follows}
 use Rattle.ww_refines.specs.Endless.{IsEndlessThere, SleepsForEverThere, SleepsInVainThere, SleepersAreInEndlessRuns}
 use Rattle.ww_refines.proofs.Standstill.{idles}

@@ -26,13 +26,13 @@ use Rattle.ww_invariant.specs.declared.cells.Part.{Part}
 use Rattle.ww_invariant.specs.declared.cells.Sight.{Sight}
 use Rattle.ww_invariant.specs.declared.cells.Start.{Start}
 use Rattle.ww_invariant.specs.Layout.{lock_at, owner_at, cancel_at, words_for, list_at, slots_for}
-use Rattle.ww_invariant.specs.Rule.{St, Ruled, AreNodes, first_sight}
+use Rattle.ww_invariant.specs.Rule.{St, Ruled, AreNodes, first_sight, wakes_owed}
 use Rattle.ww_invariant.specs.Steps.{drawing, knowing, first_seat, without_first}
 use Rattle.ww_invariant.specs.Guards.{entering, exiting}
 use Rattle.ww_invariant.specs.Waiting.{joining}
 use Rattle.ww_invariant.proofs.Seats.{opens, opens_start}
 use Rattle.ww_wakes.specs.Scene.{performs, leaves_to_sleep, finds_no_cancel}
-use Rattle.ww_refines.specs.Moment.{wakes_owed, HasToWake}
+use Rattle.ww_refines.specs.Moment.{HasToWake}
 use Rattle.ww_refines.specs.Runs as runs
 use Rattle.ww_refines.specs.Plays as play
 use Rattle.ww_refines.proofs.Seating.{new_tables_begin}

@@ -1,5 +1,5 @@
 -- Threads at a table, at one moment.
-use Rattle.std.specs.Prelude.{ℕ, ◌≡◌, ◌≢◌, ◌<◌, ◌+◌, ◌⊎◌, Bool, true, false}
+use Rattle.std.specs.Prelude.{ℕ, ◌≡◌, ◌≢◌, ◌<◌, ◌⊎◌, Bool, true, false}
 use mathlib.Core.Option.{some}
 use lib.ListN.{get_elem?}
 use Rattle.ww_model.specs.State.{State, start}
@@ -7,7 +7,7 @@ use Rattle.ww_view.specs.declared.view.View.{View}
 use Rattle.ww_invariant.specs.declared.cells.Part.{Part}
 use Rattle.ww_invariant.specs.declared.cells.Sight.{Sight}
 use Rattle.ww_invariant.specs.declared.cells.Start.{Start}
-use Rattle.ww_invariant.specs.Rule.{St, Ruled, times, first_part}
+use Rattle.ww_invariant.specs.Rule.{St, Ruled, first_part, wakes_owed}
 
 -- a view of the table tells this: of the seat that steps by it, or of one that lies idle in it
 abbrev pub Tells : Sight → Part → Type 0
@@ -35,11 +35,6 @@ pub record Moment (key : Start) : Type 0 where
   pub token : ℕ → Bool
   pub asleep : ℕ → Bool
   pub heeds : ℕ → Bool
-
--- how many wakes a seat owed seat u so far: one each time that it set the cancel of u, and one for each of its debts
--- to u
-abbrev pub wakes_owed : Part → ℕ → ℕ
-wakes_owed p u = times u p.counts.cancelled + times u p.core.debts
 
 module _ {key : Start} (m : Moment key) where
   -- the locks, as the table shows them

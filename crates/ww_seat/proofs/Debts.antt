@@ -5,10 +5,11 @@ use Rattle.ww_queue.specs.Queue.{Has}
 use Rattle.ww_plain.proofs.Members.{true_or_false, same_from_eqb, eqb_same}
 use Rattle.ww_view.specs.declared.view.View.{View}
 use Rattle.ww_view.specs.Made.{is_one_of, with_condemned}
-use Rattle.ww_invariant.specs.Rule.{Sat}
+use Rattle.ww_invariant.specs.Rule.{Sat, times}
+use Rattle.ww_model.specs.State.{one_if}
 use Rattle.ww_seat.specs.declared.bell.Bell.{Bell}
 use Rattle.ww_seat.specs.Marks.{is_marked}
-use Rattle.ww_seat.specs.Bells.{rung_at, one_more, times, ArePaid, AreRung}
+use Rattle.ww_seat.specs.Bells.{rung_at, one_more, ArePaid, AreRung}
 use Rattle.ww_seat.specs.Work.{HasToWake, AreWoken, AreOnlyWoken, HasBooked, debts_with}
 use Rattle.ww_seat.proofs.Without.{another}
 
@@ -32,6 +33,14 @@ one_step false false true true false k a b e = absurd (true≢false (b refl))
 one_step false false true false true k a b e = absurd (true≢false (sym (b refl)))
 one_step false false true false false k a b e = ap (one_more true) e
 
+-- the seat v, and those that stand behind it
+pub times_more : (u v : ℕ) (vs : List ℕ) → times u (v ∷ vs) ≡ one_more (eqb v u) (times u vs)
+times_more u v vs = by_bool (eqb v u)
+  where
+    by_bool : (b : Bool) → one_if b + times u vs ≡ one_more b (times u vs)
+    by_bool true = omega arith
+    by_bool false = omega arith
+
 times_cond : (b : Bool) (x : ℕ) (us vs : List ℕ) → times x (cond b us vs) ≡ cond b (times x us) (times x vs)
 times_cond true x us vs = refl
 times_cond false x us vs = refl
@@ -39,7 +48,8 @@ times_cond false x us vs = refl
 times_with : (who x u : ℕ) (condemned debts : List ℕ) → times x (with_condemned who condemned u debts)
     ≡ cond (eqb u who) (times x debts) (cond (is_one_of u condemned) (times x debts) (one_more (eqb u x) (times x debts)))
 times_with who x u condemned debts = times_cond (eqb u who) x debts (cond (is_one_of u condemned) debts (u ∷ debts))
-    ∙ ap (cond (eqb u who) (times x debts)) (times_cond (is_one_of u condemned) x debts (u ∷ debts))
+    ∙ ap (cond (eqb u who) (times x debts)) (times_cond (is_one_of u condemned) x debts (u ∷ debts)
+    ∙ ap (cond (is_one_of u condemned) (times x debts)) (times_more x u debts))
 
 pub times_booked : (who x : ℕ) (condemned debts : List ℕ)
     → times x (debts_with who condemned debts) ≡ one_more (wakes who x condemned) (times x debts)

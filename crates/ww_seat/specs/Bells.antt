@@ -1,11 +1,11 @@
 -- Bells: which parker each of them rings, and whom a call wakes.
-use Rattle.std.specs.Prelude.{ℕ, ◌≡◌, ◌≢◌, ◌<◌, ◌+◌, ◌==◌, Bool, true, false, List, [], ◌∷◌, length, map, Option, Some, slice_get}
+use Rattle.std.specs.Prelude.{ℕ, ◌≡◌, ◌≢◌, ◌<◌, ◌+◌, Bool, true, false, List, length, map, Option, Some, slice_get}
 use Rattle.std.specs.Arc.{arc_value}
 use Rattle.std.specs.Option.{option_map}
 use Rattle.atomic_table.specs.Seated.{TableId}
 use Rattle.ww_queue.specs.Queue.{Has}
 use Rattle.ww_view.specs.declared.view.View.{View}
-use Rattle.ww_invariant.specs.Rule.{Sat}
+use Rattle.ww_invariant.specs.Rule.{Sat, wakes_owed}
 use Rattle.ww_table.specs.declared.board.Board.{Board}
 use Rattle.ww_seat.specs.Marks.{is_marked}
 use Rattle.ww_seat.specs.declared.bell.Bell.{Bell}
@@ -67,19 +67,9 @@ abbrev pub one_more : Bool → ℕ → ℕ
 one_more true k = k + 1
 one_more false k = k
 
--- how often a number stands in a list
-abbrev pub times : ℕ → List ℕ → ℕ
-times u [] = 0
-times u (v ∷ vs) = one_more (v == u) (times u vs)
-
--- How many wakes a seat owed another one so far: one each time that it set the cancel of that seat, and one for each of its
--- debts to it.
-abbrev pub wakes_owed : Sat → ℕ → ℕ
-wakes_owed m u = times u m.0.part.counts.cancelled + times u m.0.part.core.debts
-
 -- each bell gave as many tokens as its seat was owed wakes
 abbrev pub ArePaid : Sat → List Bell → Type 0
-ArePaid m bells = (u : ℕ) → u < length bells → rung_at bells u ≡ Some (wakes_owed m u)
+ArePaid m bells = (u : ℕ) → u < length bells → rung_at bells u ≡ Some (wakes_owed m.0.part u)
 
 -- each bell that has a mark gave one token more, and the others gave none
 abbrev pub AreRung : List ℕ → List Bell → List Bell → Type 0

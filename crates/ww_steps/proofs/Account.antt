@@ -5,8 +5,9 @@ use Rattle.ww_queue.specs.Queue.{Has}
 use Rattle.ww_plain.proofs.Members.{true_or_false, same_from_eqb, eqb_same}
 use Rattle.ww_view.specs.declared.view.View.{View}
 use Rattle.ww_view.specs.Made.{is_one_of, with_heir}
-use Rattle.ww_seat.specs.Bells.{one_more, times}
+use Rattle.ww_seat.specs.Bells.{one_more}
 use Rattle.ww_invariant.specs.Guards.{glancing}
+use Rattle.ww_invariant.specs.Rule.{times}
 use Rattle.ww_seat.specs.Accounts.{Account, account_of}
 use Rattle.ww_seat.specs.Standings.{Standing, view_in, IsIn}
 use Rattle.ww_seat.specs.declared.look.Arrival.TheVariants.{Came}
@@ -14,7 +15,7 @@ use Rattle.ww_seat.specs.declared.resting.Memory.{Memory}
 use Rattle.ww_seat.specs.declared.resting.Stay.{Stay}
 use Rattle.ww_seat.specs.declared.look.Arrival.{Arrival}
 use Rattle.ww_seat.specs.Work.{AreWoken, HasBooked, IsMarked, IsWorking, StillHasToWake, debts_with}
-use Rattle.ww_seat.proofs.Debts.{has_wakes, wakes_has, more_cancelled, more_owed, times_booked}
+use Rattle.ww_seat.proofs.Debts.{has_wakes, wakes_has, more_cancelled, more_owed, times_booked, times_more}
 use Rattle.ww_seat.specs.declared.waits.Waits.{Waits}
 use Rattle.ww_steps.specs.declared.turn.Answer.{Answer}
 use Rattle.ww_steps.specs.declared.turn.Turn.TheVariants.{Stays, Wants, Looks}
@@ -24,20 +25,20 @@ use Rattle.ww_steps.proofs.Locks.{at_turn}
 use Rattle.ww_steps.proofs.Keeping.{kept}
 use Rattle.ww_steps.specs.declared.turn.Answer.TheVariants.{Done, Again, Awaits, Sleeps, Deadlk, Interrupted}
 use Rattle.ww_steps.specs.Situations.{Situation}
-use Rattle.ww_steps.specs.Answers.{Balances, BooksWakes, IsGiveAnswer, IsWaitAnswer, WakesAlso, WakesCondemned, WakesHeir, wakes_owed}
+use Rattle.ww_steps.specs.Answers.{Balances, BooksWakes, IsGiveAnswer, IsWaitAnswer, WakesAlso, WakesCondemned, WakesHeir, owed_so_far}
 
 -- it owes one wake more to each of these, and marks each but itself
 record MarksThese (s : Situation) (these : ℕ → Bool) (s' : Situation) : Type 0 where
   pub caller : s'.caller ≡ s.caller
-  pub owed : (u : ℕ) → wakes_owed s' u ≡ one_more (these u) (wakes_owed s u)
+  pub owed : (u : ℕ) → owed_so_far s' u ≡ one_more (these u) (owed_so_far s u)
   pub only : (u : ℕ) → IsMarked s'.wakes u → IsMarked s.wakes u ⊎ ((these u ≡ true) × (u ≢ s.caller))
   pub still : (u : ℕ) → IsMarked s.wakes u → IsMarked s'.wakes u
   pub all : (u : ℕ) → these u ≡ true → u ≢ s.caller → IsMarked s'.wakes u
 
 marks_balances : (s s' : Situation) (these : ℕ → Bool) → MarksThese s these s' → Balances s s'
 marks_balances s s' these m =
-    let owes : (u : ℕ) (b : Bool) → these u ≡ b → wakes_owed s' u ≡ one_more b (wakes_owed s u) =
-    λ u b is. m.owed u ∙ ap (λ (x : Bool). one_more x (wakes_owed s u)) is in
+    let owes : (u : ℕ) (b : Bool) → these u ≡ b → owed_so_far s' u ≡ one_more b (owed_so_far s u) =
+    λ u b is. m.owed u ∙ ap (λ (x : Bool). one_more x (owed_so_far s u)) is in
     record {
       caller = m.caller;
       owed = λ u. elim (true_or_false (these u)) [
@@ -86,7 +87,7 @@ balances_then s t u a b = record {
     ⊎_elim (λ was. (b.marks x).1 (inl ((a.marks x).1 (inl was))))
         (λ more. ⊎_elim (λ first. (b.marks x).1 (inl ((a.marks x).1 (inr (first, more.1)))))
         (λ late. (b.marks x).1 (inr (omega (arith, more.0, late), λ own. more.1 (own ∙ a.caller))))
-        (cases_lt (wakes_owed s x) (wakes_owed t x))),
+        (cases_lt (owed_so_far s x) (owed_so_far t x))),
   );
 }
 
@@ -98,6 +99,7 @@ pub balances_cancel : (s s' : Situation) (w : ℕ) → s'.caller ≡ s.caller �
 balances_cancel s s' w caller cancelled debts marks = marks_balances s s' (eqb w) (record {
   caller = caller;
   owed = λ u. ap (λ (l : List ℕ). times u l + times u s'.view.debts) cancelled
+      ∙ ap (λ (t : ℕ). t + times u s'.view.debts) (times_more u w s.cancelled)
       ∙ ap (λ (l : List ℕ). one_more (eqb w u) (times u s.cancelled) + times u l) debts
       ∙ sym (more_cancelled (eqb w u) (times u s.cancelled) (times u s.view.debts));
   only = λ u marked. ⊎_elim (λ was. inl was)
@@ -121,6 +123,7 @@ balances_heir s s' (Some w) is caller cancelled debts marks = marks_balances s s
   caller = caller;
   owed = λ u. ap (λ (l : List ℕ). times u l + times u s'.view.debts) cancelled
       ∙ ap (λ (l : List ℕ). times u s.cancelled + times u l) debts
+      ∙ ap (λ (t : ℕ). times u s.cancelled + t) (times_more u w s.view.debts)
       ∙ sym (more_owed (eqb w u) (times u s.cancelled) (times u s.view.debts));
   only = λ u marked. ⊎_elim (λ was. inl was)
       (λ one. let this : w ≡ u = (let same : Some w ≡ Some u = sym is ∙ one.0 in cc) in

@@ -2,9 +2,9 @@
 use Rattle.std.specs.Prelude.{ℕ, suc, ◌≡◌, ◌≢◌, ◌<◌, ◌≤◌, ◌+◌, ◌-◌, ◌⊎◌, ◌∷◌, ◌++◌, [], Option, Bool, true, false, List, Some, None, length}
 use Rattle.ww_plain.specs.Numbers.{is_among}
 use Rattle.ww_view.specs.Made.{found_pending, shut_out, without}
+use Rattle.ww_invariant.specs.Rule.{times}
 use Rattle.ww_table.specs.declared.seat.Taking.{Taking}
 use Rattle.ww_table.specs.declared.seat.Taking.TheVariants as try
-use Rattle.ww_seat.specs.Bells.{times}
 use Rattle.ww_seat.specs.Calls.{HasMet, HasStayedOut}
 use Rattle.ww_seat.specs.Looks.{MayWant}
 use Rattle.ww_seat.specs.Work.{HasToWake}
@@ -80,15 +80,15 @@ WakesAlso s u s' = AreMarked s.wakes (λ t. (u ≢ s.caller) × (t ≡ u)) s'.wa
 
 -- How many wakes it has owed this seat so far: one each time that it set the cancel of that seat, and one for each of its
 -- debts to it.
-abbrev pub wakes_owed : Situation → ℕ → ℕ
-wakes_owed s u = times u s.cancelled + times u s.view.debts
+abbrev pub owed_so_far : Situation → ℕ → ℕ
+owed_so_far s u = times u s.cancelled + times u s.view.debts
 
 -- The account of wakes since an earlier time: it owes each seat what it owed then, or more; and marked are those who were, and
 -- each other seat that it owes more now, and nobody else.
 pub record Balances (first s : Situation) : Type 0 where
   pub caller : s.caller ≡ first.caller
-  pub owed : (u : ℕ) → wakes_owed first u ≤ wakes_owed s u
-  pub marks : AreMarked first.wakes (λ u. (wakes_owed first u < wakes_owed s u) × (u ≢ first.caller)) s.wakes
+  pub owed : (u : ℕ) → owed_so_far first u ≤ owed_so_far s u
+  pub marks : AreMarked first.wakes (λ u. (owed_so_far first u < owed_so_far s u) × (u ≢ first.caller)) s.wakes
 
 -- since whatever time its account balanced, it still does
 abbrev pub BooksWakes : Situation → Situation → Type 0
