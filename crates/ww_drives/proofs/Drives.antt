@@ -23,7 +23,7 @@ use Rattle.ww_steps.specs.Opened.{fresh}
 use Rattle.ww_drives.specs.Stages.{Stage, IsFirstStage}
 use Rattle.ww_drives.specs.Deeds.{Deed, steps, rises, Does, IsDriven}
 use Rattle.ww_drives.specs.Deeds as drive
-use Rattle.ww_drives.specs.Laws.{NewWorldsBegin, move_of, DrivesAreRuns, IsDueBy, NoWakeIsLostInDrives, NoStandstillInDrives, IsEndlessDrive, WakesArriveByDesks, NobodySleepsInVainInDrives, IsServed, NoDeadlockLastsInDrives, DrivesRunOn, WaitsEndInDrives}
+use Rattle.ww_drives.specs.Laws.{NewWorldsBegin, thread_move, DrivesAreRuns, IsDueBy, NoWakeIsLostInDrives, NoStandstillInDrives, IsEndlessDrive, WakesArriveByDesks, NobodySleepsInVainInDrives, IsServed, NoDeadlockLastsInDrives, DrivesRunOn, WaitsEndInDrives}
 use Rattle.ww_drives.proofs.Kept.{OfDesk, of_desk, IsKept, is_awake}
 use Rattle.ww_drives.proofs.Keeping.{IsInOrder, acts, follows, keep, owes_there}
 
@@ -85,7 +85,7 @@ in_order _ (drive.goes_on g g' x driven does) = keep g g' (in_order g driven) x 
 
 pub is_of_run : {key : Start} (g : Stage key) → IsDriven g → IsOfRun g.moment
 is_of_run _ (drive.begins g first) = runs.begins g.moment first.first
-is_of_run _ (drive.goes_on g g' x driven does) = runs.goes_on g.moment g'.moment (move_of x) (is_of_run g driven)
+is_of_run _ (drive.goes_on g g' x driven does) = runs.goes_on g.moment g'.moment (thread_move x) (is_of_run g driven)
     (follows g g' (in_order g driven) x does)
 
 pub drives_are_runs : DrivesAreRuns
@@ -129,7 +129,7 @@ no_standstill_in_drives key g driven seats sound = let i = in_order g driven in 
 
 -- an event of a drive is that of the desk that makes it
 pub event_of : {key : Start} (g g' : Stage key) → IsDriven g → (x : Deed) (e : Event) → Does g g' x →
-    move_of x ≡ Some (performs e) → x ≡ steps (actor e) (Some (performs e))
+    thread_move x ≡ Some (performs e) → x ≡ steps (actor e) (Some (performs e))
 event_of g g' from (steps d y) e does is = let there = does.there (acts g g' (in_order g from) d y does) in
     let own = subst (IsBy d) is there.by in
     ap (λ (z : Option Step). steps d z) is ∙ ap (λ (z : ℕ). steps z (Some (performs e))) (sym own)
@@ -140,32 +140,32 @@ module _ {key : Start} (stage : ℕ → Stage key) (deed : ℕ → Deed) (endles
   driven zero = endless.begins
   driven (suc j) = drive.goes_on (stage j) (stage (suc j)) (deed j) (driven j) (endless.goes_on j)
 
-  is_endless : IsEndless (λ j. (stage j).moment) (λ j. move_of (deed j))
+  is_endless : IsEndless (λ j. (stage j).moment) (λ j. thread_move (deed j))
   is_endless = record {
     begins = is_of_run (stage 0) endless.begins;
     goes_on = λ j. follows (stage j) (stage (suc j)) (in_order (stage j) (driven j)) (deed j) (endless.goes_on j);
   }
 
-  is_scheduled : (s : ℕ) → IsServed stage deed s → IsScheduledThere (λ j. (stage j).moment) (λ j. move_of (deed j)) s
+  is_scheduled : (s : ℕ) → IsServed stage deed s → IsScheduledThere (λ j. (stage j).moment) (λ j. thread_move (deed j)) s
   is_scheduled s h = record {
     made = λ i t has. let e = h.woken i t has.waker (due_by (stage i) (in_order (stage i) (driven i)) t s has) in
-        (e.0, e.1, ap move_of e.2);
-    heard = λ i token sleeps. let e = h.rises i token sleeps in (e.0, e.1, ap move_of e.2);
+        (e.0, e.1, ap thread_move e.2);
+    heard = λ i token sleeps. let e = h.rises i token sleeps in (e.0, e.1, ap thread_move e.2);
     settled = h.settles;
     looks = h.looks;
     leaves = h.leaves;
   }
 
-  wakes_arrive : WakesArriveByDesks stage deed → WakesArriveThere (λ j. (stage j).moment) (λ j. move_of (deed j))
+  wakes_arrive : WakesArriveByDesks stage deed → WakesArriveThere (λ j. (stage j).moment) (λ j. thread_move (deed j))
   wakes_arrive h = record {
     made = λ i t s has. let e = h.made i t s has.waker (due_by (stage i) (in_order (stage i) (driven i)) t s has) in
-        (e.0, e.1, ap move_of e.2);
-    heard = λ i s low token sleeps. let e = h.heard i s low token sleeps in (e.0, e.1, ap move_of e.2);
+        (e.0, e.1, ap thread_move e.2);
+    heard = λ i s low token sleeps. let e = h.heard i s low token sleeps in (e.0, e.1, ap thread_move e.2);
   }
 
 pub nobody_sleeps_in_vain_in_drives : NobodySleepsInVainInDrives
 nobody_sleeps_in_vain_in_drives key stage deed endless arrive =
-    nobody_sleeps_in_vain_in_runs key (λ j. (stage j).moment) (λ j. move_of (deed j)) (is_endless stage deed endless)
+    nobody_sleeps_in_vain_in_runs key (λ j. (stage j).moment) (λ j. thread_move (deed j)) (is_endless stage deed endless)
     (wakes_arrive stage deed endless arrive)
 
 pub drives_run_on : DrivesRunOn
@@ -176,12 +176,12 @@ drives_run_on = record {
 
 pub waits_end_in_drives : WaitsEndInDrives
 waits_end_in_drives key stage deed endless served go_on =
-    waits_end_in_runs key (λ j. (stage j).moment) (λ j. move_of (deed j)) (is_endless stage deed endless)
+    waits_end_in_runs key (λ j. (stage j).moment) (λ j. thread_move (deed j)) (is_endless stage deed endless)
     (λ s low. is_scheduled stage deed endless s (served s low)) go_on
 
 pub no_deadlock_lasts_in_drives : NoDeadlockLastsInDrives
 no_deadlock_lasts_in_drives key stage deed endless i seats served dead =
-    let end = no_deadlock_lasts_in_runs key (λ j. (stage j).moment) (λ j. move_of (deed j)) (is_endless stage deed endless) i
+    let end = no_deadlock_lasts_in_runs key (λ j. (stage j).moment) (λ j. thread_move (deed j)) (is_endless stage deed endless) i
     seats (λ s one. is_scheduled stage deed endless s (served s one)) dead in
     let j = end.0 in let event = event_of (stage j) (stage (suc j)) (driven stage deed endless j) (deed j) in
     let does = endless.goes_on j in (

@@ -14,10 +14,10 @@ use Rattle.ww_refines.specs.Moves.{OthersStay, StepsThere, Reads, Follows}
 use Rattle.ww_refines.proofs.Standstill.{idles}
 use Rattle.ww_steps.specs.declared.turn.Answer.{Answer}
 use Rattle.ww_steps.specs.Situations.{Situation, is_inside}
-use Rattle.ww_steps.specs.Answers.{IsTaken, IsWakeAnswer, owed_so_far}
+use Rattle.ww_steps.specs.Answers.{IsMarkTaken, IsWakeAnswer, owed_so_far}
 use Rattle.ww_drives.specs.Stages.{Stage}
 use Rattle.ww_drives.specs.Deeds.{Call, Deed, calls, steps, reads, answers, names, wakes, parks, rises, halts, is_sleeps, Calls, Names, Wakes, Parks, Rises, Steps, ReadsOnly, Answers, Does}
-use Rattle.ww_drives.specs.Laws.{move_of}
+use Rattle.ww_drives.specs.Laws.{thread_move}
 use Rattle.ww_drives.proofs.Answered.{each_accounts}
 use Rattle.ww_drives.proofs.Kept.{OfDesk, of_desk, IsKept, Keeps, owed_there, other_part, call_untold, called, answered, names_one, wakes_one, sleeps_on, rises_up}
 use Rattle.ww_invariant.specs.declared.cells.Part.{Part}
@@ -86,7 +86,7 @@ module _ {key : Start} (g g' : Stage key) (i : IsInOrder g) where
 
   -- a desk names nobody inside a guard
   named_outside : (s s' : Situation) (u : ℕ) → IsWakeAnswer s (Some u) s' → (is_inside s.turn ≡ false)
-      × IsTaken s.wakes (Some u) s'.wakes × (s' ≡ record s { wakes = s'.wakes })
+      × IsMarkTaken s.wakes (Some u) s'.wakes × (s' ≡ record s { wakes = s'.wakes })
   named_outside s s' u h = elim (cases_Bool (is_inside s.turn)) [
     | inl inside ↦ let none : Some u ≡ None = (h.0 inside).0 in absurd cc
     | inr out ↦ (out, (h.1 out).0, (h.1 out).1)
@@ -190,7 +190,7 @@ module _ {key : Start} (g g' : Stage key) (i : IsInOrder g) where
   stays_there z is same = subst (λ (m : Moment key). Follows g.moment m None) (sym (ap (λ (z : Stage key). z.moment) is ∙ same))
       (idles g.moment)
 
-  pub follows : (x : Deed) → Does g g' x → Follows g.moment g'.moment (move_of x)
+  pub follows : (x : Deed) → Does g g' x → Follows g.moment g'.moment (thread_move x)
   follows (calls d) h = stays_there _ h.now refl
   follows (steps d x) h = (h.there (acts d x h)).follows
   follows (reads d) h = inr (d, inr (reads_there d h))

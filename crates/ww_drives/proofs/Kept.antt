@@ -12,7 +12,7 @@ use Rattle.ww_invariant.specs.Rule.{wakes_owed, times}
 use Rattle.ww_seat.specs.Marks.{IsMarked}
 use Rattle.ww_steps.specs.declared.turn.Answer.{Answer}
 use Rattle.ww_steps.specs.Situations.{Situation}
-use Rattle.ww_steps.specs.Answers.{Balances, IsTaken, owed_so_far, CountsNaps}
+use Rattle.ww_steps.specs.Answers.{Balances, IsMarkTaken, owed_so_far, CountsNaps}
 use Rattle.ww_drives.specs.Stages.{Stage, StandsOutside}
 use Rattle.ww_drives.specs.Deeds.{is_sleeps}
 use Rattle.ww_drives.proofs.Answered.{naps_alike, naps_more}
@@ -154,7 +154,7 @@ module _ (d : ℕ) (x : OfDesk) (h : IsKept d x) where
   }
 
   -- it names a seat
-  pub names_one : (w : List ℕ) (v : ℕ) → x.asleep ≡ false → IsTaken x.desk.wakes (Some v) w →
+  pub names_one : (w : List ℕ) (v : ℕ) → x.asleep ≡ false → IsMarkTaken x.desk.wakes (Some v) w →
       IsKept d (record x { desk = let s = x.desk in record s { wakes = w }; named = put x.named v true })
   names_one w v awake taken = let s = x.desk in record {
     number = h.number;

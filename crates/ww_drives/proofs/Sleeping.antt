@@ -14,7 +14,7 @@ use Rattle.ww_seat.proofs.Marking.{with_bit, without_bit, marked_here, marked_ot
 use Rattle.ww_steps.specs.declared.turn.Turn.TheVariants.{Wants}
 use Rattle.ww_steps.specs.declared.turn.Answer.TheVariants.{Sleeps}
 use Rattle.ww_steps.specs.Situations.{Situation}
-use Rattle.ww_steps.specs.Answers.{IsTaken, IsWaitAnswer, IsNextAnswer, WakesCondemned}
+use Rattle.ww_steps.specs.Answers.{IsMarkTaken, IsWaitAnswer, IsNextAnswer, WakesCondemned}
 use Rattle.ww_steps.proofs.Account.{wait_balances, step_books}
 use Rattle.ww_drives.specs.Deeds.{HasDone, go_on}
 
@@ -47,7 +47,7 @@ has_no_mark_then u = dite (ℕ_discrete u 1)
     (λ is. ap (is_marked cleared) is ∙ cleared_here marked 1 (omega arith))
     (λ isnt. cleared_others marked 1 (omega arith) u isnt ∙ others_have_none u isnt)
 
-pub is_taken : IsTaken marked (Some 1) cleared
+pub is_taken : IsMarkTaken marked (Some 1) cleared
 is_taken = (has_mark, cleared_here marked 1 (omega arith), cleared_others marked 1 (omega arith))
 
 -- ---- whom it condemned has a mark: nobody, or seat 1

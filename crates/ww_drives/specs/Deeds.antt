@@ -4,7 +4,7 @@ use Rattle.ww_model.specs.State.{put}
 use Rattle.ww_invariant.specs.declared.cells.Start.{Start}
 use Rattle.ww_wakes.specs.Scene.{Step}
 use Rattle.ww_invariant.specs.Rule.{wakes_owed}
-use Rattle.ww_refines.specs.Moment.{Moment, view, Acts, Rests}
+use Rattle.ww_refines.specs.Moment.{Moment, view, Acts, HasLeftToWait}
 use Rattle.ww_refines.specs.Moves.{StepsThere, Reads, Follows}
 use Rattle.ww_refines.specs.Plays.{IsBy}
 use Rattle.ww_seat.specs.Marks.{IsMarked}
@@ -147,7 +147,7 @@ module _ {key : Start} (g g' : Stage key) where
     pub seat : d < key.seats
     pub calling : g.calling d ≡ true
     pub left : (view g.moment d).naps ≡ (g.desk d).view.naps + 1
-    pub there : Rests g.moment d false → Reads g.moment g'.moment d
+    pub there : HasLeftToWait g.moment d false → Reads g.moment g'.moment d
     pub now : g' ≡ record g { moment = g'.moment }
 
   -- The call is at its end, and the desk is what the clauses of that call say, and as each desk is; of the locks it knows what

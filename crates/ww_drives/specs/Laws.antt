@@ -10,7 +10,7 @@ use Rattle.ww_wakes.specs.Scene.{Step, performs}
 use Rattle.ww_wakes.specs.Scene as scene
 use Rattle.ww_live.specs.Premises.{InTheEnd}
 use Rattle.ww_live.specs.Theorem.{AreDeadlocked}
-use Rattle.ww_refines.specs.Moment.{core, view, HasToWake, Acts, Rests}
+use Rattle.ww_refines.specs.Moment.{core, view, HasToWake, Acts, HasLeftToWait}
 use Rattle.ww_refines.specs.Moves.{Follows}
 use Rattle.ww_refines.specs.Naps.{ArePlaysOf, is_to_sleep, HaveNone, SleepsLast}
 use Rattle.ww_refines.specs.Runs.{IsOfRun, HasToWaitThere}
@@ -55,18 +55,18 @@ CallsSleepLast = (key : Start) (call : Call) (s s' : Situation) (a : Answer) (xs
 -- ---- drives are runs
 
 -- the move of threads that a deed is
-abbrev pub move_of : Deed → Option Step
-move_of (steps d x) = x
-move_of (wakes d u) = Some (scene.wakes d u)
-move_of (parks d) = Some (scene.falls_asleep d)
-move_of (rises d) = Some (scene.rises d)
-move_of _ = None
+abbrev pub thread_move : Deed → Option Step
+thread_move (steps d x) = x
+thread_move (wakes d u) = Some (scene.wakes d u)
+thread_move (parks d) = Some (scene.falls_asleep d)
+thread_move (rises d) = Some (scene.rises d)
+thread_move _ = None
 
 -- Each deed of a drive is a move of threads, or leaves all as it is; so each stage shows a moment of a run of threads.
 pub record DrivesAreRuns : Type 0 where
   pub runs : (key : Start) (g : Stage key) → IsDriven g → IsOfRun g.moment
   pub moves : (key : Start) (g g' : Stage key) (x : Deed) → IsDriven g → Does g g' x →
-      Follows g.moment g'.moment (move_of x)
+      Follows g.moment g'.moment (thread_move x)
 
 -- ---- no wake-up is lost
 
@@ -121,7 +121,7 @@ pub record IsServed {key : Start} (stage : ℕ → Stage key) (deed : ℕ → De
   pub woken : (i t : ℕ) → t < key.seats → IsDueBy (stage i) t s → InTheEnd i (λ j. deed j ≡ wakes t s)
   pub rises : (i : ℕ) → (stage i).moment.token s ≡ true → (stage i).moment.asleep s ≡ true →
       InTheEnd i (λ j. deed j ≡ rises s)
-  pub settles : (i : ℕ) → Rests (stage i).moment s false → InTheEnd i (λ j. ¬ Rests (stage j).moment s false)
+  pub settles : (i : ℕ) → HasLeftToWait (stage i).moment s false → InTheEnd i (λ j. ¬ HasLeftToWait (stage j).moment s false)
   pub looks : (i n : ℕ) → (view (stage i).moment s).waits ≡ suc n → Acts (stage i).moment s →
       InTheEnd i (λ j. (view (stage j).moment s).inside ≡ suc n)
   pub leaves : (i n : ℕ) → (view (stage i).moment s).waits ≡ suc n → (view (stage i).moment s).inside ≡ suc n →
@@ -142,9 +142,9 @@ NoDeadlockLastsInDrives = (key : Start) (stage : ℕ → Stage key) (deed : ℕ 
 -- holds of drives.
 pub record DrivesRunOn : Type 0 where
   pub endless : (key : Start) (stage : ℕ → Stage key) (deed : ℕ → Deed) → IsEndlessDrive stage deed →
-      IsEndless (λ j. (stage j).moment) (λ j. move_of (deed j))
+      IsEndless (λ j. (stage j).moment) (λ j. thread_move (deed j))
   pub scheduled : (key : Start) (stage : ℕ → Stage key) (deed : ℕ → Deed) → IsEndlessDrive stage deed →
-      (s : ℕ) → IsServed stage deed s → IsScheduledThere (λ j. (stage j).moment) (λ j. move_of (deed j)) s
+      (s : ℕ) → IsServed stage deed s → IsScheduledThere (λ j. (stage j).moment) (λ j. thread_move (deed j)) s
 
 -- ---- waits end
 
@@ -154,4 +154,4 @@ abbrev pub WaitsEndInDrives : Type 0
 WaitsEndInDrives = (key : Start) (stage : ℕ → Stage key) (deed : ℕ → Deed) → IsEndlessDrive stage deed →
     ((s : ℕ) → s < key.seats → IsServed stage deed s) → HoldersGoOnThere (λ j. (stage j).moment) →
     (i s n : ℕ) → s < key.seats → (view (stage i).moment s).waits ≡ suc n →
-    InTheEnd i (λ j. EndsSomeWaitThere (stage j).moment (move_of (deed j)))
+    InTheEnd i (λ j. EndsSomeWaitThere (stage j).moment (thread_move (deed j)))

@@ -3,7 +3,7 @@ use Rattle.std.specs.Prelude.{ℕ, ◌≡◌, ◌<◌, Bool, false}
 use Rattle.atomic_table.specs.Seated.{TableId}
 use Rattle.ww_invariant.specs.declared.cells.Start.{Start}
 use Rattle.ww_invariant.specs.Rule.{places_for}
-use Rattle.ww_refines.specs.Moment.{Moment, IsFirst}
+use Rattle.ww_refines.specs.Moment.{Moment, IsFirstMoment}
 use Rattle.ww_steps.specs.declared.station.Station.{Station}
 use Rattle.ww_steps.specs.Situations.{Situation, is_inside}
 use Rattle.ww_steps.specs.Stations.{situation_of, Keeps}
@@ -37,7 +37,7 @@ pub record IsFresh (key : Start) (d : ℕ) (s : Situation) : Type 0 where
 
 -- nothing was called yet
 pub record IsFirstStage {key : Start} (g : Stage key) : Type 0 where
-  pub first : IsFirst g.moment
+  pub first : IsFirstMoment g.moment
   pub places : key.places ≡ places_for key.seats
   pub desks : (d : ℕ) → d < key.seats → IsFresh key d (g.desk d)
   pub calling : (d : ℕ) → g.calling d ≡ false

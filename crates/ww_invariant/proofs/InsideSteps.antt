@@ -40,8 +40,8 @@ use Rattle.ww_invariant.specs.Layout.{lock_at, guard_at, sign_at, cancel_at}
 use Rattle.ww_invariant.specs.Rule.{St, Sat, first_graph, Ruled}
 use Rattle.ww_invariant.specs.Steps.{knowing}
 use Rattle.ww_invariant.specs.Guards.{lost, AreSeats, IsSeenBy, entering, exiting, looking, glancing, enters_to, exits_to, looks_to, glances_to, counts_to}
-use Rattle.ww_invariant.specs.Waiting.{HasListOnTop, StandsIfWaiting, Expects, IsStillThere, tries_to, HasPlace, joining, joins, taking_inside, below, takes_inside, giving_inside, gives_inside, takes_bare_inside, gives_bare_inside, asking, asks, dying, dies, dies_to}
-use Rattle.ww_invariant.specs.Signs.{condemning, noting, reading, finding_none, clearing, signs_to, reads_to, clears_to}
+use Rattle.ww_invariant.specs.Waiting.{HasListOnTop, StandsIfWaiting, Expects, IsStillThere, tries_to, HasPlace, joining, joins, taking_inside, under_top, takes_inside, giving_inside, gives_inside, takes_bare_inside, gives_bare_inside, asking, asks, dying, dies, dies_to}
+use Rattle.ww_invariant.specs.Signs.{condemning, noting, having_read, finding_none, clearing, signs_to, reads_to, clears_to}
 use Rattle.ww_invariant.specs.Cancels.{cancelling, heeding, stopping, stops, leaves_to, cancels_to, heeds_to}
 use Rattle.ww_invariant.proofs.Moves.{Shot, on_owner, as_step, Exchanges, Hits, cas, looks, low, node_there, have_room, room_is, at_room, same_lock}
 use Rattle.ww_invariant.proofs.Told.{stands_as, stands_there, seen_by, death_is_older}
@@ -281,7 +281,7 @@ module _ (key : Start) (slots id : ℕ) (me : Sat) (seated : me.0.seated ≡ tru
           x,
           node_there key s r id me at seated n small,
           subst (λ (l : List (ℕ × Cell)). let before : Sat = (taking_inside me.0 n x, carried_after l act) in
-              let after : Sat = (taking_inside me.0 n x, below (n, Content x) l) in before ≡ after) (sym top) refl,
+              let after : Sat = (taking_inside me.0 n x, under_top (n, Content x) l) in before ≡ after) (sym top) refl,
           stands key s r id me at seated n may.inside,
         ),
       ))
@@ -450,7 +450,7 @@ module _ (key : Start) (slots id : ℕ) (me : Sat) (seated : me.0.seated ≡ tru
       ∙ r.words.signs v.who (let z = k.itself.seat in let y = r.places in omega arith) in dite (ℕ_discrete x 0)
       (λ e. dite (is_quiet? v)
       (λ quiet. (
-        reading me.0 0,
+        having_read me.0 0,
         keeps,
         tt,
         looks key s r id me at seated i (made.has_read v 0) refl (λ n. refl) (mine_read r.core v k 0 (sym tells ∙ e) (λ _. quiet)),
@@ -464,7 +464,7 @@ module _ (key : Start) (slots id : ℕ) (me : Sat) (seated : me.0.seated ≡ tru
         λ _. ((λ ne. absurd (ne e)), (λ _ quiet. absurd (loud quiet)), λ _ _. refl),
       )))
       (λ ne. (
-        reading me.0 x,
+        having_read me.0 x,
         keeps,
         tt,
         looks key s r id me at seated i (made.has_read v x) refl (λ n. refl) (mine_read r.core v k x (sym tells) (λ z. absurd (ne z))),

@@ -23,7 +23,7 @@ use Rattle.ww_invariant.specs.declared.cells.Sight.{Sight}
 use Rattle.ww_invariant.specs.declared.cells.Start.{Start}
 use Rattle.ww_invariant.specs.Layout.{lock_at}
 use Rattle.ww_invariant.specs.Rule.{St, first_graph, PartFits, Sits, Speaks, IsThere, Ruled, Stays, IsSize, no_counts, first_part, first_parts, first_sight, AreNodes}
-use Rattle.ww_invariant.specs.Steps.{nobody, seat_of, rest_of, first_seat, without_first, with_seat}
+use Rattle.ww_invariant.specs.Steps.{nobody, sight_of, rest_of, first_seat, without_first, with_seat}
 use Rattle.ww_invariant.proofs.Totals.{total_zero}
 use Rattle.ww_invariant.proofs.Fits.{stays_as, seats_stay, place_low, there_set, there_else, there_longer}
 
@@ -109,7 +109,7 @@ module _ (key : Start) where
   -- a part that lay idle sits alone
   alone : (c : State) (log : List Recorded) (at : ℕ → ℕ) (counts : ℕ → Counts) (j size : ℕ) (p : Part)
       → size ≡ length (first_graph key) → PartFits key c log at counts j p → IsBare p.core
-      → Sits key c log at counts j (seat_of size p)
+      → Sits key c log at counts j (sight_of size p)
   alone c log at counts j size p same fits bare = record {
     part = fits;
     room = length-replicate {A = Option _} size None ∙ same;
@@ -124,13 +124,13 @@ module _ (key : Start) where
 
   splits_at : (id : ℕ) (v : Sight) (p : Part) (ps : List Part) → v.seated ≡ true → v.idle ≡ p ∷ ps
       → (s : St) (r : Ruled key s) → get_elem? s.views id ≡ some v
-      → Stays key s r (cut s id (record v { idle = ps }) (seat_of (length v.held) p))
+      → Stays key s r (cut s id (record v { idle = ps }) (sight_of (length v.held) p))
   splits_at id v p ps seated is s r at = let f = r.seats id v at seated in let n : ℕ = length s.views in let to : ℕ
       → ℕ = put r.at p.core.who n in let left : Sight = record v { idle = ps } in
       let later : (k : ℕ) (q : Part) → get_elem? ps k ≡ some q
       → get_elem? v.idle (suc k) ≡ some q = λ k q e. ap (λ (l : List Part). get_elem? l (suc k)) is ∙ e in
       let at0 : get_elem? v.idle 0 ≡ some p = ap (λ (l : List Part). get_elem? l 0) is in let i0 = f.idle 0 p at0 in
-      stays_as key s (cut s id left (seat_of (length v.held) p)) r to r.words r.homes
+      stays_as key s (cut s id left (sight_of (length v.held) p)) r to r.words r.homes
       (λ j u e on. ⊎_elim
       (λ was. seats_stay (Sits key r.core r.log to r.counts) s.views id left
       (λ _. moves key r.core r.log r.at to r.counts id id left
@@ -155,15 +155,15 @@ module _ (key : Start) where
       (λ i. (sym (now.0 ∙ length-set s.views id left) i, now.1 i))
       (alone r.core r.log to r.counts n (length v.held) p f.room
       (moved key r.core r.log r.at to r.counts id n p (put_here r.at p.core.who n) i0.0) i0.1))
-      (at_end (set s.views id left) (seat_of (length v.held) p) u j e))
+      (at_end (set s.views id left) (sight_of (length v.held) p) u j e))
       (λ t small. dite (ℕ_discrete t p.core.who)
       (λ mine. let to_n : to t ≡ n = ap to mine ∙ put_here r.at p.core.who n in record {
-        view = seat_of (length v.held) p;
-        stands = at_last (set s.views id left) (seat_of (length v.held) p) (to t) (length-set s.views id left ∙ sym to_n);
+        view = sight_of (length v.held) p;
+        stands = at_last (set s.views id left) (sight_of (length v.held) p) (to t) (length-set s.views id left ∙ sym to_n);
         seated = refl;
         speaks = inl (sym mine);
       })
-      (λ isnt. there_longer (set s.views id left) (seat_of (length v.held) p ∷ []) (to t) t
+      (λ isnt. there_longer (set s.views id left) (sight_of (length v.held) p ∷ []) (to t) t
       (subst (λ (k : ℕ). IsThere (set s.views id left) k t) (sym (put_else r.at p.core.who n t isnt))
       (there_set id left t at refl (speaks_later v p ps t is isnt) (r.there t small)))))
 

@@ -25,15 +25,15 @@ signs_to st m found m' = (u : ℕ) → st.word ≡ sign_at m.0.part.core.room u 
 
 -- ---- own_sign: what the seat finds in its own sign stays so, unless it is 0 and others may sign the seat
 
-abbrev pub reading : Sight → ℕ → Sight
-reading v k = knowing v (has_read v.part.core k)
+abbrev pub having_read : Sight → ℕ → Sight
+having_read v k = knowing v (has_read v.part.core k)
 
 abbrev pub finding_none : Sight → Sight
 finding_none v = knowing v (found_none v.part.core)
 
 abbrev pub reads_to : Step Cell → Sat → ℕ → Sat → Type 0
 reads_to st m found m' = st.word ≡ sign_at m.0.part.core.room m.0.part.core.who →
-    (found ≢ 0 → m' ≡ (reading m.0 found, m.1)) × (found ≡ 0 → IsQuiet m.0.part.core → m' ≡ (reading m.0 0, m.1))
+    (found ≢ 0 → m' ≡ (having_read m.0 found, m.1)) × (found ≡ 0 → IsQuiet m.0.part.core → m' ≡ (having_read m.0 0, m.1))
     × (found ≡ 0 → ¬ IsQuiet m.0.part.core → m' ≡ (finding_none m.0, m.1))
 
 -- ---- clear: the own sign becomes 0

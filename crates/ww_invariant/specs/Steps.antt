@@ -166,8 +166,8 @@ places_to about st m found m' = (r : Record) → about ≡ Some r → (m' ≡ (p
 abbrev pub nobody : Sight
 nobody = record { seated = false; part = first_part WoundWait 0 0 0; held = []; idle = [] }
 
-abbrev pub seat_of : ℕ → Part → Sight
-seat_of size p = record { seated = true; part = p; held = replicate size None; idle = [] }
+abbrev pub sight_of : ℕ → Part → Sight
+sight_of size p = record { seated = true; part = p; held = replicate size None; idle = [] }
 
 abbrev pub rest_of : List Part → List Part
 rest_of [] = []
@@ -176,7 +176,7 @@ rest_of (p ∷ ps) = ps
 -- the seat of the first of the idle numbers
 abbrev pub first_seat : ℕ → List Part → Sight
 first_seat size [] = nobody
-first_seat size (p ∷ ps) = seat_of size p
+first_seat size (p ∷ ps) = sight_of size p
 
 abbrev pub without_first : Sight → Sight
 without_first v = record v { idle = rest_of v.idle }

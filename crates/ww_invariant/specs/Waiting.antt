@@ -66,13 +66,13 @@ abbrev pub taking_inside : Sight → ℕ → Node → Sight
 taking_inside v n x = record v { part = record (v.part) { core = taken v.part.core n }; held = slice_set v.held n (Some x) }
 
 -- a slot more is out, below the one taken last
-abbrev pub below : ℕ × Cell → List (ℕ × Cell) → List (ℕ × Cell)
-below x [] = x ∷ []
-below x (y ∷ ys) = y ∷ x ∷ ys
+abbrev pub under_top : ℕ × Cell → List (ℕ × Cell) → List (ℕ × Cell)
+under_top x [] = x ∷ []
+under_top x (y ∷ ys) = y ∷ x ∷ ys
 
 abbrev pub takes_inside : ℕ → Owner → Sat → Sat → Type 0
 takes_inside n o m m' = (x : Node) × IsNodeOf (length m.0.held) x
-    × (m' ≡ (taking_inside m.0 n x, below (n, Content x) m.1)) × StandsIfWaiting m.0.part.core
+    × (m' ≡ (taking_inside m.0 n x, under_top (n, Content x) m.1)) × StandsIfWaiting m.0.part.core
 
 -- ---- give: the lock is nobody's, or the first waiter's if that was asked for, and its node goes home
 

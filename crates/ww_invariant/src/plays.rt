@@ -64,14 +64,14 @@ impl Play<Cell, Sight> for End {
 }
 
 /// The type parameter W of a commit, which names its record, since a step is given only numbers.
-pub trait Said {
+pub trait NamesRecord {
     ghost use Rattle.std.specs.Prelude.{Option};
     ghost use Rattle.ww_plain.specs.declared.history.Record.{Record};
 
     ghost about: { Option Record };
 }
 
-impl Said for Brand {
+impl NamesRecord for Brand {
     ghost use Rattle.std.specs.Prelude.{None};
 
     ghost about = { None };
@@ -81,7 +81,7 @@ pub struct Commit<W> {
     said: PhantomData<W>,
 }
 
-impl<W: Said> Play<Cell, Sight> for Commit<W> {
+impl<W: NamesRecord> Play<Cell, Sight> for Commit<W> {
     ghost use Rattle.ww_invariant.specs.Steps.{places_to};
 
     ghost then = { places_to W.about };

@@ -22,7 +22,7 @@ use Rattle.ww_wakes.specs.Ties.{IsInCall, IsResting, also, mover}
 use Rattle.ww_wakes.proofs.Woken.{debt_was}
 use Rattle.ww_wakes.proofs.Calls.{shown_is_a_step, leaving_is_a_step, sign_look_is_a_step, cancel_look_is_a_step, others_leave_calls_alone, call_stays}
 use Rattle.ww_wakes.proofs.Rests.{start_is_in_call, leaving_comes_to_rest, rest_stays, rising_is_in_call}
-use Rattle.ww_live.specs.Views.{Finds, looks, notes, reads, keeps, misses, glances, pends, is_shut_out, steps, FindsOn, no_more, more, MayByView, MadeBy, IsViewedRun, ViewedRunsAreRuns, ViewedWaitersSleep, ViewedDeadlocksEnd, ViewedRunsAreThere, LooksAgainStill, LaterStays, ViewedRunsAsk}
+use Rattle.ww_live.specs.Views.{Learns, looks, notes, reads, keeps, misses, glances, pends, is_shut_out, steps, FindsOn, no_more, more, MayByView, MadeBy, IsViewedRun, ViewedRunsAreRuns, ViewedWaitersSleep, ViewedDeadlocksEnd, ViewedRunsAreThere, LooksAgainStill, LaterStays, ViewedRunsAsk}
 use Rattle.ww_live.proofs.Deadlocks.{no_deadlock_lasts}
 use Rattle.ww_live.proofs.Asked.{who_leaves_has_asked}
 use Rattle.ww_wakes.proofs.Endless.{holds_at}
@@ -36,7 +36,7 @@ record FoundKeeps (v w : View) : Type 0 where
   later : w.later ≡ v.later
   uncancelled : w.uncancelled ≡ v.uncancelled
 
-found_keeps : (c : State) (v w : View) → Finds c v w → FoundKeeps v w
+found_keeps : (c : State) (v w : View) → Learns c v w → FoundKeeps v w
 found_keeps c v w keeps = record { who = refl; inside = refl; later = refl; uncancelled = refl }
 found_keeps c v w _ = record { who = refl; inside = refl; later = refl; uncancelled = refl }
 
@@ -55,7 +55,7 @@ later_stays c v = record {
 
 -- ---- what a seat finds keeps it in its call, or at rest
 
-knows_found : (c : State) (v w : View) → Knows c v → Finds c v w → Knows c w
+knows_found : (c : State) (v w : View) → Knows c v → Learns c v w → Knows c w
 knows_found c v w k (looks n at) = mine_look c v k n _ at refl
 knows_found c v w k (notes u signed) = mine_lost_sign c v k u signed
 knows_found c v w k (reads signed) = mine_read c v k (c.sign v.who) refl (λ none. absurd (signed none))
@@ -66,7 +66,7 @@ knows_found c v w k pends = mine_found_pending c v k
 knows_found c v w k is_shut_out = mine_shut_out c v k
 knows_found c v w k steps = mine_stepped c v k
 
-fresh_before : (c : State) (v w : View) → Finds c v w → w.fresh ≡ true → v.fresh ≡ true
+fresh_before : (c : State) (v w : View) → Learns c v w → w.fresh ≡ true → v.fresh ≡ true
 fresh_before c v w (reads signed) fresh = absurd (signed (same_number (c.sign v.who) 0 fresh))
 fresh_before c v w glances fresh = fresh
 fresh_before c v w pends fresh = fresh
@@ -79,7 +79,7 @@ IsPlaced w v = (us : List ℕ) × (IsInCall w v us ⊎ IsResting w v us)
 knows_placed : (w : Scene) (v : View) → IsPlaced w v → Knows w.core v
 knows_placed w v p = ⊎_elim (λ (i : IsInCall w v p.0). i.knows) (λ (i : IsResting w v p.0). i.knows) p.1
 
-placed_found : (w : Scene) (v v' : View) → Finds w.core v v' → IsPlaced w v → IsPlaced w v'
+placed_found : (w : Scene) (v v' : View) → Learns w.core v v' → IsPlaced w v → IsPlaced w v'
 placed_found w v v' f p = let c = w.core in let keeps = found_keeps c v v' f in let us = p.0 in
     let same = keeps.who in let inside = keeps.inside in (
       us,

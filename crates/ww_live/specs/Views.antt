@@ -20,21 +20,21 @@ use Rattle.ww_live.specs.Theorem.{AreDeadlocked, IsResolved}
 
 -- What the view of a seat becomes where the seat finds something without an event and without a step of the scene: it
 -- reads the owner word inside, sees that a seat or itself is signed, or its step was lost or told nothing that lasts.
-pub data Finds (c : State) (v : View) : View → Type 0 where
-  looks : (n : ℕ) → v.inside ≡ suc n → Finds c v (has_looked v (word_of c n))
-  notes : (u : ℕ) → c.sign u ≢ 0 → Finds c v (noted v u)
-  reads : c.sign v.who ≢ 0 → Finds c v (has_read v (c.sign v.who))
-  keeps : Finds c v (fast_kept v)
-  misses : Finds c v (fast_missed v)
-  glances : Finds c v (glanced v)
-  pends : Finds c v (found_pending v)
-  is_shut_out : Finds c v (shut_out v)
-  steps : Finds c v (stepped v)
+pub data Learns (c : State) (v : View) : View → Type 0 where
+  looks : (n : ℕ) → v.inside ≡ suc n → Learns c v (has_looked v (word_of c n))
+  notes : (u : ℕ) → c.sign u ≢ 0 → Learns c v (noted v u)
+  reads : c.sign v.who ≢ 0 → Learns c v (has_read v (c.sign v.who))
+  keeps : Learns c v (fast_kept v)
+  misses : Learns c v (fast_missed v)
+  glances : Learns c v (glanced v)
+  pends : Learns c v (found_pending v)
+  is_shut_out : Learns c v (shut_out v)
+  steps : Learns c v (stepped v)
 
 -- ... any number of times
 pub data FindsOn (c : State) (v : View) : View → Type 0 where
   no_more : FindsOn c v v
-  more : (between after : View) → FindsOn c v between → Finds c between after → FindsOn c v after
+  more : (between after : View) → FindsOn c v between → Learns c between after → FindsOn c v after
 
 -- The seat with this view may make the step, by its view and by what it finds in the words: an event that its view
 -- shows; as a waiter out of a guard, where the table lets it, in order to sleep, and not otherwise; a look at its sign
@@ -112,7 +112,7 @@ pub record LooksAgainStill (v w : View) : Type 0 where
 pub record LooksOn (c : State) (v : View) : Type 0 where
   pub event : (e : Event) → ((s n : ℕ) → e ≢ Guard s n) → ((s n : ℕ) → e ≢ Unguard s n) →
       LooksAgainStill v (view_after c e v)
-  pub finds : (w : View) → Finds c v w → LooksAgainStill v w
+  pub finds : (w : View) → Learns c v w → LooksAgainStill v w
 
 abbrev pub LaterStays : Type 0
 LaterStays = (c : State) (v : View) → LooksOn c v

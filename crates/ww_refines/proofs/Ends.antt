@@ -11,13 +11,13 @@ use Rattle.ww_wakes.specs.Theorem.{WakesArrive, HasToWait}
 use Rattle.ww_wakes.proofs.Endless.{nobody_sleeps_in_vain, sleep_for_ever_is_a_wait}
 use Rattle.ww_refines.specs.Moment.{Moment, core, view}
 use Rattle.ww_refines.specs.Moves.{Follows}
-use Rattle.ww_refines.specs.Runs.{IsPhase, IsShownBy, ShowsScene, GoesAlong, HasToWaitThere}
+use Rattle.ww_refines.specs.Runs.{IsPhase, IsSceneOf, ShowsScene, GoesAlong, HasToWaitThere}
 use Rattle.ww_refines.specs.Endless.{IsEndless, step_of, RunsAlong, EndlessRunsShowScenes, WakesArriveThere, NobodySleepsInVainInRuns, SleepForEverIsAWaitInRuns}
 use Rattle.ww_refines.proofs.Following.{moves_are_steps, others_are_none, is_asleep, wakes_not}
 use Rattle.ww_refines.proofs.Wholes.{run_shows}
 
 -- a number that no seat has may find no sign at any time, and that changes nothing that a moment shows
-idly : {key : Start} (m m' : Moment key) (w : Scene) → IsShownBy m w → Follows m m' None →
+idly : {key : Start} (m m' : Moment key) (w : Scene) → IsSceneOf m w → Follows m m' None →
     GoesAlong m' w (finds_no_sign key.seats)
 idly {key = key} m m' w shown follows = let h = others_are_none key m m' w shown follows in
     let c = core m in let same : key.seats ≤ key.seats = omega arith in record {
@@ -42,7 +42,7 @@ idly {key = key} m m' w shown follows = let h = others_are_none key m m' w shown
       };
     }
 
-goes_along : {key : Start} (m m' : Moment key) (w : Scene) (x : Option Step) → IsReached w → IsShownBy m w →
+goes_along : {key : Start} (m m' : Moment key) (w : Scene) (x : Option Step) → IsReached w → IsSceneOf m w →
     Follows m m' x →
     GoesAlong m' w (step_of key x)
 goes_along m m' w None reached shown follows = idly m m' w shown follows

@@ -22,7 +22,7 @@ use Rattle.ww_wakes.proofs.Keeping.{guards_are_held_awake}
 use Rattle.ww_wakes.proofs.Calls.{leaving_is_a_step}
 use Rattle.ww_refines.specs.Moment.{Moment, core, view, HasToWake, Acts}
 use Rattle.ww_refines.specs.Moves.{cancelled_after, OthersStay, MakesEvent, Performs, LeavesToSleep, FindsNoSign, FindsNoCancel, Notes, Reads, StaysThere, Rings, Parks, Rises, StandsStill}
-use Rattle.ww_refines.specs.Runs.{IsPhase, IsShownBy, GoesAlong, MovesAreSteps, OthersAreNone}
+use Rattle.ww_refines.specs.Runs.{IsPhase, IsSceneOf, GoesAlong, MovesAreSteps, OthersAreNone}
 use Rattle.std.proofs.lemmas.Bool.{cases_Bool}
 use Rattle.ww_refines.proofs.Owed.{owed_grows, newly_owed, woken_other, condemned_owed, not_fresh, still_uncancelled, others_uncancelled}
 
@@ -125,7 +125,7 @@ module _ {key : Start} (m m' : Moment key) (e : Event) (makes : MakesEvent m m' 
     owed = let a = h.owed in let b = grows s u h.waker in let c = rung_is s u in omega arith;
   }
 
-  module _ (w : Scene) (shown : IsShownBy m w) where
+  module _ (w : Scene) (shown : IsSceneOf m w) where
     still_even : (s u : ℕ) → s < key.seats → m'.rung s u ≤ wakes_owed (m'.part s) u
     still_even s u there = let a = shown.even s u there in let b = grows s u there in let c = rung_is s u in omega arith
 
@@ -188,7 +188,7 @@ module _ {key : Start} (m m' : Moment key) (e : Event) (makes : MakesEvent m m' 
     core_then : after w.core e ≡ m'.ruled.core
     core_then = ap (λ c. after c e) shown.core ∙ sym makes.core
 
-performs_on : {key : Start} (m m' : Moment key) (w : Scene) (e : Event) → IsShownBy m w → Performs m m' e →
+performs_on : {key : Start} (m m' : Moment key) (w : Scene) (e : Event) → IsSceneOf m w → Performs m m' e →
     GoesAlong m' w (performs e)
 performs_on m m' w e shown p = let a = p.makes in record {
   may = record { acts = acts_there m m' e a w shown; possible = possible m m' e a w shown };
@@ -227,7 +227,7 @@ has_below zero u low = absurd (omega arith)
 has_below (suc n) u low = dite (ℕ_discrete u n) (λ is. inl is) (λ isnt. inr (has_below n u (omega arith)))
 
 -- the seat that acts is in its call
-in_call : {key : Start} (m : Moment key) (w : Scene) (t : ℕ) → IsShownBy m w → Acts m t →
+in_call : {key : Start} (m : Moment key) (w : Scene) (t : ℕ) → IsSceneOf m w → Acts m t →
     IsInCall w (view m t) (below key.seats)
 in_call {key = key} m w t shown acts = let who = who_there m t acts.seat in record {
   knows = subst (λ c. Knows c (view m t)) (sym shown.core) (knows_there m t acts.seat);
@@ -239,7 +239,7 @@ in_call {key = key} m w t shown acts = let who = who_there m t acts.seat in reco
 }
 
 module _ {key : Start} (m m' : Moment key) (w : Scene) where
-  leaves_on : (s n : ℕ) (heeds : Bool) → IsReached w → IsShownBy m w → LeavesToSleep m m' s n heeds →
+  leaves_on : (s n : ℕ) (heeds : Bool) → IsReached w → IsSceneOf m w → LeavesToSleep m m' s n heeds →
       GoesAlong m' w (leaves_to_sleep s n heeds)
   leaves_on s n heeds reached shown p = let a = p.makes in let e = Unguard s n in
       let who = who_there m s a.there.acts.seat in
@@ -277,7 +277,7 @@ module _ {key : Start} (m m' : Moment key) (w : Scene) where
 
 -- ---- a step at the table that is no event
 
-module _ {key : Start} (m m' : Moment key) (w : Scene) (t : ℕ) (shown : IsShownBy m w)
+module _ {key : Start} (m m' : Moment key) (w : Scene) (t : ℕ) (shown : IsSceneOf m w)
     (sits : t < key.seats) (there : OthersStay m m' t) (same_core : m'.ruled.core ≡ m.ruled.core)
     (cancelled : (m'.part t).counts.cancelled ≡ (m.part t).counts.cancelled) (same_heeds : m'.heeds ≡ m.heeds)
     (inside : (view m' t).inside ≡ (view m t).inside) (condemned : (view m' t).condemned ≡ (view m t).condemned)
@@ -296,7 +296,7 @@ module _ {key : Start} (m m' : Moment key) (w : Scene) (t : ℕ) (shown : IsShow
   given_still : (s u : ℕ) → m'.rung s u ≡ m.rung s u
   given_still s u = ap (λ (f : ℕ → ℕ → ℕ). f s u) there.rung
 
-  looked : IsShownBy m' w'
+  looked : IsSceneOf m' w'
   looked = record {
     core = core ∙ shown.core ∙ sym same_core;
     token = token ∙ shown.token ∙ sym there.token;
@@ -337,7 +337,7 @@ of_sign_look : {A : Type 0} (f : View → A) (v v' : View) → f (found_none v) 
 of_sign_look f v v' a b (inl is) = ap f is ∙ a
 of_sign_look f v v' a b (inr is) = ap f is ∙ b
 
-finds_no_sign_on : {key : Start} (m m' : Moment key) (w : Scene) (s : ℕ) → IsShownBy m w → FindsNoSign m m' s →
+finds_no_sign_on : {key : Start} (m m' : Moment key) (w : Scene) (s : ℕ) → IsSceneOf m w → FindsNoSign m m' s →
     GoesAlong m' w (finds_no_sign s)
 finds_no_sign_on m m' w s shown p = let v = view m s in let v' = view m' s in let acts = p.looks.there.acts in
     let inside = of_sign_look (λ (v : View). v.inside) v v' refl refl p.view in record {
@@ -356,7 +356,7 @@ finds_no_sign_on m m' w s shown p = let v = view m s in let v' = view m' s in le
           (λ u isnt had. put_else w.found_no_sign s true u isnt ∙ had) (λ u isnt had. had);
     }
 
-finds_no_cancel_on : {key : Start} (m m' : Moment key) (w : Scene) (s : ℕ) → IsShownBy m w → FindsNoCancel m m' s →
+finds_no_cancel_on : {key : Start} (m m' : Moment key) (w : Scene) (s : ℕ) → IsSceneOf m w → FindsNoCancel m m' s →
     GoesAlong m' w (finds_no_cancel s)
 finds_no_cancel_on m m' w s shown p = let v = view m s in let acts = p.looks.there.acts in record {
   may = (
@@ -371,21 +371,21 @@ finds_no_cancel_on m m' w s shown p = let v = view m s in let acts = p.looks.the
       (λ u isnt had. put_else w.found_no_cancel s true u isnt ∙ had);
 }
 
-notes_on : {key : Start} (m m' : Moment key) (w : Scene) (t : ℕ) → IsShownBy m w → Notes m m' t → IsShownBy m' w
+notes_on : {key : Start} (m m' : Moment key) (w : Scene) (t : ℕ) → IsSceneOf m w → Notes m m' t → IsSceneOf m' w
 notes_on m m' w t shown p = let seat = p.looks.there.acts.seat in let n = p.view in
     looked m m' w t shown seat p.looks.there.stay p.looks.core p.looks.cancelled p.looks.heeds n.inside n.condemned n.debts n.naps w refl refl refl refl refl
     (λ i fresh. shown.fresh t seat (λ out. i (n.inside ∙ out)) (n.fresh fresh))
     (λ i none. shown.uncancelled t seat (λ out. i (n.inside ∙ out)) (n.uncancelled none))
     (λ u isnt had. had) (λ u isnt had. had)
 
-reads_on : {key : Start} (m m' : Moment key) (w : Scene) (t : ℕ) → IsShownBy m w → Reads m m' t → IsShownBy m' w
+reads_on : {key : Start} (m m' : Moment key) (w : Scene) (t : ℕ) → IsSceneOf m w → Reads m m' t → IsSceneOf m' w
 reads_on m m' w t shown p = let n = p.view in let out = n.inside ∙ p.outside in
     looked m m' w t shown p.rests.seat p.stay p.core p.cancelled p.heeds n.inside n.condemned n.debts n.naps w refl refl refl refl refl
     (λ inside _. absurd (inside out)) (λ inside _. absurd (inside out)) (λ u isnt had. had) (λ u isnt had. had)
 
 -- ---- beside the table
 
-module _ {key : Start} (m m' : Moment key) (w : Scene) (shown : IsShownBy m w) (stays : StaysThere m m') where
+module _ {key : Start} (m m' : Moment key) (w : Scene) (shown : IsSceneOf m w) (stays : StaysThere m m') where
   part_is : (t : ℕ) → t < key.seats → m'.part t ≡ m.part t
   part_is t low = stays.parts t low
 
@@ -433,7 +433,7 @@ module _ {key : Start} (m m' : Moment key) (w : Scene) (shown : IsShownBy m w) (
         (condemned_is s low) h) other in
         let b = owed_is s u low in let c = given_is s u in omega arith
 
-parks_on : {key : Start} (m m' : Moment key) (w : Scene) (s : ℕ) → IsShownBy m w → Parks m m' s →
+parks_on : {key : Start} (m m' : Moment key) (w : Scene) (s : ℕ) → IsSceneOf m w → Parks m m' s →
     GoesAlong m' w (falls_asleep s)
 parks_on m m' w s shown p = let r = p.ready in record {
   may = record {
@@ -466,7 +466,7 @@ parks_on m m' w s shown p = let r = p.ready in record {
 
 -- ---- nothing
 
-stands_on : {key : Start} (m m' : Moment key) (w : Scene) → IsShownBy m w → StandsStill m m' → IsShownBy m' w
+stands_on : {key : Start} (m m' : Moment key) (w : Scene) → IsSceneOf m w → StandsStill m m' → IsSceneOf m' w
 stands_on m m' w shown p = record {
   core = shown.core ∙ sym p.stays.core;
   token = shown.token ∙ sym p.token;
@@ -488,7 +488,7 @@ others_are_none key m m' w shown follows =
 -- ---- a rise
 
 -- a seat that is inside a guard is so in the scene
-module _ {key : Start} (m : Moment key) (w : Scene) (t : ℕ) (shown : IsShownBy m w) (seat : t < key.seats)
+module _ {key : Start} (m : Moment key) (w : Scene) (t : ℕ) (shown : IsSceneOf m w) (seat : t < key.seats)
     (inside : (view m t).inside ≢ 0) where
   pub guard_there : (n : ℕ) × (w.core.guard n ≡ suc t)
   guard_there = let n : ℕ = (view m t).inside - 1 in let is : (view m t).inside ≡ suc n = omega arith in (
@@ -500,7 +500,7 @@ module _ {key : Start} (m : Moment key) (w : Scene) (t : ℕ) (shown : IsShownBy
   pub inside_acts : IsReached w → w.phase t ≡ acting
   inside_acts reached = guards_are_held_awake w reached t guard_there.0 guard_there.1
 
-rises_on : {key : Start} (m m' : Moment key) (w : Scene) (s : ℕ) → IsReached w → IsShownBy m w → Rises m m' s →
+rises_on : {key : Start} (m m' : Moment key) (w : Scene) (s : ℕ) → IsReached w → IsSceneOf m w → Rises m m' s →
     GoesAlong m' w (rises s)
 rises_on {key = key} m m' w s reached shown p = let r = p.rests.1 in
     let rests = not_acting (w.phase s) (m.asleep s) (m.risen s) (view m s).naps r.due (shown.phase s r.seat) in
@@ -552,7 +552,7 @@ gone_up f s u k x y = dite (ℕ_discrete x s)
     (λ other. inl (here ∙ put_else (f s) u (f s u + k) y other ∙ ap (λ z. f z y) (sym is))))
     (λ isnt. inl (ap (λ (g : ℕ → ℕ). g y) (put_else f s (put (f s) u (f s u + k)) x isnt)))
 
-rings_on : {key : Start} (m m' : Moment key) (w : Scene) (s u : ℕ) → IsShownBy m w → Rings m m' s u →
+rings_on : {key : Start} (m m' : Moment key) (w : Scene) (s u : ℕ) → IsSceneOf m w → Rings m m' s u →
     GoesAlong m' w (wakes s u)
 rings_on m m' w s u shown p = let seat = p.waker in
     let up : (x y : ℕ) → (m'.rung x y ≡ m.rung x y) ⊎ ((x ≡ s) × (y ≡ u) × (m'.rung x y ≡ m.rung x y + p.count)) =

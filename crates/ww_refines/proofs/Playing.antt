@@ -38,7 +38,7 @@ use Rattle.ww_invariant.proofs.Places as places
 use Rattle.ww_invariant.proofs.Seats.{splits_on, joins_on}
 use Rattle.ww_wakes.specs.Scene.{Step, performs, leaves_to_sleep, finds_no_sign, finds_no_cancel, first_of, woken_by}
 use Rattle.ww_wakes.proofs.Woken.{another_was}
-use Rattle.ww_refines.specs.Moment.{Moment, IsToldOf, core, view, Acts, Rests}
+use Rattle.ww_refines.specs.Moment.{Moment, IsToldOf, core, view, Acts, HasLeftToWait}
 use Rattle.ww_refines.specs.Moves.{IsRead, IsNoted, cancelled_after, OthersStay, StepsThere, MakesEvent, Looks}
 use Rattle.ww_refines.proofs.Seating.{told_cut, told_in}
 use Rattle.ww_refines.specs.Plays as play
@@ -283,7 +283,7 @@ module _ {key : Start} (m : Moment key) (id : ℕ) (me : Sat) (here : get_elem? 
 
   -- ---- a read from outside the guards
 
-  module _ (rests : Rests m who false) (out : me.0.part.core.inside ≡ 0) where
+  module _ (rests : HasLeftToWait m who false) (out : me.0.part.core.inside ≡ 0) where
     out_there : (view m who).inside ≡ 0
     out_there = ap (λ (p : Part). p.core.inside) (sym told_here) ∙ out
 

@@ -10,7 +10,7 @@ use Rattle.ww_invariant.specs.declared.cells.Part.{Part}
 use Rattle.ww_invariant.specs.declared.cells.Sight.{Sight}
 use Rattle.ww_invariant.specs.declared.cells.Start.{Start}
 use Rattle.ww_invariant.specs.Rule.{St, first_part, first_parts, first_sight}
-use Rattle.ww_invariant.specs.Steps.{nobody, seat_of, rest_of, first_seat, without_first, with_seat}
+use Rattle.ww_invariant.specs.Steps.{nobody, sight_of, rest_of, first_seat, without_first, with_seat}
 use Rattle.ww_invariant.proofs.Fits.{place_low}
 use Rattle.ww_refines.specs.Moment.{IsToldOf}
 use Rattle.ww_refines.specs.Runs.{NewTablesBegin}
@@ -117,7 +117,7 @@ module _ (s s' : St) (id : ℕ) (v : Sight) (here : get_elem? s.views id ≡ som
           IsToldOf s' t p
       idle_cut zero at mine = record {
         place = length s.views;
-        view = seat_of (length v.held) q;
+        view = sight_of (length v.held) q;
         stands = ap (λ (vs : List Sight). get_elem? vs (length s.views)) views
             ∙ at_last (set s.views id (without_first v)) (first_seat (length v.held) v.idle) (length s.views)
             (length-set s.views id (without_first v))

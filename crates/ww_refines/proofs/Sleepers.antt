@@ -9,7 +9,7 @@ use Rattle.ww_invariant.specs.Layout.{lock_at}
 use Rattle.ww_wakes.specs.Scene.{Step, wakes, rises}
 use Rattle.ww_wakes.specs.Theorem.{IsDue}
 use Rattle.ww_invariant.specs.Rule.{wakes_owed}
-use Rattle.ww_refines.specs.Moment.{Moment, HasToWake, Rests}
+use Rattle.ww_refines.specs.Moment.{Moment, HasToWake, HasLeftToWait}
 use Rattle.ww_refines.specs.Moves.{Follows}
 use Rattle.ww_refines.specs.Endless.{IsEndlessThere, SleepsForEverThere, SleepsInVainThere, SleepersAreInEndlessRuns}
 use Rattle.ww_refines.proofs.Standstill.{idles}
@@ -115,7 +115,7 @@ module _ (kind : Kind) where
   unfolding put ℕ_discrete
   sleeping_on = ap (λ (f : ℕ → Bool). f 1) rings.at.asleep
 
-  rests : Rests rung 1 true
+  rests : HasLeftToWait rung 1 true
   rests = record {
     seat = omega arith;
     is_asleep = sleeping_on;

@@ -41,7 +41,7 @@ use Rattle.ww_invariant.specs.Layout.{lock_at, owner_at, guard_at, sign_at, canc
 use Rattle.ww_invariant.specs.Rule.{St, Sat, first_graph, Sits}
 use Rattle.ww_invariant.specs.Steps.{knowing, taker, taking, giving, drawing, drawing_none, placing, MayDraw, MayEnd, MayPlace, draws_to, takes_to, gives_to, takes_bare_to, gives_bare_to, ends_to, places_to}
 use Rattle.ww_invariant.specs.Guards.{entering, exiting, enters_to, exits_to, looks_to}
-use Rattle.ww_invariant.specs.Waiting.{tries_to, below, joining, joins, taking_inside, takes_inside, takes_bare_inside, giving_inside, gives_inside, gives_bare_inside, asking, asks, dying, dies, dies_to}
+use Rattle.ww_invariant.specs.Waiting.{tries_to, under_top, joining, joins, taking_inside, takes_inside, takes_bare_inside, giving_inside, gives_inside, gives_bare_inside, asking, asks, dying, dies, dies_to}
 use Rattle.ww_invariant.specs.Signs.{condemning, clearing, signs_to, reads_to}
 use Rattle.ww_invariant.specs.Cancels.{cancelling, heeding, stopping, stops, cancels_to, heeds_to, leaves_to}
 use Rattle.ww_invariant.proofs.Fits.{place_low}
@@ -342,7 +342,7 @@ module _ {key : Start} (m : Moment key) (id : ℕ) (me : Sat) (h : StandsThere m
         made.can.base.free) in
         let out : get_elem? homes (list_at n) ≡ some none = (subst (λ (l : List (ℕ × Cell)). AreOut homes l) top h.out).0 in
         let slots : carried_after me.1 a ≡ (list_at n, y) ∷ (n, Content won.0) ∷ others =
-        ap (λ (z : Sat). z.1) won.2 ∙ ap (below (n, Content won.0)) top in
+        ap (λ (z : Sat). z.1) won.2 ∙ ap (under_top (n, Content won.0)) top in
         let cells : Content won.0 ≡ Content x = second_came homes me.1 a h.out fits others (list_at n, y) n (Content won.0) (Content x)
         (λ z. omega arith) slots home in
         let same : won.0 ≡ x = cc in
@@ -357,8 +357,8 @@ module _ {key : Start} (m : Moment key) (id : ℕ) (me : Sat) (h : StandsThere m
             ),
           ),
         )
-        (won.2 ∙ ap (λ (z : Node). let s : Sat = (taking_inside me.0 n z, below (n, Content z) me.1) in s) same
-        ∙ (λ j. (taking_inside me.0 n x, (ap (below (n, Content x)) top ∙ sym (ap (λ (l : List (ℕ × Cell)). carried_after l (take_act x y)) top)) j)))
+        (won.2 ∙ ap (λ (z : Node). let s : Sat = (taking_inside me.0 n z, under_top (n, Content z) me.1) in s) same
+        ∙ (λ j. (taking_inside me.0 n x, (ap (under_top (n, Content x)) top ∙ sym (ap (λ (l : List (ℕ × Cell)). carried_after l (take_act x y)) top)) j)))
         (play.takes_inside n o y others small may valid is top))
 
     pub word_steps : WordSteps m id me n o

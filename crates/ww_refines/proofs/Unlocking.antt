@@ -22,7 +22,7 @@ use Rattle.ww_live.specs.Theorem.{AreDeadlocked}
 use Rattle.ww_live.proofs.Asked.{who_leaves_has_asked}
 use Rattle.ww_live.proofs.Deadlocks.{no_deadlock_lasts}
 use Rattle.ww_live.proofs.Handoff.{waits_end}
-use Rattle.ww_refines.specs.Moment.{Moment, core, view, Acts, Rests}
+use Rattle.ww_refines.specs.Moment.{Moment, core, view, Acts, HasLeftToWait}
 use Rattle.ww_refines.specs.Moves.{OthersStay, Performs, Follows}
 use Rattle.ww_refines.specs.Runs.{IsPhase}
 use Rattle.ww_refines.specs.Endless.{IsEndless, step_of, RunsAlong}
@@ -171,7 +171,7 @@ module _ {key : Start} (moment : ℕ → Moment key) (move : ℕ → Option Step
       (moment i) s).naps) is
       ((a.shown i).phase s low) in record { seat = low; awake = h.0; risen = h.1 }
 
-  rests_there : (i : ℕ) → (a.scene i).phase s ≡ going_to_sleep → Rests (moment i) s false
+  rests_there : (i : ℕ) → (a.scene i).phase s ≡ going_to_sleep → HasLeftToWait (moment i) s false
   rests_there i is = let h = subst (λ p. IsPhase p ((moment i).asleep s) ((moment i).risen s) (view
       (moment i) s).naps) is
       ((a.shown i).phase s low) in record { seat = low; is_asleep = h.0; due = h.1 }

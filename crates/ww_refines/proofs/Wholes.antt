@@ -7,7 +7,7 @@ use Rattle.ww_wakes.proofs.Keeping.{no_wake_is_lost}
 use Rattle.ww_refines.specs.Moment.{Moment, view}
 use Rattle.ww_refines.specs.Moves.{Follows}
 use Rattle.ww_refines.specs.Runs as runs
-use Rattle.ww_refines.specs.Runs.{IsPhase, IsShownBy, ShowsScene, IsOfRun, StartIsStart, RunsShowScenes, NoWakeIsLostInRuns, GuardsAreHeldAwakeInRuns}
+use Rattle.ww_refines.specs.Runs.{IsPhase, IsSceneOf, ShowsScene, IsOfRun, StartIsStart, RunsShowScenes, NoWakeIsLostInRuns, GuardsAreHeldAwakeInRuns}
 use Rattle.ww_refines.proofs.Following.{moves_are_steps, others_are_none, is_asleep, wakes_not, inside_acts}
 
 pub start_is_start : StartIsStart

@@ -8,7 +8,7 @@ use Rattle.ww_invariant.specs.declared.cells.Start.{Start}
 use Rattle.ww_wakes.specs.Scene.{Step, performs, wakes, rises}
 use Rattle.ww_live.specs.Premises.{InTheEnd, LeavesToSleep, FirstsAsk}
 use Rattle.ww_live.specs.Theorem.{AreDeadlocked}
-use Rattle.ww_refines.specs.Moment.{Moment, core, view, HasToWake, Acts, Rests}
+use Rattle.ww_refines.specs.Moment.{Moment, core, view, HasToWake, Acts, HasLeftToWait}
 use Rattle.ww_refines.specs.Runs.{IsOfRun}
 use Rattle.ww_refines.specs.Endless.{IsEndless, step_of, RunsAlong}
 
@@ -34,7 +34,7 @@ pub record IsScheduledThere {key : Start} (moment : ℕ → Moment key) (move : 
   pub made : (i t : ℕ) → HasToWake (moment i) t s → InTheEnd i (λ j. move j ≡ Some (wakes t s))
   pub heard : (i : ℕ) → (moment i).token s ≡ true → (moment i).asleep s ≡ true →
       InTheEnd i (λ j. move j ≡ Some (rises s))
-  pub settled : (i : ℕ) → Rests (moment i) s false → InTheEnd i (λ j. ¬ Rests (moment j) s false)
+  pub settled : (i : ℕ) → HasLeftToWait (moment i) s false → InTheEnd i (λ j. ¬ HasLeftToWait (moment j) s false)
   pub looks : (i n : ℕ) → (view (moment i) s).waits ≡ suc n → Acts (moment i) s →
       InTheEnd i (λ j. (view (moment j) s).inside ≡ suc n)
   pub leaves : (i n : ℕ) → (view (moment i) s).waits ≡ suc n → (view (moment i) s).inside ≡ suc n →

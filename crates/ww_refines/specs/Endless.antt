@@ -6,7 +6,7 @@ use Rattle.ww_wakes.specs.Scene.{Scene, Step, finds_no_sign, wakes, rises}
 use Rattle.ww_wakes.specs.Theorem.{IsEndlessRun}
 use Rattle.ww_refines.specs.Moment.{Moment, HasToWake}
 use Rattle.ww_refines.specs.Moves.{Follows}
-use Rattle.ww_refines.specs.Runs.{IsShownBy, IsOfRun, HasToWaitThere}
+use Rattle.ww_refines.specs.Runs.{IsSceneOf, IsOfRun, HasToWaitThere}
 
 -- an endless run of threads, with what leads from each moment to the next
 pub record IsEndless {key : Start} (moment : ℕ → Moment key) (move : ℕ → Option Step) : Type 0 where
@@ -22,7 +22,7 @@ step_of key (Some x) = x
 pub record RunsAlong {key : Start} (moment : ℕ → Moment key) (move : ℕ → Option Step) : Type 0 where
   pub scene : ℕ → Scene
   pub run : IsEndlessRun scene (λ i. step_of key (move i))
-  pub shown : (i : ℕ) → IsShownBy (moment i) (scene i)
+  pub shown : (i : ℕ) → IsSceneOf (moment i) (scene i)
 
 -- each endless run of threads shows an endless run of the scene
 abbrev pub EndlessRunsShowScenes : Type 0

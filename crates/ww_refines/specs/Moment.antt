@@ -10,8 +10,8 @@ use Rattle.ww_invariant.specs.declared.cells.Start.{Start}
 use Rattle.ww_invariant.specs.Rule.{St, Ruled, first_part, wakes_owed}
 
 -- a view of the table tells this: of the seat that steps by it, or of one that lies idle in it
-abbrev pub Tells : Sight → Part → Type 0
-Tells v p = (v.part ≡ p) ⊎ ((k : ℕ) × (get_elem? v.idle k ≡ some p))
+abbrev pub TellsPart : Sight → Part → Type 0
+TellsPart v p = (v.part ≡ p) ⊎ ((k : ℕ) × (get_elem? v.idle k ≡ some p))
 
 -- some view of the table tells this of seat t
 pub record IsToldOf (s : St) (t : ℕ) (p : Part) : Type 0 where
@@ -19,7 +19,7 @@ pub record IsToldOf (s : St) (t : ℕ) (p : Part) : Type 0 where
   pub view : Sight
   pub stands : get_elem? s.views place ≡ some view
   pub seated : view.seated ≡ true
-  pub tells : Tells view p
+  pub tells : TellsPart view p
   pub who : p.core.who ≡ t
 
 -- The table, by its rule, and what it tells of each seat. Beside it: for how many of the wakes that a seat owed each other
@@ -59,13 +59,13 @@ module _ {key : Start} (m : Moment key) where
     pub risen : m.risen t ≡ (view t).naps
 
   -- it left a guard as a waiter, and hasn't risen since; it sleeps, or is about to
-  pub record Rests (t : ℕ) (sleeps : Bool) : Type 0 where
+  pub record HasLeftToWait (t : ℕ) (sleeps : Bool) : Type 0 where
     pub seat : t < key.seats
     pub is_asleep : m.asleep t ≡ sleeps
     pub due : m.risen t + 1 ≡ (view t).naps
 
   -- nothing was done yet
-  pub record IsFirst : Type 0 where
+  pub record IsFirstMoment : Type 0 where
     pub core : m.ruled.core ≡ start key.kind key.locks key.places
     pub parts : (t : ℕ) → t < key.seats → m.part t ≡ first_part key.kind key.locks key.places t
     pub rung : m.rung ≡ (λ _ _. 0)

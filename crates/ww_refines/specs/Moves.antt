@@ -10,7 +10,7 @@ use Rattle.ww_view.specs.Made.{view_after, found_none, has_read, found_uncancell
 use Rattle.ww_invariant.specs.declared.cells.Start.{Start}
 use Rattle.ww_wakes.specs.Scene.{Step, performs, leaves_to_sleep, finds_no_sign, finds_no_cancel, wakes, falls_asleep, rises, woken_by}
 use Rattle.ww_invariant.specs.Rule.{wakes_owed}
-use Rattle.ww_refines.specs.Moment.{Moment, core, view, HasToWake, Acts, Rests}
+use Rattle.ww_refines.specs.Moment.{Moment, core, view, HasToWake, Acts, HasLeftToWait}
 
 -- the seats whose cancel a seat has set, after its event
 abbrev pub cancelled_after : Event → List ℕ → List ℕ
@@ -104,7 +104,7 @@ module _ {key : Start} (m m' : Moment key) where
   -- A seat that left a guard as a waiter, and is about to fall asleep, reads something from outside the guards. What its view
   -- says of its sign and its cancel matters inside only, and it has found neither when it goes there.
   pub record Reads (t : ℕ) : Type 0 where
-    pub rests : Rests m t false
+    pub rests : HasLeftToWait m t false
     pub outside : (view m t).inside ≡ 0
     pub stay : OthersStay t
     pub core : m'.ruled.core ≡ m.ruled.core
@@ -137,7 +137,7 @@ module _ {key : Start} (m m' : Moment key) where
   -- a seat that left a guard as a waiter falls asleep, once it has woken all whom it has to wake
   pub record Parks (s : ℕ) : Type 0 where
     pub stays : StaysThere
-    pub ready : Rests m s false
+    pub ready : HasLeftToWait m s false
     pub paid : (u : ℕ) → ¬ HasToWake m s u
     pub asleep : m'.asleep ≡ put m.asleep s true
     pub rung : m'.rung ≡ m.rung
@@ -147,7 +147,7 @@ module _ {key : Start} (m m' : Moment key) where
   -- it rises, for a token, which it takes, or by chance; or it finds one as it is about to sleep
   pub record Rises (s : ℕ) : Type 0 where
     pub stays : StaysThere
-    pub rests : (sleeps : Bool) × Rests m s sleeps
+    pub rests : (sleeps : Bool) × HasLeftToWait m s sleeps
     pub risen : m'.risen ≡ put m.risen s (m.risen s + 1)
     pub asleep : m'.asleep ≡ put m.asleep s false
     pub token : m'.token ≡ put m.token s false

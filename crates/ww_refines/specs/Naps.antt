@@ -7,7 +7,7 @@ use Rattle.ww_invariant.specs.declared.cells.Sight.{Sight}
 use Rattle.ww_invariant.specs.declared.cells.Start.{Start}
 use Rattle.ww_invariant.specs.Rule.{St, Sat}
 use Rattle.ww_wakes.specs.Scene.{Step, performs, leaves_to_sleep}
-use Rattle.ww_refines.specs.Moment.{Moment, Rests}
+use Rattle.ww_refines.specs.Moment.{Moment, HasLeftToWait}
 use Rattle.ww_refines.specs.Moves.{Reads}
 use Rattle.ww_refines.specs.Plays.{Plays}
 
@@ -72,7 +72,7 @@ pub record NapsAreLast : Type 0 where
 
 -- the seat of this view left a guard as a waiter, is about to fall asleep, and outside the guards
 pub record IsDueOutside {key : Start} (m : Moment key) (v : View) : Type 0 where
-  pub rests : Rests m v.who false
+  pub rests : HasLeftToWait m v.who false
   pub outside : v.inside ≡ 0
 
 -- a moment follows by a read of seat t, in which the table is this

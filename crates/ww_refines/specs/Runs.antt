@@ -6,7 +6,7 @@ use Rattle.ww_invariant.specs.declared.cells.Start.{Start}
 use Rattle.ww_invariant.specs.Rule.{St, Ruled, first_sight, wakes_owed}
 use Rattle.ww_wakes.specs.Scene.{Phase, acting, going_to_sleep, asleep, Scene, Step, first_scene, May, next, IsReached}
 use Rattle.ww_wakes.specs.Theorem.{HasToWait}
-use Rattle.ww_refines.specs.Moment.{Moment, view, HasToWake, Acts, IsFirst}
+use Rattle.ww_refines.specs.Moment.{Moment, view, HasToWake, Acts, IsFirstMoment}
 use Rattle.ww_refines.specs.Moves.{Follows}
 
 -- ---- the scene that a moment shows
@@ -21,7 +21,7 @@ IsPhase asleep sleeps risen naps = (sleeps ≡ true) × (risen + 1 ≡ naps)
 -- yet to wake, as far as the scene asks it to; where a view says inside a guard that the seat has just found no sign,
 -- or that it has found no cancel, it has. No seat gave more tokens than it owes wakes; and inside a guard it has yet
 -- to wake those whom it condemned there.
-pub record IsShownBy {key : Start} (m : Moment key) (w : Scene) : Type 0 where
+pub record IsSceneOf {key : Start} (m : Moment key) (w : Scene) : Type 0 where
   pub core : w.core ≡ m.ruled.core
   pub token : w.token ≡ m.token
   pub heeds : w.heeds ≡ m.heeds
@@ -39,7 +39,7 @@ pub record IsShownBy {key : Start} (m : Moment key) (w : Scene) : Type 0 where
 pub record ShowsScene {key : Start} (m : Moment key) : Type 0 where
   pub scene : Scene
   pub reached : IsReached scene
-  pub shown : IsShownBy m scene
+  pub shown : IsSceneOf m scene
 
 -- ---- from one moment to the next
 
@@ -47,7 +47,7 @@ pub record ShowsScene {key : Start} (m : Moment key) : Type 0 where
 pub record Begins (key : Start) (s : St) : Type 0 where
   pub moment : Moment key
   pub table : moment.table ≡ s
-  pub first : IsFirst moment
+  pub first : IsFirstMoment moment
 
 -- and a table made just now is
 abbrev pub NewTablesBegin : Type 0
@@ -56,27 +56,27 @@ NewTablesBegin = (key : Start) (s : St) (r : Ruled key s) → s.views ≡ first_
 
 -- where nothing was done yet, that is the start of the scene
 abbrev pub StartIsStart : Type 0
-StartIsStart = (key : Start) (m : Moment key) → IsFirst m → IsShownBy m (first_scene key.kind key.locks key.places)
+StartIsStart = (key : Start) (m : Moment key) → IsFirstMoment m → IsSceneOf m (first_scene key.kind key.locks key.places)
 
 -- the scene may make that step, and the next moment shows the scene after it
 pub record GoesAlong {key : Start} (m' : Moment key) (w : Scene) (x : Step) : Type 0 where
   pub may : May w x
-  pub shown : IsShownBy m' (next w x)
+  pub shown : IsSceneOf m' (next w x)
 
 -- whatever a thread does that is to be a step of the scene is that step
 abbrev pub MovesAreSteps : Type 0
-MovesAreSteps = (key : Start) (m m' : Moment key) (w : Scene) (x : Step) → IsReached w → IsShownBy m w →
+MovesAreSteps = (key : Start) (m m' : Moment key) (w : Scene) (x : Step) → IsReached w → IsSceneOf m w →
     Follows m m' (Some x) → GoesAlong m' w x
 
 -- and whatever isn't leaves the scene as it is
 abbrev pub OthersAreNone : Type 0
-OthersAreNone = (key : Start) (m m' : Moment key) (w : Scene) → IsShownBy m w → Follows m m' None → IsShownBy m' w
+OthersAreNone = (key : Start) (m m' : Moment key) (w : Scene) → IsSceneOf m w → Follows m m' None → IsSceneOf m' w
 
 -- ---- whole runs
 
 -- a moment of a run: one that some moves lead to from where nothing was done yet
 pub data IsOfRun {key : Start} : Moment key → Type 0 where
-  begins : (m : Moment key) → IsFirst m → IsOfRun m
+  begins : (m : Moment key) → IsFirstMoment m → IsOfRun m
   goes_on : (m m' : Moment key) (x : Option Step) → IsOfRun m → Follows m m' x → IsOfRun m'
 
 -- each moment of a run shows a scene that is reached

@@ -17,7 +17,7 @@ use Rattle.ww_seat.specs.declared.waits.Waits.{Waits}
 use Rattle.ww_seat.specs.Looks.{IsLook, IsNap, MayLookSo, MayWaitSo}
 use Rattle.ww_seat.specs.Orderly.{IsOrderly}
 use Rattle.ww_seat.specs.Standings.{standing_of, HasAttempted, IsAt, IsAtWorkThere, IsAttempt, IsKept}
-use Rattle.ww_seat.specs.Work.{has_joined, looks_again, AreWoken, AreMarksOf, CameInside, debts_with, Deeds, deeds_of, GoesOn, HasCome, HasCondemnedNone, HasMarked, HasNoted, HasStood, IsAtWork, IsAtWorkHere, IsSameSeat, IsTold, IsTouched, IsWorking}
+use Rattle.ww_seat.specs.Work.{has_joined, looks_again, AreWoken, AreMarksOf, CameInside, debts_with, Deeds, deeds_of, GoesOnAsBefore, HasComeTo, HasCondemnedNone, HasMarked, HasNoted, HasStood, IsAtWork, IsAtWorkHere, IsSameSeat, IsTold, IsTouched, IsWorking}
 use Rattle.ww_seat.proofs.Holds.{came_then as holding_then}
 use Rattle.ww_seat.proofs.Kept.{orderly_at}
 use Rattle.ww_seat.proofs.Naps.{awake_same, awake_then, awake_looked, awake_noted, nap_then}
@@ -52,7 +52,7 @@ marks_idle_then {wake1} x same = marks_then x (marks_idle wake1 same (λ t has. 
 -- none was made
 pub come_same : (board : Board) {n : ℕ} {stands again : Bool} (waits : Waits) {m : Sat} (wake : List ℕ) → IsOrderly (size_of board) m
     → IsWorking n stands again m.0.part.core → AreWoken m.0.part.core wake
-    → HasCome board n stands again waits m wake m.0.part.core.attempts Lost m wake
+    → HasComeTo board n stands again waits m wake m.0.part.core.attempts Lost m wake
 come_same board waits {m} wake orderly working woken = record {
   came = (work_same orderly working, awake_same m.0.part.core);
   attempts = refl;
@@ -61,13 +61,13 @@ come_same board waits {m} wake orderly working woken = record {
 
 pub come_here : {board : Board} {n : ℕ} {stands again : Bool} {s : Stepper} {wake : List ℕ} → IsAtWorkHere board n stands again s
     → AreMarksOf (view_of s) wake → (waits : Waits)
-    → HasCome board n stands again waits s.seat.me wake (view_of s).attempts Lost s.seat.me wake
+    → HasComeTo board n stands again waits s.seat.me wake (view_of s).attempts Lost s.seat.me wake
 come_here {board} {wake} at marks waits = come_same board waits wake at.orderly at.working marks.woken
 
 -- it goes on, and condemned nobody more
 pub come_next : {board : Board} {n : ℕ} {s1 s2 again : Bool} {waits : Waits} {m m1 m2 : Sat} {wake wake1 : List ℕ} {looks : ℕ}
-    → HasCome board n s1 again waits m wake looks Lost m1 wake1 → IsAtWork (size_of board) n m s2 again m2
-    → HasCondemnedNone m1 m2 → HasCome board n s2 again waits m wake looks Lost m2 wake1
+    → HasComeTo board n s1 again waits m wake looks Lost m1 wake1 → IsAtWork (size_of board) n m s2 again m2
+    → HasCondemnedNone m1 m2 → HasComeTo board n s2 again waits m wake looks Lost m2 wake1
 come_next x work none = record {
   came = (work, awake_then x.came.1 none.awake);
   attempts = ap (λ (d : Deeds). d.attempts) none.deeds ∙ x.attempts;
@@ -75,19 +75,19 @@ come_next x work none = record {
 }
 
 pub come_touched : {board : Board} {n : ℕ} {stands again : Bool} {waits : Waits} {m m1 m2 : Sat} {wake wake1 : List ℕ} {looks : ℕ}
-    → HasCome board n stands again waits m wake looks Lost m1 wake1 → IsTouched (size_of board) m1 m2
-    → HasCome board n stands again waits m wake looks Lost m2 wake1
+    → HasComeTo board n stands again waits m wake looks Lost m1 wake1 → IsTouched (size_of board) m1 m2
+    → HasComeTo board n stands again waits m wake looks Lost m2 wake1
 come_touched x t = come_next x (work_touched x.came.0 t) (none_touched t)
 
 pub come_told : {board : Board} {n : ℕ} {stands again : Bool} {waits : Waits} {m m1 m2 : Sat} {wake wake1 : List ℕ} {looks : ℕ}
-    → HasCome board n stands again waits m wake looks Lost m1 wake1 → IsTold (size_of board) m1 m2
-    → HasCome board n stands again waits m wake looks Lost m2 wake1
+    → HasComeTo board n stands again waits m wake looks Lost m1 wake1 → IsTold (size_of board) m1 m2
+    → HasComeTo board n stands again waits m wake looks Lost m2 wake1
 come_told x t = come_next x (work_told x.came.0 t) (none_told t)
 
 -- ... and signed some
 pub come_noted : {board : Board} {n : ℕ} {stands again : Bool} {waits : Waits} {m m1 m2 : Sat} {wake wake1 wake2 : List ℕ} {looks : ℕ}
-    → HasCome board n stands again waits m wake looks Lost m1 wake1 → {owed : List (ℕ × ℕ)} → HasNoted (size_of board) owed m1 m2
-    → HasMarked wake1 m1.0.part.core m2.0.part.core wake2 → HasCome board n stands again waits m wake looks Lost m2 wake2
+    → HasComeTo board n stands again waits m wake looks Lost m1 wake1 → {owed : List (ℕ × ℕ)} → HasNoted (size_of board) owed m1 m2
+    → HasMarked wake1 m1.0.part.core m2.0.part.core wake2 → HasComeTo board n stands again waits m wake looks Lost m2 wake2
 come_noted x h marked = record {
   came = (work_noted x.came.0 h, awake_then x.came.1 (awake_noted h));
   attempts = ap (λ (z : Sight). z.part.core.attempts) h.view ∙ x.attempts;
@@ -96,22 +96,22 @@ come_noted x h marked = record {
 
 -- ... and stands in the wait list
 pub come_stood : {board : Board} {n : ℕ} {stands again : Bool} {waits : Waits} {m m1 m2 : Sat} {wake wake1 : List ℕ} {looks : ℕ} {o p : Owner}
-    → HasCome board n stands again waits m wake looks Lost m1 wake1 → HasStood (size_of board) n stands o m1 p m2
-    → HasCome board n true again waits m wake looks Lost m2 wake1
+    → HasComeTo board n stands again waits m wake looks Lost m1 wake1 → HasStood (size_of board) n stands o m1 p m2
+    → HasComeTo board n true again waits m wake looks Lost m2 wake1
 come_stood x h = come_next x (work_stood x.came.0 h) h.idle
 
 -- ... and may have looked at its cancel
 pub come_goes_on : {board : Board} {n : ℕ} {again : Bool} {waits : Waits} {m m1 m2 : Sat} {wake wake1 : List ℕ} {looks : ℕ}
-    → HasCome board n true again waits m wake looks Lost m1 wake1 → GoesOn (size_of board) m1 m2 → HasCondemnedNone m1 m2
-    → HasCome board n true again waits m wake looks Lost m2 wake1
+    → HasComeTo board n true again waits m wake looks Lost m1 wake1 → GoesOnAsBefore (size_of board) m1 m2 → HasCondemnedNone m1 m2
+    → HasComeTo board n true again waits m wake looks Lost m2 wake1
 come_goes_on x g none = come_next x (work_goes_on x.came.0 g) none
 
 -- its look is at its end
 pub come_out : {board : Board} {n : ℕ} {stands again : Bool} {waits : Waits} {m m1 m2 : Sat} {wake wake1 : List ℕ} {looks : ℕ} {l : Look}
-    → HasCome board n stands again waits m wake looks Lost m1 wake1 → IsLook (size_of board) n m1 l m2
+    → HasComeTo board n stands again waits m wake looks Lost m1 wake1 → IsLook (size_of board) n m1 l m2
     → MayLookSo board.table.shared.key.places waits l → MayWaitSo waits m2.0.part.core l
     → IsNap m1.0.part.core l m2.0.part.core → deeds_of m2.0.part.core ≡ deeds_of m1.0.part.core
-    → HasCome board n stands again waits m wake looks (Ended l) m2 wake1
+    → HasComeTo board n stands again waits m wake looks (Ended l) m2 wake1
 come_out {n} {m} {m1} {m2} {l = l} x look so may nap same = record {
   came = ((look.0, holding_then n m m1 m2 l x.came.0.holds look.1), so, may, nap_then m2.0.part.core l x.came.1 nap);
   attempts = ap (λ (d : Deeds). d.attempts) same ∙ x.attempts;
@@ -120,15 +120,15 @@ come_out {n} {m} {m1} {m2} {l = l} x look so may nap same = record {
 
 -- where its functions find it then
 pub come_here_still : {board : Board} {n : ℕ} {stands again : Bool} {waits : Waits} {m : Sat} {s : Stepper} {wake wake1 : List ℕ} {looks : ℕ}
-    → HasCome board n stands again waits m wake looks Lost s.seat.me wake1 → IsSeatOf board s → n < locks_of board
+    → HasComeTo board n stands again waits m wake looks Lost s.seat.me wake1 → IsSeatOf board s → n < locks_of board
     → IsAtWorkHere board n stands again s
 come_here_still x seat lock = record { seat = seat; lock = lock; orderly = x.came.0.orderly; working = x.came.0.working }
 
 -- one part of it after another
 pub come_then : {board : Board} {n : ℕ} {s1 s2 again : Bool} {waits : Waits} {m m1 m2 : Sat} {wake wake1 wake2 : List ℕ} {looks : ℕ}
-    {a : Attempt} → HasCome board n s1 again waits m wake looks Lost m1 wake1
-    → HasCome board n s2 again waits m1 wake1 m1.0.part.core.attempts a m2 wake2
-    → HasCome board n s2 again waits m wake looks a m2 wake2
+    {a : Attempt} → HasComeTo board n s1 again waits m wake looks Lost m1 wake1
+    → HasComeTo board n s2 again waits m1 wake1 m1.0.part.core.attempts a m2 wake2
+    → HasComeTo board n s2 again waits m wake looks a m2 wake2
 come_then {a = Lost} x y = record {
   came = (work_then x.came.0 y.came.0, awake_then x.came.1 y.came.1);
   attempts = y.attempts ∙ x.attempts;
@@ -146,7 +146,7 @@ come_then {n} {m} {m1} {m2} {a = Ended l} x y = let e = y.came in record {
 pub come_looked : {board : Board} {n : ℕ} {arrival : Arrival} {holds : Bool} {wake : List ℕ} {q : Stepper} {m : Sat} {o : Owner}
     → IsKept q × IsAt board (standing_of q) → IsAtWorkThere board n arrival holds wake (standing_of q) → (waits : Waits)
     → m ≡ (looking q.seat.me.0 o, q.seat.me.1)
-    → HasCome board n (has_joined arrival) (looks_again arrival) waits q.seat.me wake (q.seat.me.0.part.core.attempts + 1) Lost m wake
+    → HasComeTo board n (has_joined arrival) (looks_again arrival) waits q.seat.me wake (q.seat.me.0.part.core.attempts + 1) Lost m wake
 come_looked {wake} {q} at there waits is = record {
   came = (work_looked (orderly_at refl at.0 at.1) there.working is, awake_looked q.seat.me is);
   attempts = ap (λ (z : Sat). z.0.part.core.attempts) is;
@@ -172,7 +172,7 @@ is_attempt board n arrival waits q q' (Ended l) x = (x.0.1, x.1, x.2, x.3)
 pub attempted : {board : Board} {n : ℕ} {stands again : Bool} {waits : Waits} {wake wake' : List ℕ} {a : Attempt} {q : Stepper} (q' : Stepper)
     {arrival arrival' : Arrival} → IsKept q × IsAt board (standing_of q) → IsSameSeat board q q' → has_joined arrival' ≡ stands
     → looks_again arrival ≡ again → looks_again arrival' ≡ again
-    → HasCome board n stands again waits q.seat.me wake (q.seat.me.0.part.core.attempts + 1) a q'.seat.me wake'
+    → HasComeTo board n stands again waits q.seat.me wake (q.seat.me.0.part.core.attempts + 1) a q'.seat.me wake'
     → IsOrderly (size_of board) q'.seat.me
     × HasAttempted board.table.shared.key.places (standing_of q) n waits arrival wake a (standing_of q') arrival' wake'
 attempted {board} {n} {stands} {again} {waits} {a} {q} q' {arrival'} at same joined was now x =

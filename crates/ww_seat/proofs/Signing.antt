@@ -22,7 +22,7 @@ use Rattle.ww_view.specs.Made.{entry_of_view, has_read, with_condemned}
 use Rattle.ww_invariant.specs.declared.cells.Sight.{Sight}
 use Rattle.ww_invariant.specs.Rule.{Sat}
 use Rattle.ww_invariant.specs.Steps.{knowing}
-use Rattle.ww_invariant.specs.Signs.{condemning, noting, reading, finding_none}
+use Rattle.ww_invariant.specs.Signs.{condemning, noting, having_read, finding_none}
 use Rattle.ww_invariant.specs.Waiting.{HasListOnTop}
 use Rattle.ww_table.specs.declared.board.Board.{Board}
 use Rattle.ww_table.specs.declared.seat.Stepper.{Stepper}
@@ -229,20 +229,20 @@ stays_none {o} top kind is = subst (λ (z : Sight). MayStay o z.part.core)
 
 -- it found a sign
 pub told_signed : {size n : ℕ} (k : ℕ) {m m1 m2 : Sat} → IsOrderly size m → HasListOnTop m n m1 → IsHolding (entry_of_view m.0.part.core)
-    → m2 ≡ (reading m1.0 k, m1.1) → IsTold size m m2
+    → m2 ≡ (having_read m1.0 k, m1.1) → IsTold size m m2
 told_signed k {m} o top holding is = record {
   orderly = orderly_knowing (touched_read o top).orderly is refl refl;
   sign = Some k;
   fresh = (has_read m.0.part.core k).fresh;
   wants = λ _. inr (inr (inl (owns_one m.0.part.core holding)));
-  view = ap (λ (z : Sat). z.0) is ∙ ap (λ (z : Sat). reading z.0 k) top.now;
+  view = ap (λ (z : Sat). z.0) is ∙ ap (λ (z : Sat). having_read z.0 k) top.now;
 }
 
 pub dies_signed : {n k : ℕ} {l : Bool} {m m1 m2 : Sat} {o : Owner} → IsWorking n true l m.0.part.core → SeesOther o m.0.part.core
-    → HasListOnTop m n m1 → m.0.part.core.kind ≡ WoundWait → IsHolding (entry_of_view m.0.part.core) → k ≢ 0 → m2 ≡ (reading m1.0 k, m1.1)
+    → HasListOnTop m n m1 → m.0.part.core.kind ≡ WoundWait → IsHolding (entry_of_view m.0.part.core) → k ≢ 0 → m2 ≡ (having_read m1.0 k, m1.1)
     → m.0.part.core.heeded ≡ 0 → MayDie m2.0.part.core n o k
 dies_signed {n} {k} {m} {o} w sees top kind holding isnt is unheeded = subst (λ (z : Sight). MayDie z.part.core n o k)
-    (sym (ap (λ (z : Sat). z.0) is ∙ ap (λ (z : Sat). reading z.0 k) top.now)) (record {
+    (sym (ap (λ (z : Sat). z.0) is ∙ ap (λ (z : Sat). having_read z.0 k) top.now)) (record {
       inside = w.inside;
       waits = w.place.0;
       other = sees.other;

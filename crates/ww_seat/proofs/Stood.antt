@@ -30,7 +30,7 @@ use Rattle.ww_seat.specs.Orderly.{IsOrderly}
 use Rattle.ww_seat.specs.Accounts.{account_of}
 use Rattle.ww_seat.specs.Calls.{HasToDie}
 use Rattle.ww_seat.specs.Looks.{MayWant, IsLook}
-use Rattle.ww_seat.specs.Work.{signing, told, IsTold, IsPlaced, IsWorking, IsAtWork, SeesOther, HasStood, HasAsked, HasSigned, MayGo, MayStay, IsOut}
+use Rattle.ww_seat.specs.Work.{signing, told, IsTold, IsPlaced, IsWorking, IsAtWork, SeesOther, HasStood, HasAsked, HasSigned, MayGo, MayStay, HasLeftGuard}
 use Rattle.ww_seat.specs.declared.look.Look.TheVariants.{Deadlk, Waits}
 use Rattle.ww_seat.proofs.Holds.{holds_by}
 use Rattle.ww_seat.proofs.Guards.{listed_orderly, listed_by}
@@ -155,7 +155,7 @@ shown_outside WoundWait s = s
 shown_outside WaitDie s = record { wounded = λ w. absurd (cc); older = s.older }
 
 pub look_died : {size n : ℕ} {l : Bool} (m : Sat) {m1 m2 : Sat} {o : Owner} {k : ℕ} → IsWorking n true l m.0.part.core → MayDie m.0.part.core n o k
-    → k < m.0.part.core.stamp → m1.0 ≡ dying m.0 o → IsOut size m1 m2 → IsLook size n m (Deadlk k) m2
+    → k < m.0.part.core.stamp → m1.0 ≡ dying m.0 o → HasLeftGuard size m1 m2 → IsLook size n m (Deadlk k) m2
 look_died {n} m {m2} {o} {k} w may older is out =
     let view : m2.0 ≡ exiting (dying m.0 o) = out.view ∙ ap exiting is in
     let met : HasToDie m n k m2 = record {
@@ -179,7 +179,7 @@ wants_outside WoundWait v is wants = ⊎_elim (λ z. inl z)
     (λ r. ⊎_elim (λ z. inr (inl (ap (λ (x : Kind). once_outside x v.sign) is ∙ z))) (λ r2. inr (inr r2)) r) wants
 wants_outside WaitDie v is wants = inr (inr (inr is))
 
-pub stays_outside : {size n : ℕ} {l : Bool} {m m' : Sat} → IsWorking n true l m.0.part.core → IsOut size m m' → IsLook size n m Waits m'
+pub stays_outside : {size n : ℕ} {l : Bool} {m m' : Sat} → IsWorking n true l m.0.part.core → HasLeftGuard size m m' → IsLook size n m Waits m'
 stays_outside {n} {m} {m'} w out = let v : View = m.0.part.core in (
   out.orderly,
   (

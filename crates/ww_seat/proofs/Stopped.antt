@@ -7,14 +7,14 @@ use Rattle.ww_invariant.specs.Rule.{Sat}
 use Rattle.ww_invariant.specs.Cancels.{heeding, stopping}
 use Rattle.ww_table.specs.Inside.{HasListThen}
 use Rattle.ww_seat.specs.Orderly.{IsOrderly}
-use Rattle.ww_seat.specs.Work.{IsWorking, SeesOther, MayGo, GoesOn}
+use Rattle.ww_seat.specs.Work.{IsWorking, SeesOther, MayGo, GoesOnAsBefore}
 use Rattle.ww_seat.proofs.Outside.{outs_of}
 use Rattle.ww_seat.proofs.Guards.{listed_by}
 use Rattle.ww_seat.proofs.Stood.{gone_goes}
 
 -- ---- no cancel was pending
 
-pub goes_on_sees : {size : ℕ} {m m' : Sat} {o : Owner} → GoesOn size m m' → SeesOther o m.0.part.core → SeesOther o m'.0.part.core
+pub goes_on_sees : {size : ℕ} {m m' : Sat} {o : Owner} → GoesOnAsBefore size m m' → SeesOther o m.0.part.core → SeesOther o m'.0.part.core
 goes_on_sees {o} g sees = subst (λ (z : Sight). SeesOther o z.part.core) (sym g.view)
     (record { seen = sees.seen; valid = sees.valid; there = sees.there; other = sees.other })
 

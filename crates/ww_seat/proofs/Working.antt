@@ -17,7 +17,7 @@ use Rattle.ww_invariant.specs.Waiting.{HasListOnTop, asking}
 use Rattle.ww_table.specs.Inside.{HasOnlyTried}
 use Rattle.ww_seat.specs.Orderly.{IsOrderly}
 use Rattle.ww_seat.specs.Looks.{MayWant}
-use Rattle.ww_seat.specs.Work.{AreWoken, StillHasToWake, AreMarked, HasToWake, HasBooked, deeds_of, HasCondemnedNone, touched, told, GoesOn, IsTouched, IsTold, IsPlaced, IsWorking, IsAtWork, IsCleared, MayGo, HasNoted}
+use Rattle.ww_seat.specs.Work.{AreWoken, StillHasToWake, AreMarked, HasToWake, HasBooked, deeds_of, HasCondemnedNone, touched, told, GoesOnAsBefore, IsTouched, IsTold, IsPlaced, IsWorking, IsAtWork, IsCleared, MayGo, HasNoted}
 use Rattle.ww_seat.proofs.Holds.{holds_same, holds_by, holds_then}
 use Rattle.ww_seat.proofs.Naps.{awake_by}
 use Rattle.ww_seat.proofs.Outside.{orderly_knowing, orderly_brought}
@@ -131,7 +131,7 @@ pub work_noted : {size n : ℕ} {before : Sat} {stands again : Bool} {owed : Lis
 work_noted x h = work_by x h.orderly h.view x.working.want.signs
 
 -- it may have looked at its cancel
-pub work_goes_on : {size n : ℕ} {before : Sat} {again : Bool} {m m' : Sat} → IsAtWork size n before true again m → GoesOn size m m'
+pub work_goes_on : {size n : ℕ} {before : Sat} {again : Bool} {m m' : Sat} → IsAtWork size n before true again m → GoesOnAsBefore size m m'
     → IsAtWork size n before true again m'
 work_goes_on x g = work_by x g.orderly g.view x.working.want.signs
 

@@ -15,12 +15,12 @@ use Rattle.ww_seat.specs.declared.patience.Patience.{Patience}
 
 -- ---- places: a parker is told from others by the table that has its token
 
-abbrev pub place_of : Parker → TableId
-place_of p = p.pass.table_id
+abbrev pub table_of : Parker → TableId
+table_of p = p.pass.table_id
 
 -- the parker that a pass sleeps on
 abbrev pub sleeps_at : Patience → TableId
-sleeps_at p = place_of p.parker
+sleeps_at p = table_of p.parker
 
 -- how many tokens were taken at a parker
 abbrev pub taken_at : Parker → ℕ

@@ -215,7 +215,7 @@ pub record SeesSeats (o : Owner) (v : View) : Type 0 where
   pub once : Once v.list
 
 -- Nothing is changed, but that it may not have just looked for its own sign any more, and may have found no cancel.
-pub record GoesOn (size : ℕ) (m m' : Sat) : Type 0 where
+pub record GoesOnAsBefore (size : ℕ) (m m' : Sat) : Type 0 where
   pub orderly : IsOrderly size m'
   pub fresh : Bool
   pub uncancelled : Bool
@@ -293,7 +293,7 @@ pub record IsCleared (m m' : Sat) : Type 0 where
 -- ---- what its functions answer
 
 -- it left the guard
-pub record IsOut (size : ℕ) (m m' : Sat) : Type 0 where
+pub record HasLeftGuard (size : ℕ) (m m' : Sat) : Type 0 where
   pub orderly : IsOrderly size m'
   pub view : m'.0 ≡ exiting m.0
 
@@ -345,7 +345,7 @@ HasFoundNone waits v = waits ≡ UntilCancelled → v.uncancelled ≡ true
 abbrev pub IsStop : ℕ → ℕ → ℕ → Waits → Sat → Option ℕ → Sat → Type 0
 IsStop seats size n waits m (Some by) m' = IsLook size n m (Interrupted by) m' × MayLookSo seats waits (Interrupted by)
     × HasCondemnedNone m m'
-IsStop seats size n waits m None m' = GoesOn size m m' × HasFoundNone waits m'.0.part.core × HasCondemnedNone m m'
+IsStop seats size n waits m None m' = GoesOnAsBefore size m m' × HasFoundNone waits m'.0.part.core × HasCondemnedNone m m'
 
 -- the look is at its end; or another owner word was found than was seen, and the seat is still at work
 abbrev pub CameInside : Board → ℕ → Bool → Bool → Waits → Sat → Attempt → Sat → Type 0
@@ -354,7 +354,7 @@ CameInside board n stands again waits m (Ended l) m' = IsLook (size_of board) n 
 CameInside board n stands again waits m Lost m' = IsAtWork (size_of board) n m stands again m' × StaysAwake m.0.part.core m'.0.part.core
 
 -- An attempt came to this; so often the seat has looked at an owner word then, and whom it condemned has a mark.
-pub record HasCome (board : Board) (n : ℕ) (stands again : Bool) (waits : Waits) (m : Sat) (wake : List ℕ) (looks : ℕ)
+pub record HasComeTo (board : Board) (n : ℕ) (stands again : Bool) (waits : Waits) (m : Sat) (wake : List ℕ) (looks : ℕ)
     (a : Attempt) (m' : Sat) (wake' : List ℕ) : Type 0 where
   pub came : CameInside board n stands again waits m a m'
   pub attempts : m'.0.part.core.attempts ≡ looks
@@ -368,10 +368,10 @@ attempt_of None = Lost
 -- It took the lock and is outside, or is still at work as it was, since the word has changed; whatever wait it is.
 abbrev pub IsTakingInside : Board → ℕ → Sat → List ℕ → Option Node → Sat → List ℕ → Type 0
 IsTakingInside board n m wake r m' wake' = (stands again : Bool) (waits : Waits) → IsWorking n stands again m.0.part.core
-    → HasCome board n stands again waits m wake m.0.part.core.attempts (attempt_of r) m' wake'
+    → HasComeTo board n stands again waits m wake m.0.part.core.attempts (attempt_of r) m' wake'
 
 -- It is outside, in the wait list or as it backed off, or is still at work, since the word has changed; whatever wait it is
 -- that has found no cancel.
 abbrev pub IsStay : Board → ℕ → Bool → Sat → List ℕ → Attempt → Sat → List ℕ → Type 0
 IsStay board n again m wake a m' wake' = (waits : Waits) → HasFoundNone waits m.0.part.core
-    → HasCome board n true again waits m wake m.0.part.core.attempts a m' wake'
+    → HasComeTo board n true again waits m wake m.0.part.core.attempts a m' wake'

@@ -51,7 +51,7 @@ pub struct Parker {
 impl Parker {
     ghost use Rattle.std.specs.Prelude.{IfOk};
     ghost use Rattle.std.specs.Prelude.{◌≡◌, ◌+◌};
-    ghost use Rattle.ww_seat.specs.Bells.{leads_to, place_of, taken_at};
+    ghost use Rattle.ww_seat.specs.Bells.{leads_to, table_of, taken_at};
 
     /// No token was taken yet.
     pub fn new(alloc: Global) -> Result<Parker, AllocError>
@@ -64,7 +64,7 @@ impl Parker {
 
     /// A wire that leads to it.
     pub fn wire(&self) -> Result<Wire, AllocError>
-        ensures { IfOk result (λ wire. leads_to wire ≡ place_of self.now) }
+        ensures { IfOk result (λ wire. leads_to wire ≡ table_of self.now) }
     {
         let unparker = self.parker.unparker().clone()?;
         let rang = Arc::try_clone(&self.rang)?;
@@ -84,7 +84,7 @@ impl Parker {
 
     /// Sleeps until its token is there, and takes it.
     pub fn park<R: Wait>(&mut self, rt: &R)
-        ensures placed { place_of self.new ≡ place_of self.old }
+        ensures placed { table_of self.new ≡ table_of self.old }
         ensures taken { taken_at self.new ≡ taken_at self.old + 1 }
     {
         self.parker.park_as::<Heard, R>(rt, &mut self.pass);

@@ -2,7 +2,7 @@
 ghost use Rattle.std.specs.Prelude.{◌≡◌};
 ghost use Rattle.ww_queue.specs.declared.kind.Kind.TheVariants.{WaitDie};
 ghost use Rattle.ww_table.specs.Seat.{IsSeatOf, size_of, view_of};
-ghost use Rattle.ww_seat.specs.Work.{IsCleared, IsHere, IsOut, IsSameSeat, MayGo, MayTakeSignBack};
+ghost use Rattle.ww_seat.specs.Work.{IsCleared, IsHere, HasLeftGuard, IsSameSeat, MayGo, MayTakeSignBack};
 
 use ww_queue::Kind;
 use ww_table::{Board, Stepper};
@@ -42,7 +42,7 @@ pub(crate) fn leave(seat: &mut Stepper, board: &Board, lock: u32)
     requires at { IsHere board.now lock seat.old }
     requires may { MayGo lock (view_of seat.old) }
     ensures same { IsSameSeat board.now seat.old seat.new }
-    ensures out { IsOut (size_of board.now) seat.old.seat.me seat.new.seat.me }
+    ensures out { HasLeftGuard (size_of board.now) seat.old.seat.me seat.new.seat.me }
 {
     take_sign_back(seat, board);
     seat.exit(board, lock);

@@ -34,12 +34,12 @@ pub struct Patience {
 
 impl Patience {
     ghost use Rattle.std.specs.Prelude.{◌≡◌, ◌≤◌, ◌+◌, IfSome};
-    ghost use Rattle.ww_seat.specs.Bells.{heard, place_of, sleeps_at, taken_at, SleepsNot};
+    ghost use Rattle.ww_seat.specs.Bells.{heard, table_of, sleeps_at, taken_at, SleepsNot};
     ghost use Rattle.ww_seat.specs.Standings.{MaySleep};
     ghost use Rattle.ww_seat.specs.Rests.{Rests};
 
     pub fn new(parker: Parker) -> Patience
-        ensures parker { sleeps_at result ≡ place_of parker }
+        ensures parker { sleeps_at result ≡ table_of parker }
         ensures heard { heard result ≡ taken_at parker }
     {
         let waited = Waited {

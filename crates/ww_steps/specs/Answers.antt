@@ -324,15 +324,15 @@ IsHasAnswer s n _ s' = ⊥
 -- ---- whom to wake, and calling off
 
 -- a seat that has a mark, which it has no more then; or none has
-abbrev pub IsTaken : List ℕ → Option ℕ → List ℕ → Type 0
-IsTaken marks None marks' = ((u : ℕ) → ¬ IsMarked marks u) × (marks' ≡ marks)
-IsTaken marks (Some u) marks' = IsMarked marks u × (is_marked marks' u ≡ false)
+abbrev pub IsMarkTaken : List ℕ → Option ℕ → List ℕ → Type 0
+IsMarkTaken marks None marks' = ((u : ℕ) → ¬ IsMarked marks u) × (marks' ≡ marks)
+IsMarkTaken marks (Some u) marks' = IsMarked marks u × (is_marked marks' u ≡ false)
     × ((t : ℕ) → t ≢ u → is_marked marks' t ≡ is_marked marks t)
 
 -- Each seat is named once, and none while this one is inside a guard.
 abbrev pub IsWakeAnswer : Situation → Option ℕ → Situation → Type 0
 IsWakeAnswer s who s' = (is_inside s.turn ≡ true → (who ≡ None) × (s' ≡ s))
-    × (is_inside s.turn ≡ false → IsTaken s.wakes who s'.wakes × (s' ≡ record s { wakes = s'.wakes }))
+    × (is_inside s.turn ≡ false → IsMarkTaken s.wakes who s'.wakes × (s' ≡ record s { wakes = s'.wakes }))
 
 -- the wait of seat u, one of the world, is cancelled; or its one step found a cancel pending already, which is counted
 abbrev pub IsCancelAnswer : Situation → ℕ → Answer → Situation → Type 0

@@ -5,7 +5,7 @@ ghost use Rattle.ww_queue.specs.declared.entry.Entry.{Entry};
 ghost use Rattle.ww_view.specs.Made.{with_heir};
 ghost use Rattle.ww_seat.specs.Work.{AreMarked, StillHasToWake};
 ghost use Rattle.ww_seat.specs.Standings.{view_in};
-ghost use Rattle.ww_steps.specs.Answers.{IsTaken};
+ghost use Rattle.ww_steps.specs.Answers.{IsMarkTaken};
 ghost use Rattle.ww_steps.specs.declared.turn.Turn.TheVariants.{Stays, Looks, Gives};
 ghost use Rattle.ww_steps.specs.declared.turn.Answer.TheVariants.{Done};
 
@@ -168,7 +168,7 @@ fn lowest(word: u64) -> u16
 /// The first seat that has a mark, which it has no more then.
 fn take_mark(marks: &mut [u64]) -> Option<u16>
     requires { length marks.old ≤ 64 }
-    ensures taken { IsTaken marks.old result marks.new }
+    ensures taken { IsMarkTaken marks.old result marks.new }
     ensures long { length marks.new ≡ length marks.old }
 {
     for i in 0..marks.len() {

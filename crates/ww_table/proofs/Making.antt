@@ -19,7 +19,7 @@ use Rattle.ww_queue.specs.declared.kind.Kind.{Kind}
 use Rattle.ww_invariant.specs.Layout.{IsSized, lock_at}
 use Rattle.ww_table.specs.declared.seat.Stepper.{Stepper}
 use Rattle.ww_invariant.specs.Rule.{Sat, first_graph, first_part, first_parts, first_sight, Ruled, IsSize, AreNodes}
-use Rattle.ww_invariant.specs.Steps.{seat_of, first_seat, rest_of, without_first}
+use Rattle.ww_invariant.specs.Steps.{sight_of, first_seat, rest_of, without_first}
 use Rattle.ww_table.specs.Seat.{IsNew}
 use Rattle.ww_invariant.specs.Out.{numbers_of}
 use Rattle.ww_invariant.specs.Homes.{AreSlots}
@@ -32,7 +32,7 @@ use Rattle.ww_invariant.proofs.Seats.{opens, opens_start, splits, at_end, bare_f
 
 pub new_seat : {table : TableId} {key : Start} {kind : Kind} {locks places seats : ℕ} {first token : Seat Cell Sight} (k : ℕ) (s : Stepper)
     → MayCut table key kind locks places seats first → HasDoneNothing token kind k locks places s → token.table_id ≡ table
-    → token.me ≡ (seat_of (length (first_graph key)) (first_part key.kind key.locks key.places k), []) → k < places → IsNew table key k s
+    → token.me ≡ (sight_of (length (first_graph key)) (first_part key.kind key.locks key.places k), []) → k < places → IsNew table key k s
 new_seat {table} k s cut is home here few = let me = ap (λ (t : Seat Cell Sight). t.me) is.seat_is ∙ here in record {
   seated = record {
     home = ap (λ (t : Seat Cell Sight). t.table_id) is.seat_is ∙ home;
@@ -85,14 +85,14 @@ next_left key k v is more = ap without_first is
     (next_idle key k more)
 
 pub next_cut : (key : Start) (k : ℕ) (v : Sight) → v ≡ less key k → k < key.seats - 1
-    → first_seat (length v.held) v.idle ≡ seat_of (length (first_graph key)) (first_part key.kind key.locks key.places k)
+    → first_seat (length v.held) v.idle ≡ sight_of (length (first_graph key)) (first_part key.kind key.locks key.places k)
 next_cut key k v is more = ap (λ (w : Sight). first_seat (length w.held) w.idle) is
     ∙ ap (first_seat (length (less key k).held)) (next_idle key k more)
-    ∙ ap (λ (n : ℕ). seat_of n (first_part key.kind key.locks key.places k)) (length-replicate {A = _} (length (first_graph key)) None)
+    ∙ ap (λ (n : ℕ). sight_of n (first_part key.kind key.locks key.places k)) (length-replicate {A = _} (length (first_graph key)) None)
 
 -- with all numbers but the last cut off, the first seat is that of the last
 pub last_left : (key : Start) (k : ℕ) → k ≡ key.seats - 1
-    → less key k ≡ seat_of (length (first_graph key)) (first_part key.kind key.locks key.places k)
+    → less key k ≡ sight_of (length (first_graph key)) (first_part key.kind key.locks key.places k)
 last_left key k is = (λ i. record (first_sight key) {
   part = first_part key.kind key.locks key.places (sym is i);
   idle = first_parts key.kind key.locks key.places k ((let z : key.seats - 1 - k ≡ 0 = omega arith in z) i);

@@ -26,7 +26,7 @@ use Rattle.ww_invariant.specs.Steps.{taker}
 use Rattle.ww_table.specs.declared.seat.Stepper.{Stepper}
 use Rattle.ww_table.specs.declared.board.Board.{Board}
 use Rattle.ww_table.specs.Steps.{IsEither}
-use Rattle.ww_table.specs.Seat.{IsSeated, IsSeatOf, base_of, locks_of, size_of, step_of, view_of}
+use Rattle.ww_table.specs.Seat.{IsSeated, IsSeatOf, base_of, locks_of, size_of, stamp_step, view_of}
 
 -- what most steps leave as it was of what the seat knows
 pub record Known : Type 0 where
@@ -76,7 +76,7 @@ seated_paged {table} w was home view knows paged same order = let now = ap known
   stamp = ap (λ (k : Known). k.stamp) now ∙ was.stamp ∙ ap (λ (x : Stepper). x.stamp) back;
   fits = subst (λ (x : Stepper). Fits x.who x.stamp) back was.fits;
   base = subst (λ (x : Stepper). x.base ≡ base_of x.who) back was.base;
-  step = subst (λ (x : Stepper). x.step ≡ step_of x.who) back was.step;
+  step = subst (λ (x : Stepper). x.step ≡ stamp_step x.who) back was.step;
   own = subst (λ (x : Stepper). x.own ≡ packed (record { seat = Some x.who; stamp = x.stamp; flags = 0 })) back was.own;
   order = order;
   records = ap (λ (x : Stepper). x.records.items) same ∙ was.records ∙ sym (ap (λ (k : Known). k.own) now);

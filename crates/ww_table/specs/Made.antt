@@ -14,7 +14,7 @@ use Rattle.ww_table.specs.declared.seat.Stepper.{Stepper}
 use Rattle.ww_table.specs.declared.board.Board.{Board}
 use Rattle.ww_invariant.specs.Rule.{first_graph, first_sight, first_parts, places_for, IsSize}
 use Rattle.ww_invariant.specs.Layout.{IsSized, sign_at}
-use Rattle.ww_table.specs.Seat.{IsNew, base_of, step_of}
+use Rattle.ww_table.specs.Seat.{IsNew, base_of, stamp_step}
 
 -- seat k has the number k, and did nothing yet
 pub record AreNew (table : TableId) (key : Start) (count : ℕ) (seats : List Stepper) : Type 0 where
@@ -56,7 +56,7 @@ pub record HasDoneNothing (seat : Seat Cell Sight) (kind : Kind) (who locks plac
   pub sign : s.sign ≡ sign_at s.room s.who
   pub stamp : s.stamp ≡ 0
   pub base : s.base ≡ base_of s.who
-  pub step : s.step ≡ step_of s.who
+  pub step : s.step ≡ stamp_step s.who
   pub own : s.own ≡ packed (record { seat = Some s.who; stamp = s.stamp; flags = 0 })
   pub order : s.order.items ≡ []
   pub records : s.records.items ≡ []

@@ -9,7 +9,7 @@ use Rattle.ww_view.specs.View.{owns}
 use Rattle.ww_view.specs.Made.{fast_given, fast_missed, fast_taken}
 use Rattle.ww_invariant.specs.declared.cells.Start.{Start}
 use Rattle.ww_invariant.specs.Rule.{first_graph, first_part, IsSize, Sat}
-use Rattle.ww_invariant.specs.Steps.{seat_of, knowing, keeping}
+use Rattle.ww_invariant.specs.Steps.{sight_of, knowing, keeping}
 use Rattle.ww_invariant.specs.Out.{numbers_of}
 use Rattle.ww_table.specs.declared.board.Board.{Board}
 use Rattle.ww_table.specs.declared.seat.Stepper.{Stepper}
@@ -29,8 +29,8 @@ view_of s = s.seat.me.0.part.core
 abbrev pub base_of : ℕ → ℕ
 base_of who = packed (record { seat = Some who; stamp = 0; flags = 0 })
 
-abbrev pub step_of : ℕ → ℕ
-step_of who = if nat_lt who 16 then 256 else 32768
+abbrev pub stamp_step : ℕ → ℕ
+stamp_step who = if nat_lt who 16 then 256 else 32768
 
 -- the seat is one of this table, and what it keeps beside its view is what the view says
 pub record IsSeated (table : TableId) (s : Stepper) : Type 0 where
@@ -48,7 +48,7 @@ pub record IsSeated (table : TableId) (s : Stepper) : Type 0 where
   pub stamp : (view_of s).stamp ≡ s.stamp
   pub fits : Fits s.who s.stamp
   pub base : s.base ≡ base_of s.who
-  pub step : s.step ≡ step_of s.who
+  pub step : s.step ≡ stamp_step s.who
   pub own : s.own ≡ packed (record { seat = Some s.who; stamp = s.stamp; flags = 0 })
   pub order : s.order.items ≡ numbers_of s.seat.me.1
   pub records : s.records.items ≡ s.seat.me.0.part.own
@@ -73,7 +73,7 @@ IsSeatOf board s = IsSeated board.table.shared.table_id s
 pub record IsNew (table : TableId) (key : Start) (k : ℕ) (s : Stepper) : Type 0 where
   pub seated : IsSeated table s
   pub number : s.who ≡ k
-  pub me : s.seat.me ≡ (seat_of (length (first_graph key)) (first_part key.kind key.locks key.places k), [])
+  pub me : s.seat.me ≡ (sight_of (length (first_graph key)) (first_part key.kind key.locks key.places k), [])
 
 -- ---- one try at a lock that guards no node
 

@@ -17,7 +17,7 @@ use Rattle.ww_invariant.specs.declared.cells.Sight.{Sight}
 use Rattle.ww_invariant.specs.Rule.{Sat}
 use Rattle.ww_invariant.specs.Out.{AreOthers, slot_of}
 use Rattle.ww_invariant.specs.Steps.{knowing, drawing, drawing_none, taking, giving, keeping, placing}
-use Rattle.ww_invariant.specs.Signs.{reading, finding_none}
+use Rattle.ww_invariant.specs.Signs.{having_read, finding_none}
 use Rattle.ww_invariant.specs.Cancels.{finding_uncancelled, heeding}
 use Rattle.ww_table.specs.declared.board.Board.{Board}
 use Rattle.ww_table.specs.declared.seat.Stepper.{Stepper}
@@ -154,8 +154,8 @@ pub record HasItsPlace (m : Sat) (done : Record) (place : ℕ) (m' : Sat) : Type
 pub record HasReadSign (b : Board) (s : Stepper) (sign : ℕ) (s' : Stepper) : Type 0 where
   pub seat : IsSeatOf b s'
   pub records : s'.records ≡ s.records
-  pub signed : sign ≢ 0 → s'.seat.me ≡ (reading s.seat.me.0 sign, s.seat.me.1)
-  pub quiet : sign ≡ 0 → IsQuiet (view_of s) → s'.seat.me ≡ (reading s.seat.me.0 0, s.seat.me.1)
+  pub signed : sign ≢ 0 → s'.seat.me ≡ (having_read s.seat.me.0 sign, s.seat.me.1)
+  pub quiet : sign ≡ 0 → IsQuiet (view_of s) → s'.seat.me ≡ (having_read s.seat.me.0 0, s.seat.me.1)
   pub unsigned : sign ≡ 0 → ¬ IsQuiet (view_of s) → s'.seat.me ≡ (finding_none s.seat.me.0, s.seat.me.1)
 
 -- The own cancel is 0. It was 0; or this mark of the seat that had set it, whose number is one less.

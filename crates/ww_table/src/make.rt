@@ -4,7 +4,7 @@ ghost use Rattle.std.specs.Prelude.{◌≡◌, ◌<◌, ◌≤◌, [], length, I
 ghost use Rattle.ww_plain.specs.Graph.{IsGraph};
 ghost use Rattle.ww_invariant.specs.Rule.{nodes_of, IsSize, places_for};
 ghost use Rattle.ww_table.specs.Made.{AreNew, HasDoneNothing, IsMade, MayCut};
-ghost use Rattle.ww_table.specs.Seat.{step_of};
+ghost use Rattle.ww_table.specs.Seat.{stamp_step};
 
 use crate::board::Board;
 use crate::seat::{Stepper, own_word};
@@ -156,7 +156,7 @@ fn cut(
 
 /// How much the owner word of a lock that it has taken grows with its stamp.
 fn step(who: u16) -> u64
-    ensures { result ≡ step_of who }
+    ensures { result ≡ stamp_step who }
 {
     if who < 16 { 256 } else { 32768 }
 }

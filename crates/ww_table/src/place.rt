@@ -12,7 +12,7 @@ use std::alloc::AllocError;
 use std::marker::Brand;
 use ww_invariant::TableSeat;
 use ww_invariant::layout::FRONT;
-use ww_invariant::plays::{Commit, Said};
+use ww_invariant::plays::{Commit, NamesRecord};
 use ww_plain::Record;
 
 impl Stepper {
@@ -54,7 +54,7 @@ impl Stepper {
 }
 
 /// The type parameter W names the record, since a step is given only numbers.
-fn place_said<W: Said>(seat: &mut TableSeat, board: &Board, done: &Record) -> u64
+fn place_said<W: NamesRecord>(seat: &mut TableSeat, board: &Board, done: &Record) -> u64
     requires said { W.about ≡ Some done.now }
     requires at { (seat.old.table_id ≡ board.now.table.shared.table_id) × (seat.old.me.0.seated ≡ true) }
     requires may { MayPlace seat.old.me.0 (recorded_of done.now) }

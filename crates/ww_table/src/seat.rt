@@ -9,7 +9,7 @@ ghost use Rattle.ww_invariant.specs.declared.cells.Cell.{Cell};
 ghost use Rattle.ww_invariant.specs.declared.cells.Cell.TheVariants.{Content};
 ghost use Rattle.ww_invariant.specs.Out.{slot_of, numbers_of};
 ghost use Rattle.ww_invariant.specs.Steps.{MayDraw, MayEnd};
-ghost use Rattle.ww_table.specs.Seat.{IsSeatOf, base_of, step_of, giving_of, locks_of, taking_of, view_of};
+ghost use Rattle.ww_table.specs.Seat.{IsSeatOf, base_of, stamp_step, giving_of, locks_of, taking_of, view_of};
 ghost use Rattle.ww_table.specs.Steps.{IsBareLock, MayGiveFree, MayTakeFree, HasAskedWhoOwns, HasDrawn, HasReadTop, HasSwapped, HasTriedToEnd, HasTriedToGiveBare, HasTriedToGiveFree, HasTriedToTakeBare, HasTriedToTakeFree};
 
 use crate::board::Board;
@@ -194,7 +194,7 @@ impl Stepper {
     #[inline(always)]
     fn own_with(&self, stamp: u64) -> u64
         requires base { self.now.base ≡ base_of self.now.who }
-        requires step { self.now.step ≡ step_of self.now.who }
+        requires step { self.now.step ≡ stamp_step self.now.who }
         requires fits { Fits self.now.who stamp }
         ensures { result ≡ packed (record { seat = Some self.now.who; stamp = stamp; flags = 0 }) }
     {

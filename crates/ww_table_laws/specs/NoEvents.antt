@@ -14,7 +14,7 @@ use Rattle.ww_invariant.specs.Layout.{owner_at, sign_at, stamp_at}
 use Rattle.ww_invariant.specs.Rule.{St, Sat, Ruled, Stays}
 use Rattle.ww_invariant.specs.Steps.{knowing, keeping, nobody, first_seat, without_first, with_seat}
 use Rattle.ww_invariant.specs.Guards.{lost, shutting_out, looking, glancing}
-use Rattle.ww_invariant.specs.Signs.{noting, reading, finding_none}
+use Rattle.ww_invariant.specs.Signs.{noting, having_read, finding_none}
 use Rattle.ww_invariant.specs.Cancels.{finding_pending, finding_uncancelled}
 use Rattle.ww_table_laws.specs.Laws.{StepsAt}
 
@@ -45,7 +45,7 @@ CountIsNoEvent = (key : Start) (s : St) (r : Ruled key s) (id : ℕ) (me : Sat) 
 
 -- a look at the own sign: what is found is noted, or that nothing was; so too where a context doesn't end, being signed
 pub record IsNotedOnly (key : Start) (s : St) (r : Ruled key s) (id : ℕ) (me : Sat) (i : ℕ) : Type 0 where
-  pub found : (slice_index s.words i ≡ 0 → IsQuiet me.0.part.core) → Stays key s r (once_read s i id me (reading me.0 (slice_index s.words i)))
+  pub found : (slice_index s.words i ≡ 0 → IsQuiet me.0.part.core) → Stays key s r (once_read s i id me (having_read me.0 (slice_index s.words i)))
   pub found_none : Stays key s r (once_read s i id me (finding_none me.0))
 
 abbrev pub OwnSignIsNoEvent : Type 0

@@ -3,7 +3,7 @@ use Rattle.ww_model.specs.State.{any_below}
 use Rattle.ww_view.specs.View.{owns}
 use Rattle.ww_invariant.specs.Rule.{Sat}
 use Rattle.ww_seat.specs.declared.look.Attempt.TheVariants.{Lost}
-use Rattle.ww_seat.specs.Work.{has_joined, looks_again, HasCome, IsAtWorkHere}
+use Rattle.ww_seat.specs.Work.{has_joined, looks_again, HasComeTo, IsAtWorkHere}
 use Rattle.ww_seat.proofs.Coming.{attempted, come_goes_on, come_here_still, come_looked, come_out, come_stood, come_then, come_touched}
 use Rattle.ww_seat.proofs.Stood.{flags_later}
 use Rattle.ww_seat.proofs.There.{marks_there}
@@ -60,7 +60,7 @@ returns-in-Some-stop_if_cancelled-clause-came c = let same = c.stop_if_cancelled
     stopped.0 stopped.1 tt stopped.2.awake stopped.2.deeds)
 
 -- it stands in the wait list, and goes on
-went_on : (c : In_default-stop_if_cancelled) → HasCome c.args.board.now c.args.lock true (looks_again c.args.arrival.now)
+went_on : (c : In_default-stop_if_cancelled) → HasComeTo c.args.board.now c.args.lock true (looks_again c.args.arrival.now)
     c.args.waits c.args.seat.now.seat.me c.args.wake.now (c.args.seat.now.seat.me.0.part.core.attempts + 1) Lost
     c.stop_if_cancelled.new.seat.seat.me c.args.wake.now
 went_on c = let stopped = c.in_default-stop_if_cancelled.ensures.stopped in
@@ -93,6 +93,6 @@ returns-clause-came c = let m3 = c.stop_if_cancelled.new.seat.seat.me in
           ∙ c.stand.ensures.same.records ∙ c.look-seen.ensures.records;
     }) c.joining.ensures.joined refl c.joining.ensures.again
     (come_then (went_on (goal.at.returns-clause-came c).In_default-stop_if_cancelled)
-    (subst (λ (b : Bool). HasCome c.args.board.now c.args.lock true b c.args.waits m3 c.args.wake.now m3.0.part.core.attempts
+    (subst (λ (b : Bool). HasComeTo c.args.board.now c.args.lock true b c.args.waits m3 c.args.wake.now m3.0.part.core.attempts
     c.stay_or_back_off.result c.stay_or_back_off.new.seat.seat.me c.stay_or_back_off.new.wake) c.joining.ensures.again
     (c.stay_or_back_off.ensures.came c.args.waits c.in_default-stop_if_cancelled.ensures.stopped.1)))

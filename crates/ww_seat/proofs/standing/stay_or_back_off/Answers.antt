@@ -1,7 +1,7 @@
 use Rattle.std.proofs.Common.{true, ap, ◌∙◌}
 use Rattle.ww_invariant.specs.declared.cells.Sight.{Sight}
 use Rattle.ww_invariant.specs.Guards.{exiting}
-use Rattle.ww_seat.specs.Work.{deeds_of, looks_again, HasCome}
+use Rattle.ww_seat.specs.Work.{deeds_of, looks_again, HasComeTo}
 use Rattle.ww_seat.specs.declared.look.Attempt.TheVariants.{Lost}
 use Rattle.ww_seat.specs.declared.waits.Waits as wait
 use Rattle.ww_seat.specs.declared.waits.Waits.TheVariants.{ToTheEnd}
@@ -20,7 +20,7 @@ death-requires-clause-at c = let signed = c.sign_all.ensures.signed in
     (looks_again c.args.arrival, come_here_still (come_noted asked signed.0 signed.1) c.sign_all.ensures.same.seat c.requires.at.lock)
 
 -- once it asked, signed, and looked whether it has to die
-looked : (c : After-death) → (waits : wait.Waits) → HasCome c.args.board.now c.args.lock true (looks_again c.args.arrival)
+looked : (c : After-death) → (waits : wait.Waits) → HasComeTo c.args.board.now c.args.lock true (looks_again c.args.arrival)
     waits c.args.seat.now.seat.me c.args.wake.now c.args.seat.now.seat.me.0.part.core.attempts Lost
     c.death.new.seat.seat.me c.sign_all.new.wake
 looked c waits = let signed = c.sign_all.ensures.signed in

@@ -6,7 +6,7 @@ use Rattle.ww_invariant.specs.declared.cells.Cell.TheVariants.{Content}
 use Rattle.ww_invariant.specs.declared.cells.Sight.{Sight}
 use Rattle.ww_invariant.specs.Rule.{Sat}
 use Rattle.ww_invariant.specs.Out.{numbers_of}
-use Rattle.ww_invariant.specs.Waiting.{takes_inside, taking_inside, below}
+use Rattle.ww_invariant.specs.Waiting.{takes_inside, taking_inside, under_top}
 use Rattle.ww_invariant.proofs.InsideSteps.{takes_lock}
 use Rattle.ww_invariant.proofs.InsideTurning.{others_long}
 use Rattle.ww_invariant.proofs.Turning.{numbers_long, popped}
@@ -58,7 +58,7 @@ push-requires-2 c = let t = c.own_left-owner.ensures.read in
 pub leave_list-requires-clause-top : goal.leave_list-requires-clause-top
 leave_list-requires-clause-top c = let r = c.own_left-owner.ensures in let hit = (told (goal.at.leave_list-requires-clause-top c).After-compare_exchange-found).0 (c.if-found-old.false ∙ c.pack-old.ensures) in
     let node : ℕ × Cell = (c.args.lock, Content hit.0) in
-    (_, list_there c.args.self.now.seat.me c.args.lock (ap (λ (m : Sat). m.1) hit.2 ∙ ap (λ (m : Sat). below node m.1) r.read.now) c.list_slot-slot.ensures)
+    (_, list_there c.args.self.now.seat.me c.args.lock (ap (λ (m : Sat). m.1) hit.2 ∙ ap (λ (m : Sat). under_top node m.1) r.read.now) c.list_slot-slot.ensures)
 
 pub returns : goal.returns
 returns c = let r = c.own_left-owner.ensures in let t = r.read in let g = c.leave_list.ensures in
@@ -67,7 +67,7 @@ returns c = let r = c.own_left-owner.ensures in let t = r.read in let g = c.leav
     (c.push.ensures.items ∙ ap (λ (l : List ℕ). l ++ c.args.lock ∷ []) (items (goal.at.returns c).After-pop)) in
     let new : Stepper = record c.own_left-owner.new.self { seat = c.leave_list.new.seat; page = c.leave_list.result; order = c.push-2.new.self } in
     let done = gone_over r.seat t c.compare_exchange-found.new.seat new (λ (v : Sight). taking_inside v c.args.lock hit.0) c.compare_exchange-found.ensures.0
-    (ap (λ (m : Sat). m.0) hit.2) (ap (λ (m : Sat). m.1) hit.2 ∙ ap (λ (m : Sat). below node m.1) t.now) hit.3 refl
+    (ap (λ (m : Sat). m.0) hit.2) (ap (λ (m : Sat). m.1) hit.2 ∙ ap (λ (m : Sat). under_top node m.1) t.now) hit.3 refl
     c.list_slot-slot.ensures c.take-page.ensures.value
     (record { home = g.home.0; view = g.view; list = g.list; page = g.page }) refl order in record {
       seat = done.0;
