@@ -1,7 +1,7 @@
 /*
  * The proved library for C on aarch64, as the kit's compiler (LLVM) makes it.  Written by ./build c --assembly.
  *
- * sources: a80379500055e37724f755585f57e1c981d53b6926086d8f76271d6574f2d675
+ * sources: 26fc74889c7434bc256ea1bf5cf984150d5458dca684c86764350d575dce1365
  * kit:     rattle-kit-13f logic dac8208d650f15bf
  * proof:   logic=proved functions=60 axioms=3 target=aarch64-unknown-linux-gnu sum=dac8208d650f15bf
  */
