@@ -1,7 +1,7 @@
 /*
  * The proved program on x86_64, as the kit's compiler (LLVM) makes it.  Written by ./build --assembly.
  *
- * sources: 78c36865fb318a0df6f73dca2fdb23420e7a5def344296c6fd6fa259076b7e92
+ * sources: 6e58f35512127ef5b30d9318ba2ca2f70b2577d54321666fc572dd1941869297
  * kit:     rattle-kit-13f logic dac8208d650f15bf
  * proof:   logic=proved functions=69 axioms=6 target=x86_64-unknown-linux-gnu threads=_exit,abort,free,malloc,pthread_attr_destroy,pthread_attr_init,pthread_attr_setguardsize,pthread_attr_setstacksize,pthread_create,pthread_detach,pthread_join,pthread_self,sched_yield,syscall main=Threads+Wait may-wait=7 sum=dac8208d650f15bf
  */
