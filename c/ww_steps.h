@@ -44,8 +44,8 @@ typedef struct {
 
 /*
  * What a step returns besides 0 and a negative errno: its call needs another step, by ww_go_on_.  Until the call has ended,
- * any other call with the handle returns -EBUSY.  With an empty handle each call returns -EINVAL, except ww_idle_, ww_close_
- * and ww_held_, which return 0.
+ * any other call with the handle but ww_heed_ returns -EBUSY.  With an empty handle each call returns -EINVAL, except
+ * ww_idle_, ww_close_ and ww_held_, which return 0.
  */
 enum {
 	WW_AGAIN = 1,	/* immediately: the seat may be inside a guard, where it holds up everybody else */
@@ -111,6 +111,13 @@ int32_t ww_next_wake_(ww_handle *seat);
  * pending; -EINVAL: the world has no such seat.
  */
 int32_t ww_cancel_(ww_handle *seat, uint16_t victim);
+/*
+ * From now on the wait of the call that hasn't ended heeds cancels, as if that had begun so: one that is pending ends it, by
+ * the next steps.  So a seat ends its own wait: before the call ww_cancel_ cancels its own number, which stays pending while
+ * the wait heeds none; then ww_heed_.  -EINVAL: no call is on its way; -EBUSY: the seat is inside a guard, as it may be after
+ * WW_AGAIN but not after another answer to a lock call; or the call releases a lock.
+ */
+int32_t ww_heed_(ww_handle *seat);
 
 /* A handle's `mode` when it may begin a context, and once that has released everything that it held. */
 enum { WW_READY_ = 2, WW_BARE_ = 4 };

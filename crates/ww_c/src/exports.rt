@@ -1,6 +1,6 @@
 //! What C calls. Each is one call of a desk by its handle, and waits for nobody: `c/ww_steps.h` says what C has to do.
 ghost use Rattle.std.specs.Prelude.{◌≡◌, ◌<◌, ◌≤◌, ◌⊎◌, take};
-ghost use Rattle.ww_steps.specs.Answers.{IsBeginAnswer, IsDoneAnswer, IsEndAnswer, IsLockAnswer, IsSlowAnswer, IsTryAnswer, IsUnlockAnswer, IsHasAnswer};
+ghost use Rattle.ww_steps.specs.Answers.{IsBeginAnswer, IsDoneAnswer, IsEndAnswer, IsLockAnswer, IsSlowAnswer, IsTryAnswer, IsUnlockAnswer, IsHasAnswer, IsHeedAnswer};
 ghost use Rattle.ww_c.specs.Codes.{waits_of};
 ghost use Rattle.ww_c.specs.Exports.{IsCall, IsCloseCall, IsEachCall, IsHeldCall, IsIdleCall, IsTurnCall, IsWakeCall, cancels};
 
@@ -436,6 +436,19 @@ pub extern "C" fn ww_cancel_(seat: &mut Handle, victim: u16) -> i32
     seat.mode = FULL;
     seat.below = 0;
     code(seat.slot.lend().cancel(victim))
+}
+
+/// From now on the wait of the call that is on its way heeds cancels, whatever `heeds` was.
+#[unsafe(no_mangle)]
+pub extern "C" fn ww_heed_(seat: &mut Handle) -> i32
+    ensures { IsCall IsHeedAnswer seat.old.slot.desk result seat.new.slot.desk }
+{
+    if seat.is_empty() {
+        return EINVAL;
+    }
+    seat.mode = FULL;
+    seat.below = 0;
+    code(seat.slot.lend().heed())
 }
 
 /// Whether the seat may be closed: EBUSY while a call is on its way, or there is a context or a lock.

@@ -20,7 +20,7 @@ use Rattle.ww_steps.specs.declared.turn.NoTry.{NoTry}
 use Rattle.ww_steps.specs.declared.turn.NoTry.TheVariants as no
 use Rattle.ww_steps.specs.declared.turn.Answer.{Answer}
 use Rattle.ww_steps.specs.declared.turn.Answer.TheVariants.{Done, Again, Awaits, Stays, Sleeps, Busy, Invalid, Already, NoSpace, Deadlk, Interrupted}
-use Rattle.ww_steps.specs.Situations.{Situation, is_at_rest, is_inside, can_want, wants_now}
+use Rattle.ww_steps.specs.Situations.{Situation, is_at_rest, is_inside, waits_outside, until_cancelled, can_want, wants_now}
 
 -- ---- what a call makes of a desk
 
@@ -343,6 +343,13 @@ IsCancelAnswer s u Already s' = (is_at_rest s.turn ≡ true) × (u < s.seats)
 IsCancelAnswer s u Busy s' = (is_at_rest s.turn ≡ false) × (s' ≡ s)
 IsCancelAnswer s u Invalid s' = (is_at_rest s.turn ≡ true) × (s.seats ≤ u) × (s' ≡ s)
 IsCancelAnswer s u _ s' = ⊥
+
+-- From now on the wait of its call heeds cancels, whatever that call said; and nothing else has changed.
+abbrev pub IsHeedAnswer : Situation → Answer → Situation → Type 0
+IsHeedAnswer s Done s' = (waits_outside s.turn ≡ true) × (s' ≡ record s { turn = until_cancelled s.turn })
+IsHeedAnswer s Busy s' = (is_at_rest s.turn ≡ false) × (waits_outside s.turn ≡ false) × (s' ≡ s)
+IsHeedAnswer s Invalid s' = (is_at_rest s.turn ≡ true) × (s' ≡ s)
+IsHeedAnswer s _ s' = ⊥
 
 -- nothing is on its way, it has no context and holds nothing
 abbrev pub HasNothing : Situation → Type 0

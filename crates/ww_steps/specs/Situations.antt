@@ -3,6 +3,7 @@ use Rattle.std.specs.Prelude.{ℕ, ◌≡◌, ◌≢◌, ◌==◌, ◌&&◌, ◌
 use Rattle.atomic_table.specs.Seated.{TableId}
 use Rattle.ww_queue.specs.declared.kind.Kind.{Kind}
 use Rattle.ww_view.specs.declared.view.View.{View}
+use Rattle.ww_seat.specs.declared.waits.Waits.TheVariants.{UntilCancelled}
 use Rattle.ww_steps.specs.declared.turn.Turn.{Turn}
 use Rattle.ww_steps.specs.declared.turn.Turn.TheVariants.{Rests, Stays, Wants, Looks, Gives}
 
@@ -49,6 +50,22 @@ is_inside (Stays n stay waits) = false
 is_inside (Wants n arrival waits) = false
 is_inside (Looks n arrival waits) = true
 is_inside (Gives n) = false
+
+-- it waits for a lock, outside the guards
+abbrev pub waits_outside : Turn → Bool
+waits_outside Rests = false
+waits_outside (Stays n stay waits) = true
+waits_outside (Wants n arrival waits) = true
+waits_outside (Looks n arrival waits) = false
+waits_outside (Gives n) = false
+
+-- the same wait, which heeds cancels
+abbrev pub until_cancelled : Turn → Turn
+until_cancelled Rests = Rests
+until_cancelled (Stays n stay waits) = Stays n stay UntilCancelled
+until_cancelled (Wants n arrival waits) = Wants n arrival UntilCancelled
+until_cancelled (Looks n arrival waits) = Looks n arrival waits
+until_cancelled (Gives n) = Gives n
 
 abbrev pub is_empty : List ℕ → Bool
 is_empty [] = true

@@ -16,7 +16,7 @@ use ww_queue::wide::Entry;
 use ww_seat::{Arrival, Attempt, Look, Stay, Waits, mark};
 
 impl Desk {
-    ghost use Rattle.ww_steps.specs.Answers.{BooksWakes, CountsNaps, IsNextAnswer, IsStayAnswer, IsGiveAnswer, IsCancelAnswer, IsWakeAnswer};
+    ghost use Rattle.ww_steps.specs.Answers.{BooksWakes, CountsNaps, IsNextAnswer, IsStayAnswer, IsGiveAnswer, IsCancelAnswer, IsHeedAnswer, IsWakeAnswer};
 
     /// The next step of the call that is on its way. `Invalid` where none is.
     #[tactic(auto, using(crate::proofs::Account::entered_keeps, crate::proofs::Account::give_balances, crate::proofs::Account::step_books))]
@@ -95,6 +95,25 @@ impl Desk {
             true,
         );
         Answer::Done
+    }
+
+    /// From now on the wait of the call that is on its way heeds cancels, whatever that call said. `Invalid` where none is;
+    /// `Busy` where it is inside a guard, or releases a lock.
+    pub fn heed(&mut self) -> Answer
+        ensures { IsHeedAnswer self.old result self.new }
+    {
+        match self.station.turn {
+            Turn::Rests => Answer::Invalid,
+            Turn::Stays(lock, stay, _) => {
+                self.station.turn = Turn::Stays(lock, stay, Waits::UntilCancelled);
+                Answer::Done
+            }
+            Turn::Wants(lock, arrival, _) => {
+                self.station.turn = Turn::Wants(lock, arrival, Waits::UntilCancelled);
+                Answer::Done
+            }
+            Turn::Looks(..) | Turn::Gives(_) => Answer::Busy,
+        }
     }
 
     /// One of the seats to wake now, if there are any. Each is named once.

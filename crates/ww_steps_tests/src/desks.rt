@@ -89,6 +89,33 @@ fn two_desks_meet(rt: HostRuntime) -> Result<(), Fail> {
     Ok(())
 }
 
+/// A call that heeds no cancel waits on, though one is pending; once it heeds them, that ends it. So a desk that has cancelled
+/// itself before ends its own wait when it wants to.
+#[test]
+fn a_desk_ends_its_own_wait(rt: HostRuntime) -> Result<(), Fail> {
+    for kind in [Kind::WoundWait, Kind::WaitDie] {
+        let (mut zero, mut one) = two(rt.alloc(), kind)?;
+        assert!(rt; zero.lock(0, ToTheEnd) == Answer::Done && zero.heed() == Answer::Invalid);
+        assert!(rt; one.cancel(1) == Answer::Done && one.next_wake().is_none());
+        let answer = one.lock(0, ToTheEnd);
+        assert!(rt; turned(&mut one, answer) == Answer::Sleeps);
+        let answer = one.go_on();
+        assert!(rt; turned(&mut one, answer) == Answer::Sleeps && one.heed() == Answer::Done);
+        let answer = one.go_on();
+        assert!(rt; turned(&mut one, answer) == Answer::Interrupted(1) && one.is_idle());
+        assert!(rt; one.heed() == Answer::Invalid && one.cancel(1) == Answer::Done);
+        assert!(rt; one.lock(0, ToTheEnd) == Answer::Again && one.heed() == Answer::Done);
+        let answer = one.go_on();
+        assert!(rt; turned(&mut one, answer) == Answer::Interrupted(1));
+        let answer = one.lock(0, ToTheEnd);
+        assert!(rt; turned(&mut one, answer) == Answer::Sleeps);
+        assert!(rt; zero.unlock(0) == Answer::Again && zero.heed() == Answer::Busy);
+        assert!(rt; zero.go_on() == Answer::Done && one.heed() == Answer::Done);
+        assert!(rt; one.go_on() == Answer::Done && one.held() == 1);
+    }
+    Ok(())
+}
+
 /// A call rests shortly if the owner is quick, or can't be told apart, or is gone by the second spin read, and otherwise
 /// as one that waits for work. Each call looks at its lock anew.
 #[test]
