@@ -94,6 +94,11 @@ enum { WW_KEPT_ = 9 }; /* the length of the array */
  * handle.
  */
 WW_MUST_CHECK size_t ww_unlock_each_(ww_handle *seat, const uint32_t locks[WW_KEPT_], size_t count);
+/*
+ * Returns 0 if nobody has the lock or waits for it, else -EBUSY, as one look at the lock's word tells; it acquires nothing, and
+ * tells nothing of later.  -EINVAL: no such lock.
+ */
+WW_MUST_CHECK int32_t ww_is_free_(ww_handle *seat, uint32_t lock);
 /* Returns 0 if the seat holds the lock, else -EINVAL. */
 WW_MUST_CHECK int32_t ww_has_(ww_handle *seat, uint32_t lock);
 /* Returns how many it holds. */

@@ -1,6 +1,6 @@
 //! What C calls. Each is one call of a desk by its handle, and waits for nobody: `c/ww_steps.h` says what C has to do.
 ghost use Rattle.std.specs.Prelude.{◌≡◌, ◌<◌, ◌≤◌, ◌⊎◌, take};
-ghost use Rattle.ww_steps.specs.Answers.{IsBeginAnswer, IsDoneAnswer, IsEndAnswer, IsLockAnswer, IsSlowAnswer, IsTryAnswer, IsUnlockAnswer, IsHasAnswer, IsHeedAnswer};
+ghost use Rattle.ww_steps.specs.Answers.{IsBeginAnswer, IsDoneAnswer, IsEndAnswer, IsLockAnswer, IsSlowAnswer, IsTryAnswer, IsUnlockAnswer, IsHasAnswer, IsFreeAnswer, IsHeedAnswer};
 ghost use Rattle.ww_c.specs.Codes.{waits_of};
 ghost use Rattle.ww_c.specs.Exports.{IsCall, IsCloseCall, IsEachCall, IsHeldCall, IsIdleCall, IsTurnCall, IsWakeCall, cancels};
 
@@ -390,6 +390,17 @@ pub extern "C" fn ww_has_(seat: &mut Handle, lock: u32) -> i32
         return EINVAL;
     }
     code(seat.slot.lend().has(lock))
+}
+
+/// Whether nobody has a lock or waits for it, as its word says: 0, or EBUSY where somebody does.
+#[unsafe(no_mangle)]
+pub extern "C" fn ww_is_free_(seat: &mut Handle, lock: u32) -> i32
+    ensures { IsCall (λ s a t. IsFreeAnswer s lock a t) seat.old.slot.desk result seat.new.slot.desk }
+{
+    if seat.is_empty() {
+        return EINVAL;
+    }
+    code(seat.slot.lend().is_free(lock))
 }
 
 /// The next step of the call that is on its way. How many pauses to rest then stands in `rest`.

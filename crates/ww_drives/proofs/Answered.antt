@@ -4,9 +4,9 @@ use Rattle.ww_seat.specs.declared.waits.Waits.{Waits}
 use Rattle.ww_steps.specs.declared.turn.Answer.{Answer}
 use Rattle.ww_steps.specs.declared.turn.Answer.TheVariants.{Done, Again, Sleeps, Busy, Invalid, Already, NoSpace}
 use Rattle.ww_steps.specs.Situations.{Situation}
-use Rattle.ww_steps.specs.Answers.{Balances, StaysOut, HasReleased, IsBeginAnswer, IsDoneAnswer, IsEndAnswer, IsLockAnswer, IsTryAnswer, IsSlowAnswer, IsUnlockAnswer, IsHasAnswer, IsCancelAnswer, IsHeedAnswer, naps_then, CountsNaps}
+use Rattle.ww_steps.specs.Answers.{Balances, StaysOut, HasReleased, IsBeginAnswer, IsDoneAnswer, IsEndAnswer, IsLockAnswer, IsTryAnswer, IsSlowAnswer, IsUnlockAnswer, IsHasAnswer, IsFreeAnswer, IsCancelAnswer, IsHeedAnswer, naps_then, CountsNaps}
 use Rattle.ww_steps.proofs.Account.{balances_same}
-use Rattle.ww_drives.specs.Deeds.{Call, begin, done, end, lock, try_lock, lock_slow, go_on, unlock, unlock_each, has, cancel, heed, HasDone, is_sleeps}
+use Rattle.ww_drives.specs.Deeds.{Call, begin, done, end, lock, try_lock, lock_slow, go_on, unlock, unlock_each, has, is_free, cancel, heed, HasDone, is_sleeps}
 
 -- it owes nobody more, and left no guard as a waiter
 record IsQuiet (s s' : Situation) : Type 0 where
@@ -134,6 +134,12 @@ had s s' n Busy h = accounts s s' Busy refl (quiet_same s s' h.1)
 had s s' n Invalid h = accounts s s' Invalid refl (quiet_same s s' h.2)
 had s s' n _ h = absurd h
 
+looked : (s s' : Situation) (n : ℕ) (a : Answer) → IsFreeAnswer s n a s' → Accounts s a s'
+looked s s' n Done h = accounts s s' Done refl (quiet_same s s' h.3)
+looked s s' n Busy h = accounts s s' Busy refl (quiet_same s s' h.1)
+looked s s' n Invalid h = accounts s s' Invalid refl (quiet_same s s' h.2)
+looked s s' n _ h = absurd h
+
 heeding : (s s' : Situation) (a : Answer) → IsHeedAnswer s a s' → Accounts s a s'
 heeding s s' Done h = accounts s s' Done refl
     (subst (IsQuiet s) (sym h.1) (record { caller = refl; cancelled = refl; debts = refl; wakes = refl; naps = refl }))
@@ -167,5 +173,6 @@ each_accounts (unlock n) s a s' h = let_go s s' n a h
 each_accounts (unlock_each ns) s a s' h = subst (λ (x : Answer). Accounts s x s') (sym h.0)
     (accounts s s' Done refl (released s s' h.1.1.1 h.1.1.4))
 each_accounts (has n) s a s' h = had s s' n a h
+each_accounts (is_free n) s a s' h = looked s s' n a h
 each_accounts (cancel u) s a s' h = (h.1 s (itself s), cancelled_naps s s' u a h.0)
 each_accounts heed s a s' h = heeding s s' a h

@@ -12,7 +12,7 @@ use Rattle.ww_seat.specs.declared.waits.Waits.{Waits}
 use Rattle.ww_steps.specs.declared.turn.Answer.{Answer}
 use Rattle.ww_steps.specs.declared.turn.Answer.TheVariants.{Done, Sleeps}
 use Rattle.ww_steps.specs.Situations.{Situation, is_inside}
-use Rattle.ww_steps.specs.Answers.{BooksWakes, CountsNaps, HasSomeHeld, IsBeginAnswer, IsDoneAnswer, IsEndAnswer, IsLockAnswer, IsTryAnswer, IsSlowAnswer, IsNextAnswer, IsUnlockAnswer, IsEachAnswer, IsHasAnswer, IsCancelAnswer, IsHeedAnswer, IsWakeAnswer}
+use Rattle.ww_steps.specs.Answers.{BooksWakes, CountsNaps, HasSomeHeld, IsBeginAnswer, IsDoneAnswer, IsEndAnswer, IsLockAnswer, IsTryAnswer, IsSlowAnswer, IsNextAnswer, IsUnlockAnswer, IsEachAnswer, IsHasAnswer, IsFreeAnswer, IsCancelAnswer, IsHeedAnswer, IsWakeAnswer}
 use Rattle.ww_drives.specs.Stages.{Stage, StandsOutside, IsFirstStage}
 
 -- ---- calls
@@ -29,6 +29,7 @@ pub data Call : Type 0 where
   unlock : (n : ℕ) → Call
   unlock_each : (ns : List ℕ) → Call
   has : (n : ℕ) → Call
+  is_free : (n : ℕ) → Call
   cancel : (u : ℕ) → Call
   heed : Call
 
@@ -44,6 +45,7 @@ HasDone go_on s a s' = IsNextAnswer s.turn s a s' × BooksWakes s s' × CountsNa
 HasDone (unlock n) s a s' = IsUnlockAnswer s n a s'
 HasDone (unlock_each ns) s a s' = (a ≡ Done) × ((left : ℕ) × IsEachAnswer s ns left s') × HasSomeHeld s s'
 HasDone (has n) s a s' = IsHasAnswer s n a s'
+HasDone (is_free n) s a s' = IsFreeAnswer s n a s'
 HasDone (cancel u) s a s' = IsCancelAnswer s u a s' × BooksWakes s s'
 HasDone heed s a s' = IsHeedAnswer s a s'
 

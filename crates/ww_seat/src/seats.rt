@@ -144,6 +144,16 @@ impl Seat {
         self.seat.has(board, lock)
     }
 
+    /// Whether nobody has a lock or waits for it, which the lock's word says.
+    #[inline(always)]
+    pub fn is_free(&mut self, board: &Board, lock: u32) -> bool
+        requires at { IsAt board.now self.old }
+        requires may { (lock < locks_of board.now) × IsAway (view_in self.old) }
+        ensures { (self.new ≡ self.old) × (result ≡ true → owns (view_in self.old) lock ≡ false) }
+    {
+        self.seat.is_free(board, lock)
+    }
+
     /// Reads the owner word of a lock once, while it stays away from that.
     #[inline(always)]
     pub fn glance(&mut self, board: &Board, lock: u32) -> Owner

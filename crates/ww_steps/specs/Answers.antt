@@ -321,6 +321,13 @@ IsHasAnswer s n Busy s' = (is_at_rest s.turn ≡ false) × (s' ≡ s)
 IsHasAnswer s n Invalid s' = (is_at_rest s.turn ≡ true) × (is_among n s.held ≡ false) × (s' ≡ s)
 IsHasAnswer s n _ s' = ⊥
 
+-- whether nobody had the lock or waited for it, as its word said at one moment; then it didn't hold it itself
+abbrev pub IsFreeAnswer : Situation → ℕ → Answer → Situation → Type 0
+IsFreeAnswer s n Done s' = (is_at_rest s.turn ≡ true) × HasLockNumber s n × (is_among n s.held ≡ false) × (s' ≡ s)
+IsFreeAnswer s n Busy s' = ((is_at_rest s.turn ≡ false) ⊎ HasLockNumber s n) × (s' ≡ s)
+IsFreeAnswer s n Invalid s' = (is_at_rest s.turn ≡ true) × (s.size ≤ n) × (s' ≡ s)
+IsFreeAnswer s n _ s' = ⊥
+
 -- ---- whom to wake, and calling off
 
 -- a seat that has a mark, which it has no more then; or none has

@@ -1,4 +1,4 @@
-//! The first step of releasing a lock, and a look whether one is held.
+//! The first step of releasing a lock, and looks whether one is held, or free.
 use crate::desk::Desk;
 use crate::turn::Answer;
 use ww_table::Tried;
@@ -6,7 +6,7 @@ use ww_table::Tried;
 impl Desk {
     ghost use Rattle.std.specs.Prelude.{◌≡◌, ◌<◌, true};
     ghost use Rattle.ww_steps.specs.Situations.{is_at_rest};
-    ghost use Rattle.ww_steps.specs.Answers.{HasSomeHeld, IsEachAnswer, IsGivenOrKept, IsHasAnswer, IsUnlockAnswer};
+    ghost use Rattle.ww_steps.specs.Answers.{HasSomeHeld, IsEachAnswer, IsFreeAnswer, IsGivenOrKept, IsHasAnswer, IsUnlockAnswer};
 
     /// Releases a lock, or begins to. `Invalid` for one that isn't held.
     pub fn unlock(&mut self, lock: u32) -> Answer
@@ -93,5 +93,22 @@ impl Desk {
             return Answer::Done;
         }
         Answer::Invalid
+    }
+
+    /// Whether nobody has a lock or waits for it, by one look at its word: `Done`, or `Busy` where somebody does. It tells
+    /// nothing of later.
+    pub fn is_free(&mut self, lock: u32) -> Answer
+        ensures { IsFreeAnswer self.old lock result self.new }
+    {
+        if !self.station.rests() {
+            return Answer::Busy;
+        }
+        if !self.station.is_lock(lock) {
+            return Answer::Invalid;
+        }
+        if self.station.seat.is_free(&self.station.board, lock) {
+            return Answer::Done;
+        }
+        Answer::Busy
     }
 }

@@ -116,6 +116,25 @@ fn a_desk_ends_its_own_wait(rt: HostRuntime) -> Result<(), Fail> {
     Ok(())
 }
 
+/// A lock is free where nobody has it or waits for it. To look takes nothing, and tells a holder that it isn't.
+#[test]
+fn a_desk_sees_who_is_free(rt: HostRuntime) -> Result<(), Fail> {
+    for kind in [Kind::WoundWait, Kind::WaitDie] {
+        let (mut zero, mut one) = two(rt.alloc(), kind)?;
+        assert!(rt; zero.is_free(0) == Answer::Done && zero.is_free(65) == Answer::Invalid);
+        assert!(rt; zero.lock(0, ToTheEnd) == Answer::Done && zero.is_free(0) == Answer::Busy);
+        assert!(rt; one.is_free(0) == Answer::Busy && one.is_free(64) == Answer::Done);
+        let answer = one.lock(0, ToTheEnd);
+        assert!(rt; turned(&mut one, answer) == Answer::Sleeps && one.is_free(64) == Answer::Busy);
+        let answer = zero.unlock(0);
+        assert!(rt; turned(&mut zero, answer) == Answer::Done && zero.is_free(0) == Answer::Busy);
+        let answer = one.go_on();
+        assert!(rt; turned(&mut one, answer) == Answer::Done && one.unlock(0) == Answer::Done);
+        assert!(rt; zero.is_free(0) == Answer::Done && one.is_idle());
+    }
+    Ok(())
+}
+
 /// A call rests shortly if the owner is quick, or can't be told apart, or is gone by the second spin read, and otherwise
 /// as one that waits for work. Each call looks at its lock anew.
 #[test]

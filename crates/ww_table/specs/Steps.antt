@@ -1,5 +1,5 @@
 -- Each step outside all guards: what it requires of its seat, and what came of it.
-use Rattle.std.specs.Prelude.{ℕ, ◌≡◌, ◌<◌, ◌≤◌, ◌≢◌, ◌^◌, ◌∷◌, Bool, true, false, List, length, Option, Some, IfSome, IfNone, IsSome, vec_capacity}
+use Rattle.std.specs.Prelude.{ℕ, ◌≡◌, ◌<◌, ◌≤◌, ◌≢◌, ◌^◌, ◌==◌, ◌∷◌, Bool, true, false, List, length, Option, Some, IfSome, IfNone, IsSome, vec_capacity}
 use Rattle.std.specs.List.{AllByRecursion}
 use mathlib.Core.Option.{some}
 use lib.ListN.{get_elem?}
@@ -16,7 +16,7 @@ use Rattle.ww_invariant.specs.declared.cells.Cell.TheVariants.{Content}
 use Rattle.ww_invariant.specs.declared.cells.Sight.{Sight}
 use Rattle.ww_invariant.specs.Rule.{Sat}
 use Rattle.ww_invariant.specs.Out.{AreOthers, slot_of}
-use Rattle.ww_invariant.specs.Steps.{knowing, drawing, drawing_none, taking, giving, keeping, placing}
+use Rattle.ww_invariant.specs.Steps.{knowing, drawing, drawing_none, taking, giving, keeping, placing, IsToldBy}
 use Rattle.ww_invariant.specs.Signs.{having_read, finding_none}
 use Rattle.ww_invariant.specs.Cancels.{finding_uncancelled, heeding}
 use Rattle.ww_table.specs.declared.board.Board.{Board}
@@ -116,6 +116,15 @@ pub record HasAskedWhoOwns (b : Board) (s : Stepper) (n : ℕ) (owner : Bool) (s
   pub same : s' ≡ record s { seat = s'.seat }
   pub me : s'.seat.me ≡ s.seat.me
   pub owns : owner ≡ view.owns (view_of s) n
+
+-- It is told whether the word that it found there is 0, and nothing has changed. That word told whether it owns the lock, as a
+-- word of 0 tells that it doesn't.
+pub record HasAskedIfFree (b : Board) (s : Stepper) (n : ℕ) (free : Bool) (s' : Stepper) : Type 0 where
+  pub seat : IsSeatOf b s'
+  pub same : s' ≡ record s { seat = s'.seat }
+  pub me : s'.seat.me ≡ s.seat.me
+  pub word : (found : ℕ) × (free ≡ (found == 0)) × IsToldBy (view_of s) n found
+  pub lacks : free ≡ true → view.owns (view_of s) n ≡ false
 
 -- ---- nodes that are out
 

@@ -10,7 +10,7 @@ ghost use Rattle.ww_invariant.specs.declared.cells.Cell.TheVariants.{Content};
 ghost use Rattle.ww_invariant.specs.Out.{slot_of, numbers_of};
 ghost use Rattle.ww_invariant.specs.Steps.{MayDraw, MayEnd};
 ghost use Rattle.ww_table.specs.Seat.{IsSeatOf, base_of, stamp_step, giving_of, locks_of, taking_of, view_of};
-ghost use Rattle.ww_table.specs.Steps.{IsBareLock, MayGiveFree, MayTakeFree, HasAskedWhoOwns, HasDrawn, HasReadTop, HasSwapped, HasTriedToEnd, HasTriedToGiveBare, HasTriedToGiveFree, HasTriedToTakeBare, HasTriedToTakeFree};
+ghost use Rattle.ww_table.specs.Steps.{IsBareLock, MayGiveFree, MayTakeFree, HasAskedIfFree, HasAskedWhoOwns, HasDrawn, HasReadTop, HasSwapped, HasTriedToEnd, HasTriedToGiveBare, HasTriedToGiveFree, HasTriedToTakeBare, HasTriedToTakeFree};
 
 use crate::board::Board;
 use arrayvec::ArrayVec;
@@ -297,6 +297,18 @@ impl Stepper {
         let shared = &board.table.shared;
         let found = shared.load::<Owns>(&mut self.seat, owner_word(board.locks, lock));
         without_flags(found) == without_flags(own)
+    }
+
+    /// Whether nobody has a lock or waits for it, by a look at the lock's word from outside its guard. Others may change the
+    /// word any time.
+    pub fn is_free(&mut self, board: &Board, lock: u32) -> bool
+        requires at { IsSeatOf board.now self.old }
+        requires may { (lock < locks_of board.now) × IsAway (view_of self.old) }
+        ensures { HasAskedIfFree board.now self.old lock result self.new }
+    {
+        let shared = &board.table.shared;
+        let found = shared.load::<Owns>(&mut self.seat, owner_word(board.locks, lock));
+        found == 0
     }
 
     /// Ends the context, if its own sign word is 0.

@@ -1,3 +1,4 @@
 pub mod Exclusion
 mod NoEvents
 mod One
+pub mod Freedom

@@ -1,5 +1,5 @@
 -- What holds of the table as a whole.
-use Rattle.std.specs.Prelude.{ℕ, ◌≡◌, ◌<◌, ◌≤◌, ◌+◌, [], ◌∷◌, ◌++◌, true, List, length, replicate, slice_index, Some}
+use Rattle.std.specs.Prelude.{ℕ, ◌≡◌, ◌<◌, ◌≤◌, ◌+◌, ◌↔◌, [], ◌∷◌, ◌++◌, true, List, length, replicate, slice_index, Some}
 use mathlib.Core.Option.{some}
 use lib.ListN.{get_elem?}
 use Rattle.atomic_table.specs.Table.{stepped, keeps, takes, gives, rest, opening}
@@ -8,6 +8,7 @@ use Rattle.ww_word.specs.AnySeats.{packed, most_for}
 use Rattle.ww_model.specs.declared.event.Event.{Event}
 use Rattle.ww_model.specs.declared.event.Event.TheVariants.{Begin, Fast, FastGive, Commit, End}
 use Rattle.ww_model.specs.State.{State, start, word_of}
+use Rattle.ww_model.specs.declared.state.Holder.TheVariants.{Nobody}
 use Rattle.ww_model.specs.Event.{after}
 use Rattle.ww_model.specs.Lawful.{IsLawful}
 use Rattle.ww_model.specs.Waits.{IsCycle, AreContexts, IsOneOf, IsCondemned}
@@ -91,6 +92,12 @@ GiveBareIsFastGive = (key : Start) (s : St) (r : Ruled key s) (id : ℕ) (me : S
 abbrev pub WordsTellOwners : Type 0
 WordsTellOwners = (key : Start) (s : St) (r : Ruled key s) (id : ℕ) (me : Sat) (n : ℕ) → StepsAt s id me → n < key.locks →
     IsAway me.0.part.core → IsToldBy me.0.part.core n (slice_index s.words (owner_at key.locks n))
+
+-- An owner word is 0 if and only if nobody has taken the lock, nobody was handed it, and nobody waits for it: so a look at the
+-- word tells whether it is free.
+abbrev pub FreeWordsTell : Type 0
+FreeWordsTell = (key : Start) (s : St) (r : Ruled key s) (n : ℕ) → n < key.locks →
+    (slice_index s.words (owner_at key.locks n) ≡ 0) ↔ ((r.core.owner n ≡ Nobody) × (r.core.queue n ≡ []))
 
 -- Mutual exclusion: at each moment a lock is owned by one seat of the table at most. Who owns it stands where any other does
 -- that owns it, and so has its number.

@@ -1,6 +1,6 @@
 //! Laws of the table: each function's contract is one. A step's own call cites the lemma that its law does.
 
-ghost use Rattle.ww_table_laws.specs.Laws.{DrawIsBegin, SpentIsNoEvent, FewSeatsSpendNone, FewSeatsHaveNarrowWords, TakeFreeIsFast, GiveFreeIsFastGive, TakeBareIsFast, GiveBareIsFastGive, EndIsEnd, PlaceIsCommit, RuledIsLawful, ShownIsOne, StepsExtendTheRun, NewTableShowsStart, NewSeatsCanClose, WordsTellOwners, OwnersExclude};
+ghost use Rattle.ww_table_laws.specs.Laws.{DrawIsBegin, SpentIsNoEvent, FewSeatsSpendNone, FewSeatsHaveNarrowWords, TakeFreeIsFast, GiveFreeIsFastGive, TakeBareIsFast, GiveBareIsFastGive, EndIsEnd, PlaceIsCommit, RuledIsLawful, ShownIsOne, StepsExtendTheRun, NewTableShowsStart, NewSeatsCanClose, WordsTellOwners, FreeWordsTell, OwnersExclude};
 
 /// From every table that the rule allows, a draw is the event Begin on what is shown.
 pub fn draw_is_begin()
@@ -47,6 +47,12 @@ pub fn give_bare_is_fast_give()
 #[tactic(auto, using(ww_invariant::proofs::Moves::told))]
 pub fn words_tell_owners()
     ensures { WordsTellOwners }
+{}
+
+/// The word of a lock is 0 just where nobody has the lock or waits for it.
+#[tactic(auto, using(crate::proofs::Freedom::free_words_tell))]
+pub fn free_words_tell()
+    ensures { FreeWordsTell }
 {}
 
 /// At each moment one seat at most owns a lock, whether that guards a node or not.
