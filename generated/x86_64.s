@@ -1,7 +1,7 @@
 /*
  * The proved program on x86_64, as the kit's compiler (LLVM) makes it.  Written by ./build --assembly.
  *
- * sources: 6e58f35512127ef5b30d9318ba2ca2f70b2577d54321666fc572dd1941869297
+ * sources: ac4d725adc6c01269f9356f28cf7f65bc665c1d0b7d89f330f4aa595d0591975
  * kit:     rattle-kit-13f logic dac8208d650f15bf
  * proof:   logic=proved functions=69 axioms=6 target=x86_64-unknown-linux-gnu threads=_exit,abort,free,malloc,pthread_attr_destroy,pthread_attr_init,pthread_attr_setguardsize,pthread_attr_setstacksize,pthread_create,pthread_detach,pthread_join,pthread_self,sched_yield,syscall main=Threads+Wait may-wait=7 sum=dac8208d650f15bf
  */
