@@ -1,11 +1,13 @@
 """Tasks of asyncio that wait without their thread: what they refuse, how their waits end, and sums by tasks of several
 loops beside threads: tasks.py libww.so"""
 import asyncio
+import ctypes
 import errno
 import gc
 import os
 import random
 import sys
+import tempfile
 import threading
 import time
 
@@ -218,6 +220,101 @@ async def begin_all(of, count):
         await it.__aexit__(None, None, None)
 
 
+class SlowWaker:
+    """In place of ww_event_wake, which it does step by step, in the thread that ends a wait: for a while it stands before one
+    of the two steps."""
+
+    def __init__(self, library, before_write):
+        self.library, self.whole = library, library.ww_event_wake
+        self.before_write, self.stands = before_write, threading.Event()
+        library.ww_event_wake = self.called = ctypes.CFUNCTYPE(None, ctypes.c_void_p, ctypes.c_void_p)(self.wake)
+
+    def stand(self):
+        self.stands.set()
+        time.sleep(0.3)
+
+    def wake(self, event_at, woken_at):
+        event, woken = ww.tasks._Event.from_address(event_at), ww.tasks._Woken.from_address(woken_at)
+        descriptor = event.descriptor
+        if not self.before_write:
+            self.stand()
+        woken.next, event.first = event.first, woken_at
+        if self.before_write:
+            self.stand()
+        os.write(descriptor, (1).to_bytes(8, sys.byteorder))
+
+    def end(self):
+        self.library.ww_event_wake = self.whole
+
+
+def descriptors():
+    return len(os.listdir("/proc/self/fd"))
+
+
+def a_waker_is_slow(before_write):
+    """A loop is left with a task that another thread is about to wake: nothing that this thread uses is gone by then, neither
+    the descriptor, whose number another file would get, nor the memory."""
+    buffers = made()
+    mutex = ww.Mutex(buffers)
+    is_held, goes = threading.Event(), threading.Event()
+    slow = SlowWaker(buffers._library, before_write)
+    open_before = descriptors()
+
+    def hold():
+        with mutex:
+            is_held.set()
+            goes.wait()
+
+    async def lock():
+        async with buffers.context() as context:
+            await context.lock(mutex)
+
+    async def leave():
+        task = asyncio.create_task(lock())
+        await asyncio.sleep(0)
+        goes.set()
+        slow.stands.wait()
+        task.cancel()
+        await asyncio.gather(task, return_exceptions=True)
+
+    thread = threading.Thread(target=hold)
+    thread.start()
+    is_held.wait()
+    asyncio.run(leave())
+    gc.collect()
+    files = [tempfile.TemporaryFile() for _ in range(20)]
+    thread.join()
+    assert [os.fstat(it.fileno()).st_size for it in files] == [0] * 20
+    for it in files:
+        it.close()
+    slow.end()
+    assert descriptors() == open_before and not ww.tasks._events and not mutex.locked()
+
+
+async def a_child_leaves_it():
+    """What wakes a loop isn't taken from it by a child of a fork, which has its memory and its descriptor."""
+    buffers = made()
+    mutex = ww.Mutex(buffers)
+    async with buffers.context() as one:
+        await one.lock(mutex)
+        task = asyncio.create_task(lock_once(buffers, mutex))
+        await asyncio.sleep(0)
+        wakes = ww.tasks._Wakes.of(buffers._library)
+        one.unlock(mutex)
+    child = os.fork()
+    if child == 0:
+        wakes.take()
+        wakes.__del__()
+        os._exit(bool(ww.tasks._events))
+    assert os.waitpid(child, 0)[1] == 0
+    await asyncio.wait_for(task, 10)
+
+
+async def lock_once(of, mutex):
+    async with of.context() as context:
+        await context.lock(mutex)
+
+
 def a_loop_is_left():
     """With a task amid its wait, and with one that holds something."""
     buffers = made()
@@ -239,11 +336,14 @@ def a_loop_is_left():
     assert a.locked() and b.locked()
     for it in tasks:
         it._log_destroy_pending = False
+    (event,) = ww.tasks._events.values()
+    event.leave()
+    assert ww.tasks._events  # its wait goes on
     loop.close()
     del tasks, loop, it
     for _ in range(3):
         gc.collect()
-    assert not a.locked() and not b.locked()
+    assert not a.locked() and not b.locked() and not ww.tasks._events
     asyncio.run(begin_all(buffers, 4))
 
 
@@ -269,9 +369,12 @@ def main():
     asyncio.run(waits_in_turn())
     asyncio.run(a_thread_wakes_it())
     asyncio.run(one_is_dropped())
+    asyncio.run(a_child_leaves_it())
     a_loop_is_left()
+    for before_write in (True, False):
+        a_waker_is_slow(before_write)
     gc.collect()
-    assert not ww.tasks._Wakes.awaited
+    assert not ww.tasks._events
     assert time.monotonic() - begun < 300
     print("tasks: each wait ended as it should")
 

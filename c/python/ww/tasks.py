@@ -3,7 +3,10 @@ Python 3.10, which has eventfd."""
 import asyncio
 import ctypes
 import errno
+import functools
 import os
+import select
+import time
 import weakref
 
 from .library import Deadlock, told
@@ -21,33 +24,93 @@ class _Seek(ctypes.Structure):
     _fields_ = [("next", ctypes.c_void_p), ("of", ctypes.c_void_p), ("seat", ctypes.c_void_p), ("waker", _Waker), ("served", ctypes.c_uint32)]
 
 
-class _Event(ctypes.Structure):
-    """struct ww_event."""
-
-    _fields_ = [("first", ctypes.c_void_p), ("descriptor", ctypes.c_int)]
-
-    def __del__(self):
-        os.close(self.descriptor)
-
-
 class _Woken(ctypes.Structure):
     """struct ww_woken."""
 
     _fields_ = [("next", ctypes.c_void_p)]
 
 
+# The events whose descriptors are open: threads that go on while the interpreter ends may still use them, so they are there
+# until the program's last moment. And in a forked child those of its parent: a mutex that is released there may use one.
+_events, _inherited = {}, []
+for _kept in _events, _inherited:
+    ctypes.pythonapi.Py_IncRef(ctypes.py_object(_kept))
+# For how many seconds the end of a loop waits at most for threads that are in the middle of a call.
+_PATIENCE = 10
+
+
+class _Event(ctypes.Structure):
+    """struct ww_event: the thread that ends a wait puts the wait's entry into a list and, if that was empty, then writes to a
+    descriptor, without Python's lock. So the list is taken only after a read that succeeded: then the one write that belongs to
+    it is over. An event without waits has an empty list, so nobody is about to write, and its descriptor may be closed."""
+
+    _fields_ = [("first", ctypes.c_void_p), ("descriptor", ctypes.c_int)]
+
+    def __init__(self, library):
+        super().__init__(None, os.eventfd(0, os.EFD_NONBLOCK | os.EFD_CLOEXEC))
+        self.waits = {}  # By the address of its entry, the memory of a wait which other threads may use.
+        self.called = set()  # Entries of waits that have ended, but whose waker was called, or is about to be.
+        self.is_left = self.is_inherited = False
+        read, take = functools.partial(os.eventfd_read, self.descriptor), functools.partial(library.ww_event_take, ctypes.addressof(self))
+        # No line of Python is run between the two, which a signal could interrupt.
+        self.read_and_take = functools.partial(map, functools.partial.__call__, (read, take))
+        _events[ctypes.addressof(self)] = self
+
+    def take(self):
+        """The entries that are in the list; none, if the thread that has filled it is still to write."""
+        taken = []
+        if self.is_inherited:
+            return taken
+        try:
+            _, at = self.read_and_take()
+        except BlockingIOError:
+            return taken
+        while at:
+            taken.append(at)
+            at = self.waits[at][0].next
+        self.called.difference_update(taken)
+        for at in taken:
+            del self.waits[at]
+        self.close_if_unused()
+        return taken
+
+    def removes(self, at, is_called):
+        """Its wait has ended. If its waker was called, or is about to be, the entry is in the list, or comes there."""
+        if self.is_inherited:
+            return
+        if is_called:
+            self.called.add(at)
+        else:
+            del self.waits[at]
+        if self.is_left:
+            self.leave()
+
+    def leave(self):
+        """Its loop takes nothing any more. What other threads have begun to do with it is over in a moment, which this awaits;
+        if it isn't, the event stays. A wait that goes on closes the descriptor when it ends."""
+        self.is_left = True
+        until = time.monotonic() + _PATIENCE
+        while (self.first or self.called) and not self.is_inherited and time.monotonic() < until:
+            ready = select.poll()
+            ready.register(self.descriptor, select.POLLIN)
+            ready.poll(1000 * _PATIENCE)
+            self.take()
+        self.close_if_unused()
+
+    def close_if_unused(self):
+        if self.is_left and not self.waits and _events.pop(ctypes.addressof(self), None):
+            os.close(self.descriptor)
+
+
 class _Wakes:
-    """What wakes a loop: the thread that ends a wait fills a list and writes to a descriptor, without Python's lock. Only the
-    loop refers to it, and to the futures of its waits, so that the rest of a closed loop can be freed."""
+    """What wakes the tasks of a loop. Only the loop refers to it, and to the futures of its waits, so that the rest of a closed
+    loop can be freed."""
 
     of_loops = weakref.WeakKeyDictionary()
-    # The waits by their entries of the list. The thread that calls the waker writes there, so an entry stays until it was
-    # taken from the list, or the waker was taken back.
-    awaited = {}
 
     def __init__(self, loop, library):
-        self.library, self.futures = library, {}
-        self.event = _Event(None, os.eventfd(0, os.EFD_NONBLOCK | os.EFD_CLOEXEC))
+        self.futures = {}  # By the addresses of their waits' entries.
+        self.event = _Event(library)
         self.wake = ctypes.cast(library.ww_event_wake, ctypes.c_void_p).value
         loop.add_reader(self.event.descriptor, self.take)
 
@@ -60,40 +123,41 @@ class _Wakes:
             wakes = of_libraries[library] = cls(loop, library)
         return wakes
 
-    def begin(self):
-        """A wait: its waker, its place in the list, and the future of its wake-up."""
+    def begin(self, *kept):
+        """A wait: its waker, the address of its entry, and the future of its wake-up."""
         woken, future = _Woken(), asyncio.get_running_loop().create_future()
         at = ctypes.addressof(woken)
-        self.awaited[at] = woken, self.event
+        self.event.waits[at] = woken, *kept
         self.futures[at] = future
         return _Waker(self.wake, ctypes.addressof(self.event), at), at, future
 
-    def end(self, at):
-        """Removes the wait at this place, which was taken from the list, or won't come there, and returns its future."""
-        del self.awaited[at]
-        return self.futures.pop(at)
-
-    def taken(self):
-        """The futures of the waits that were woken since."""
-        at = self.library.ww_event_take(ctypes.byref(self.event))
-        while at:
-            after = _Woken.from_address(at).next
-            yield self.end(at)
-            at = after
+    def end(self, at, is_called):
+        """Ends a wait that wasn't woken yet."""
+        del self.futures[at]
+        self.event.removes(at, is_called)
 
     def take(self):
-        try:
-            os.eventfd_read(self.event.descriptor)
-        except BlockingIOError:
-            pass
-        for future in self.taken():
-            if not future.done():
+        for at in self.event.take():
+            future = self.futures.pop(at, None)
+            if future and not future.done():
                 future.set_result(None)
 
     def __del__(self):
-        """Takes all, if a loop was left before it did."""
-        for _ in self.taken():
-            pass
+        self.event.leave()
+
+
+def _inherit():
+    """In a forked child. Nobody is there who writes, and what is read there is lost to the parent, whose descriptor it is."""
+    for event in _events.values():
+        event.is_inherited = True
+        os.close(event.descriptor)
+        event.descriptor = -1
+    _inherited.extend(_events.values())
+    _events.clear()
+    _Wakes.of_loops.clear()
+
+
+os.register_at_fork(after_in_child=_inherit)
 
 
 class TaskContext:
@@ -115,17 +179,20 @@ class TaskContext:
         """Returns what the last poll returned. If this is cancelled, its caller ends the wait, by a poll without a waker."""
         wakes = _Wakes.of(self._library)
         while True:
-            waker, at, future = wakes.begin()
-            code = poll(ctypes.byref(waker))
-            if code != -errno.EINPROGRESS:
-                wakes.end(at)
-                return code
+            waker, at, future = wakes.begin(self._at, self._seek)
+            code = -errno.EINPROGRESS
             try:
+                code = poll(ctypes.byref(waker))
+                if code != -errno.EINPROGRESS:
+                    return code
                 await future
-            except BaseException:
-                if at in wakes.futures and self._library.ww_poll_take_back(self._at, seek):
-                    wakes.end(at)
-                raise
+            finally:
+                if wakes.futures.get(at) is future:  # It wasn't woken; another wait may have its address by now.
+                    wakes.end(at, code == -errno.EINPROGRESS and not self._takes_back(wakes, seek))
+
+    def _takes_back(self, wakes, seek):
+        """A forked child takes nothing back: a lock that it needs for that may be one that another thread had as it was made."""
+        return not wakes.event.is_inherited and self._library.ww_poll_take_back(self._at, seek)
 
     async def begin(self):
         """Begins the context; if none is free it waits for one, in turn."""
