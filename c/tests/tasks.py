@@ -315,6 +315,40 @@ async def lock_once(of, mutex):
         await context.lock(mutex)
 
 
+async def locks_again(kind):
+    """A mutex that it holds, and for which it had to wait; also once mutexes that it held meanwhile are gone."""
+    buffers = made(kind)
+    mutex, other = ww.Mutex(buffers), ww.Mutex(buffers)
+
+    async def waits():
+        async with buffers.context() as two:
+            await two.lock(mutex)
+            assert not two.try_lock(mutex) and await fault_of(two.lock(mutex)) == errno.EALREADY
+            assert await fault_of(two.lock(other, mutex)) == errno.EALREADY and not other.locked()
+            two.unlock(mutex)
+            assert not mutex.locked()
+            return True
+
+    async def waits_and_locks_others():
+        async with buffers.context() as two:
+            await two.lock(mutex)
+            for _ in range(20):
+                once = ww.Mutex(buffers)
+                await two.lock(once)
+                two.unlock(once)
+                del once
+                gc.collect()
+            assert await fault_of(two.lock(mutex)) == errno.EALREADY and mutex in two
+            return True
+
+    for wait in (waits, waits_and_locks_others):
+        async with buffers.context() as one:
+            await one.lock(mutex)
+            task = asyncio.create_task(wait())
+            await asyncio.sleep(0)
+        assert await task and not mutex.locked()
+
+
 def a_loop_is_left():
     """With a task amid its wait, and with one that holds something."""
     buffers = made()
@@ -364,6 +398,7 @@ def main():
     for kind in KINDS:
         asyncio.run(refuses(kind))
         asyncio.run(is_cancelled(kind))
+        asyncio.run(locks_again(kind))
         storm(kind, 2, 30, 20, 4, False)
         storm(kind, 2, 30, 20, 3, True)
     asyncio.run(waits_in_turn())
