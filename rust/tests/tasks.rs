@@ -451,6 +451,36 @@ fn a_context_is_handed_on() {
     nothing_is_left::<Boxes>(&[], 1);
 }
 
+/// One of a mutex for which it had to wait, by a lock call and by a try.
+#[test]
+fn a_second_guard_is_refused() {
+    class! {
+        struct Wound: WoundWait;
+        struct Die: WaitDie;
+    }
+    fn waits<C: Class>() {
+        let mutex = Mutex::<C, u64>::new(0);
+        let (flag, held) = (Arc::default(), mutex.lock());
+        let mut twice = pin!(async {
+            transaction!(C, |tx| {
+                let mut one = tx.lock(&mutex).await?;
+                assert!(tx.try_lock(&mutex).is_none());
+                assert_eq!(tx.lock(&mutex).await.map(|_| ()), Err(Error::Duplicate));
+                assert!(tx.try_lock(&mutex).is_none());
+                *one += 1;
+                drop(one);
+                *tx.try_lock(&mutex).expect("nobody holds it") += 1;
+                Ok::<_, Error>(())
+            })
+        });
+        assert!(poll(twice.as_mut(), &flag).is_pending());
+        drop(held);
+        assert!(flag.is_set() && block_on(twice) == Ok(()) && *mutex.try_lock().expect("nobody holds it") == 2);
+    }
+    waits::<Wound>();
+    waits::<Die>();
+}
+
 /// Only the waker of the last poll is called, and none is kept.
 #[test]
 fn wakers_may_change() {
