@@ -7,13 +7,13 @@ mod executor;
 
 use executor::{at_most, block_on, each_order, poll, times, yield_now, Draws, Flag, Pool};
 use std::future::Future;
-use std::mem;
+use std::path::{Path, PathBuf};
 use std::pin::{pin, Pin};
 use std::sync::atomic::{AtomicBool, AtomicU64, Ordering::Relaxed};
 use std::sync::{Arc, OnceLock};
-use std::task::{Context as Polling, Poll, Waker};
-use std::thread;
+use std::task::{Context as Polling, Poll, RawWaker, RawWakerVTable, Waker};
 use std::time::{Duration, Instant};
+use std::{fs, mem, ptr, thread};
 use ww_mutex::task::{Context, Guard, Tx};
 use ww_mutex::{class, transaction, Class, Error, Mutex};
 
@@ -479,6 +479,56 @@ fn a_second_guard_is_refused() {
     }
     waits::<Wound>();
     waits::<Die>();
+}
+
+/// How often a thread, by its folder, has gone to sleep so far.
+fn sleeps_of(thread: &Path) -> u64 {
+    let status = fs::read_to_string(thread.join("status")).unwrap();
+    let line = status.lines().find_map(|line| line.strip_prefix("voluntary_ctxt_switches:"));
+    line.unwrap().trim().parse().unwrap()
+}
+
+/// While one thread uses a context, another one that drops a guard of it sleeps: else, with a higher priority and the same
+/// processor, it would wait forever. Here the first one is cloning a waker until the second has slept.
+#[test]
+fn whoever_waits_for_a_context_sleeps() {
+    class!(struct Boxes: WoundWait);
+    static BOXES: [Mutex<Boxes, u64>; 2] = [Mutex::new(0), Mutex::new(0)];
+    static IS_IN_USE: AtomicBool = AtomicBool::new(false);
+    static HAS_SLEPT: AtomicBool = AtomicBool::new(false);
+    static WAITS: OnceLock<(PathBuf, u64)> = OnceLock::new();
+    fn has_slept() -> bool {
+        WAITS.get().is_some_and(|(thread, before)| sleeps_of(thread) >= before + 10)
+    }
+    fn clone(_: *const ()) -> RawWaker {
+        IS_IN_USE.store(true, Relaxed);
+        let began = Instant::now();
+        while !has_slept() && began.elapsed() < Duration::from_secs(10) {
+            thread::sleep(Duration::from_millis(1));
+        }
+        HAS_SLEPT.store(has_slept(), Relaxed);
+        RawWaker::new(ptr::null(), Waker::noop().vtable())
+    }
+    static CLONES: RawWakerVTable = RawWakerVTable::new(clone, |_| {}, |_| {}, |_| {});
+    // SAFETY: these functions access nothing.
+    let waker = unsafe { Waker::new(ptr::null(), &CLONES) };
+    let mut context = Context::<Boxes>::new();
+    let tx = block_on(context.attempt()).unwrap();
+    let (guard, held) = (block_on(tx.lock(&BOXES[0])).unwrap(), BOXES[1].lock());
+    thread::scope(|scope| {
+        scope.spawn(|| {
+            let me = Path::new("/proc").join(fs::read_link("/proc/thread-self").unwrap());
+            while !IS_IN_USE.load(Relaxed) {
+                thread::sleep(Duration::from_millis(1));
+            }
+            let before = sleeps_of(&me);
+            WAITS.set((me, before)).unwrap();
+            drop(guard);
+        });
+        assert!(pin!(tx.lock(&BOXES[1])).poll(&mut Polling::from_waker(&waker)).is_pending());
+    });
+    assert!(HAS_SLEPT.load(Relaxed) && !BOXES[0].is_locked());
+    drop(held);
 }
 
 /// Only the waker of the last poll is called, and none is kept.

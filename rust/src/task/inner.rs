@@ -13,6 +13,7 @@ use core::ptr;
 use core::sync::atomic::{AtomicBool, Ordering};
 use core::task::{Poll, Waker};
 use std::thread;
+use std::time::Duration;
 
 /// A context. Its `Tx` and its guards may be in several threads, so one of them uses it at a time.
 pub(super) struct Inner {
@@ -141,13 +142,15 @@ impl Inner {
         Entered(self)
     }
 
+    /// Another thread is in the middle of a call, for some instructions, unless it is preempted there. A thread of a higher
+    /// priority may have its processor then, which a yield doesn't give it: so in the end this sleeps.
     #[cold]
     fn await_others(&self) {
         for step in 0u32.. {
-            if step < 64 {
-                hint::spin_loop();
-            } else {
-                thread::yield_now();
+            match step {
+                0..64 => hint::spin_loop(),
+                64..128 => thread::yield_now(),
+                _ => thread::sleep(Duration::from_micros(50)),
             }
             if !self.is_used.swap(true, Ordering::Acquire) {
                 return;
