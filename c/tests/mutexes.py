@@ -318,6 +318,38 @@ def is_called_off(kind):
     assert told == [True, True, True]
 
 
+def ends_behind_a_cancel():
+    """A block that ends while another thread is in the middle of a cancel; and one that hasn't begun isn't cancelled."""
+    buffers = made()
+    library, told, is_called = buffers._library, [], threading.Event()
+    names = ("ww_acquire_cancel", "ww_acquire_fini_checked")
+    cancel, fini = (getattr(library, name) for name in names)
+
+    def cancels_slowly(at):
+        is_called.set()
+        time.sleep(0.2)
+        told.append("cancelled")
+        return cancel(at)
+
+    def ends(at):
+        told.append("ended")
+        return fini(at)
+
+    for name, call in zip(names, (cancels_slowly, ends)):
+        setattr(library, name, call)
+    context = buffers.context()
+    assert fault_of(context.cancel) == errno.EINVAL and not told
+    with context:
+        thread = threading.Thread(target=context.cancel)
+        thread.start()
+        is_called.wait()
+    thread.join()
+    for name, call in zip(names, (cancel, fini)):
+        setattr(library, name, call)
+    assert told == ["cancelled", "ended"] and fault_of(context.cancel) == errno.EINVAL
+    begins(buffers)
+
+
 def interrupts(number, name, call):
     """Calls it in the main thread, which has this signal once it waits in the function of this name."""
     main = threading.get_ident()
@@ -490,6 +522,7 @@ frees_cycles()
 loses_nothing()
 ends_each_block()
 waits_in_turn()
+ends_behind_a_cancel()
 forks()
 for each in KINDS:
     for test in (refuses_mutexes, refuses_again, ends_in_time, is_called_off, hears_interrupts, resolves, backs_off_by_itself, keeps_nothing):
