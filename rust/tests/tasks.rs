@@ -13,7 +13,7 @@ use std::sync::atomic::{AtomicBool, AtomicU64, Ordering::Relaxed};
 use std::sync::{Arc, OnceLock};
 use std::task::{Context as Polling, Poll, RawWaker, RawWakerVTable, Waker};
 use std::time::{Duration, Instant};
-use std::{fs, mem, ptr, thread};
+use std::{fs, hint, mem, ptr, thread};
 use ww_mutex::task::{Context, Guard, Tx};
 use ww_mutex::{class, transaction, Class, Error, Mutex};
 
@@ -335,6 +335,89 @@ fn threads_and_tasks_share_a_class() {
     storm::<Wound>(usual());
     storm::<Die>(usual());
     storm::<Few>(2);
+}
+
+/// How many wakers there were, how many of them were called or dropped, and what came after that.
+struct Uses {
+    made: AtomicU64,
+    over: AtomicU64,
+    wrong: AtomicU64,
+}
+
+static USES: Uses = Uses { made: AtomicU64::new(0), over: AtomicU64::new(0), wrong: AtomicU64::new(0) };
+
+impl Uses {
+    fn make(&self) -> RawWaker {
+        static CALLS: RawWakerVTable =
+            RawWakerVTable::new(|_| USES.make(), |is_over| USES.end(is_over), |_| (), |is_over| USES.end(is_over));
+        self.made.fetch_add(1, Relaxed);
+        // It leaks, so that what comes too late finds it.
+        RawWaker::new(ptr::from_ref(Box::leak(Box::new(AtomicBool::new(false)))).cast(), &CALLS)
+    }
+
+    fn end(&self, is_over: *const ()) {
+        // SAFETY: `make` leaked it.
+        let was_over = unsafe { &*is_over.cast::<AtomicBool>() }.swap(true, Relaxed);
+        self.wrong.fetch_add(u64::from(was_over), Relaxed);
+        self.over.fetch_add(1, Relaxed);
+    }
+}
+
+/// Polls without need, each with another waker, and drops, while other threads are in the middle of calling one: for a
+/// mutex, and for a context.
+#[test]
+fn each_waker_is_called_or_dropped_once() {
+    class! {
+        struct Wound: WoundWait;
+        struct Die: WaitDie;
+        struct One: WoundWait, mutexes = 1, contexts = 1;
+    }
+    fn storm<C: Class>() {
+        let (mutex, is_over) = (Mutex::<C, u64>::new(0), AtomicBool::new(false));
+        let pause = |draws: &mut Draws| (0..draws.below(400)).for_each(|_| hint::spin_loop());
+        let polls = |seed| {
+            let mut draws = Draws(seed);
+            for _ in 0..times(20_000) {
+                let mut add = pin!(async {
+                    transaction!(C, |tx| {
+                        let mut count = tx.lock(&mutex).await?;
+                        yield_now().await;
+                        *count += 1;
+                        Ok::<_, Error>(())
+                    })
+                });
+                let mut is_ready = || {
+                    // SAFETY: the functions do what those of a waker have to.
+                    let waker = unsafe { Waker::from_raw(USES.make()) };
+                    add.as_mut().poll(&mut Polling::from_waker(&waker)).is_ready()
+                };
+                while !is_ready() && draws.below(8) > 0 {
+                    pause(&mut draws);
+                }
+            }
+        };
+        thread::scope(|scope| {
+            scope.spawn(|| {
+                let mut draws = Draws(3);
+                while !is_over.load(Relaxed) {
+                    let held = mutex.lock();
+                    pause(&mut draws);
+                    drop(held);
+                    pause(&mut draws);
+                }
+            });
+            for thread in [scope.spawn(|| polls(1)), scope.spawn(|| polls(2))] {
+                thread.join().unwrap();
+            }
+            is_over.store(true, Relaxed);
+        });
+        drop(mutex.try_lock().expect("nobody holds it"));
+    }
+    storm::<Wound>();
+    storm::<Die>();
+    storm::<One>();
+    assert_eq!(USES.wrong.load(Relaxed), 0);
+    assert_eq!(USES.over.load(Relaxed), USES.made.load(Relaxed));
 }
 
 // ---- one thread that says who goes on ----
