@@ -51,6 +51,47 @@ async def refuses(kind):
         assert error.errno == errno.EINVAL
 
 
+async def refuses_other_tasks(kind):
+    """By a context by which a task waits; and the end of its block ends that wait, too."""
+    buffers = made(kind)
+    a, b = ww.Mutex(buffers), ww.Mutex(buffers)
+    async with buffers.context() as older, buffers.context() as two:
+        await older.lock(a)
+        task = asyncio.create_task(two.lock(a))
+        await asyncio.sleep(0)
+        for mutex in (a, b):
+            assert await fault_of(asyncio.wait_for(two.lock(mutex), 10)) == errno.EBUSY
+        for call in (lambda: two.try_lock(b), lambda: two.unlock(a), two.unlock_all):
+            assert fault_of_call(call) == errno.EBUSY
+        older.unlock(a)
+        await asyncio.wait_for(task, 10)
+        assert a in two and not b.locked()
+    older, two = buffers.context(), buffers.context()
+    async with older as one:
+        await one.lock(a)
+        async with two as other:
+            task = asyncio.create_task(other.lock(a))
+            await asyncio.sleep(0)
+        assert await fault_of(asyncio.wait_for(task, 10)) == errno.EINVAL and a in one
+        async with buffers.context() as other:
+            task = asyncio.create_task(other.lock(b, a))
+            await asyncio.sleep(0)
+            one.unlock(a)  # it is woken, and its context ends before it runs
+        assert await fault_of(asyncio.wait_for(task, 10)) == errno.EINVAL
+    assert not a.locked() and not b.locked()
+    for it in (older, two):
+        assert await fault_of(it.__aenter__()) == errno.EINVAL and fault_of_call(it.__enter__) == errno.EINVAL
+    await begin_all(buffers, 4)
+
+
+def fault_of_call(call):
+    try:
+        call()
+    except OSError as error:
+        return error.errno
+    return 0
+
+
 async def begins(of):
     async with of.context():
         pass
@@ -397,6 +438,7 @@ def main():
     begun = time.monotonic()
     for kind in KINDS:
         asyncio.run(refuses(kind))
+        asyncio.run(refuses_other_tasks(kind))
         asyncio.run(is_cancelled(kind))
         asyncio.run(locks_again(kind))
         storm(kind, 2, 30, 20, 4, False)

@@ -210,7 +210,7 @@ class Context:
     __exit__ = _Exit()
 
     def __enter__(self):
-        if self._thread is not None:
+        if self._thread is not None or self._of_task is not None:
             raise _wrong("a context begins once")
         try:
             self._begin(_until(self._timeout))
@@ -223,7 +223,7 @@ class Context:
     async def __aenter__(self):
         from .tasks import TaskContext  # asyncio is loaded for those who use it
 
-        if self._thread is not None or self._timeout is not None:
+        if self._thread is not None or self._of_task is not None or self._timeout is not None:
             raise _wrong("a context begins once, and a task's without a timeout: asyncio has some")
         self._of_task = TaskContext(self._class)
         await self._of_task.begin()

@@ -160,6 +160,10 @@ def _inherit():
 os.register_at_fork(after_in_child=_inherit)
 
 
+def _ended():
+    return OSError(errno.EINVAL, "the context is of no `async with` block that goes on")
+
+
 class TaskContext:
     """A context of a task: `async with Class.context() as context`. Other tasks may not use it. A task that is cancelled
     during a wait holds what it held before."""
@@ -171,6 +175,7 @@ class TaskContext:
         self._held = {}  # Its mutexes, in the order in which it acquired them.
         self._contended = None  # The mutex at which it got Deadlock, once it has released all.
         self._is_begun = self._is_over = False
+        self._waits = None  # The future of the wait that is under way.
 
     def _begin_poll(self, waker):
         return self._library.ww_acquire_init_poll(self._at, self._class._at, ctypes.byref(self._seek), waker)
@@ -180,13 +185,14 @@ class TaskContext:
         wakes = _Wakes.of(self._library)
         while True:
             waker, at, future = wakes.begin(self._at, self._seek)
-            code = -errno.EINPROGRESS
+            code, self._waits = -errno.EINPROGRESS, future
             try:
                 code = poll(ctypes.byref(waker))
                 if code != -errno.EINPROGRESS:
                     return code
                 await future
             finally:
+                self._waits = None
                 if wakes.futures.get(at) is future:  # It wasn't woken; another wait may have its address by now.
                     wakes.end(at, code == -errno.EINPROGRESS and not self._takes_back(wakes, seek))
 
@@ -206,17 +212,26 @@ class TaskContext:
         self._is_begun = True
 
     def end(self):
-        """Releases everything that it holds, and ends."""
-        if self._is_begun and not self._is_over:
-            self._is_over = True
-            self._release_all()
-            self._library.ww_acquire_fini_checked(self._at)
+        """Releases everything that it holds, and ends; if another task waits by it, as soon as that one runs."""
+        if not self._is_begun or self._is_over:
+            return
+        self._is_over = True
+        if self._waits is None:
+            self._release_and_end()
+        elif not self._waits.done() and not self._waits.get_loop().is_closed():
+            self._waits.set_exception(_ended())
 
     __del__ = end
 
+    def _release_and_end(self):
+        self._release_all()
+        self._library.ww_acquire_fini_checked(self._at)
+
     def _check(self, *mutexes):
         if not self._is_begun or self._is_over:
-            raise OSError(errno.EINVAL, "the context is of no `async with` block that goes on")
+            raise _ended()
+        if self._waits is not None:
+            raise OSError(errno.EBUSY, "another task waits by this context")
         self._class._check(*mutexes)
 
     async def _lock_one(self, mutex):
@@ -226,11 +241,16 @@ class TaskContext:
         if self._library.ww_mutex_trylock(mutex._at, self._at) != 1:
             try:
                 code = await self._wait(poll, None)
+                if self._is_over:
+                    raise _ended()
             except BaseException:
                 code = poll(None)
-                if code == 0:
+                # It may have acquired the mutex before, and not come to know.
+                if code == 0 or (code == -errno.EALREADY and mutex not in self):
                     self._library.ww_mutex_unlock_checked(mutex._at)
                 self._is_told(mutex, code)
+                if self._is_over:
+                    self._release_and_end()
                 raise
             self._is_told(mutex, code)
             told(code)
