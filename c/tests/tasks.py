@@ -422,6 +422,30 @@ def a_loop_is_left():
     asyncio.run(begin_all(buffers, 4))
 
 
+def frees_cycles():
+    """A class that refers to its mutexes, to a context that holds them, and to a task that waits for one."""
+    library, told = made()._library, []
+    free = library.ww_class_free
+
+    async def make(waits):
+        buffers = made()
+        buffers.all = [ww.Mutex(buffers) for _ in range(3)]
+        buffers.one = await buffers.context().__aenter__()
+        await buffers.one.lock(*buffers.all)
+        if waits:
+            buffers.two = await buffers.context().__aenter__()
+            buffers.wait = buffers.two.lock(*buffers.all)
+            buffers.wait.send(None)
+
+    library.ww_class_free = lambda at: told.append(free(at))
+    for waits in (False, True):
+        asyncio.run(make(waits))
+        for _ in range(3):
+            gc.collect()
+    library.ww_class_free = free
+    assert told == [0, 0] and not ww.tasks._events
+
+
 async def one_is_dropped():
     """Without its block's end: it releases all, and ends."""
     buffers = made(contexts=1)
@@ -448,6 +472,7 @@ def main():
     asyncio.run(one_is_dropped())
     asyncio.run(a_child_leaves_it())
     a_loop_is_left()
+    frees_cycles()
     for before_write in (True, False):
         a_waker_is_slow(before_write)
     gc.collect()

@@ -10,6 +10,7 @@ import time
 import weakref
 
 from .library import Deadlock, told
+from .mutexes import Mutex, _ending
 
 
 class _Waker(ctypes.Structure):
@@ -164,18 +165,45 @@ def _ended():
     return OSError(errno.EINVAL, "the context is of no `async with` block that goes on")
 
 
+class _Locks:
+    """What a context of a task holds, and its end. It refers to memory, and to the ends of what may only end after it. It is
+    reached from the end of its context: so those come later, whatever cycle of references their owners were in."""
+
+    def __init__(self, of):
+        self.library, self.its_class, self.at = of._library, of._its_end, (ctypes.c_uint64 * -(-of._library.ww_acquire_size() // 8))()
+        self.held = {}  # By its end, the memory of each mutex that it holds, in the order in which it acquired them.
+        self.awaited = None  # The end of the mutex for which it waits.
+        self.is_begun = self.is_over = self.waits = False
+
+    def end(self):
+        if not self.is_begun or self.is_over:
+            return
+        self.is_over = True
+        if not self.waits:
+            self.release_and_end()
+
+    def release_and_end(self):
+        self.release_all()
+        self.library.ww_acquire_fini_checked(self.at)
+
+    def release_all(self):
+        while self.held:
+            its_end, at = self.held.popitem()
+            self.library.ww_mutex_unlock_checked(at)
+
+
 class TaskContext:
     """A context of a task: `async with Class.context() as context`. Other tasks may not use it. A task that is cancelled
     during a wait holds what it held before."""
 
     def __init__(self, of):
         self._class, self._library = of, of._library
-        self._at = (ctypes.c_uint64 * -(-of._library.ww_acquire_size() // 8))()
+        self._locks = _Locks(of)
+        self._at, self._held = self._locks.at, self._locks.held
         self._seek = _Seek()
-        self._held = {}  # Its mutexes, in the order in which it acquired them.
         self._contended = None  # The mutex at which it got Deadlock, once it has released all.
-        self._is_begun = self._is_over = False
-        self._waits = None  # The future of the wait that is under way.
+        self._future = None  # That of the wait that is under way.
+        self._its_end = _ending(functools.partial(self._locks.end))
 
     def _begin_poll(self, waker):
         return self._library.ww_acquire_init_poll(self._at, self._class._at, ctypes.byref(self._seek), waker)
@@ -185,14 +213,14 @@ class TaskContext:
         wakes = _Wakes.of(self._library)
         while True:
             waker, at, future = wakes.begin(self._at, self._seek)
-            code, self._waits = -errno.EINPROGRESS, future
+            code, self._locks.waits, self._future = -errno.EINPROGRESS, True, future
             try:
                 code = poll(ctypes.byref(waker))
                 if code != -errno.EINPROGRESS:
                     return code
                 await future
             finally:
-                self._waits = None
+                self._locks.waits, self._future = False, None
                 if wakes.futures.get(at) is future:  # It wasn't woken; another wait may have its address by now.
                     wakes.end(at, code == -errno.EINPROGRESS and not self._takes_back(wakes, seek))
 
@@ -209,28 +237,18 @@ class TaskContext:
                 if self._begin_poll(None) == 0:
                     self._library.ww_acquire_fini_checked(self._at)
                 raise
-        self._is_begun = True
+        self._locks.is_begun = True
 
     def end(self):
         """Releases everything that it holds, and ends; if another task waits by it, as soon as that one runs."""
-        if not self._is_begun or self._is_over:
-            return
-        self._is_over = True
-        if self._waits is None:
-            self._release_and_end()
-        elif not self._waits.done() and not self._waits.get_loop().is_closed():
-            self._waits.set_exception(_ended())
-
-    __del__ = end
-
-    def _release_and_end(self):
-        self._release_all()
-        self._library.ww_acquire_fini_checked(self._at)
+        self._locks.end()
+        if self._locks.is_over and self._locks.waits and not (self._future.done() or self._future.get_loop().is_closed()):
+            self._future.set_exception(_ended())
 
     def _check(self, *mutexes):
-        if not self._is_begun or self._is_over:
+        if not self._locks.is_begun or self._locks.is_over:
             raise _ended()
-        if self._waits is not None:
+        if self._locks.waits:
             raise OSError(errno.EBUSY, "another task waits by this context")
         self._class._check(*mutexes)
 
@@ -239,9 +257,10 @@ class TaskContext:
             return self._library.ww_mutex_lock_poll(mutex._at, self._at, waker)
 
         if self._library.ww_mutex_trylock(mutex._at, self._at) != 1:
+            self._locks.awaited = mutex._its_end
             try:
                 code = await self._wait(poll, None)
-                if self._is_over:
+                if self._locks.is_over:
                     raise _ended()
             except BaseException:
                 code = poll(None)
@@ -249,12 +268,14 @@ class TaskContext:
                 if code == 0 or (code == -errno.EALREADY and mutex not in self):
                     self._library.ww_mutex_unlock_checked(mutex._at)
                 self._is_told(mutex, code)
-                if self._is_over:
-                    self._release_and_end()
+                if self._locks.is_over:
+                    self._locks.release_and_end()
                 raise
+            finally:
+                self._locks.awaited = None
             self._is_told(mutex, code)
             told(code)
-        self._held[mutex] = None
+        self._held[mutex._its_end] = mutex._at
 
     def _is_told(self, mutex, code):
         if code == -errno.EDEADLK:
@@ -277,7 +298,8 @@ class TaskContext:
                 acquired.append(mutex)
         except BaseException:
             for mutex in reversed(acquired):
-                self.unlock(mutex)
+                if mutex in self:
+                    self.unlock(mutex)
             raise
 
     async def lock(self, *mutexes):
@@ -298,10 +320,10 @@ class TaskContext:
             except Deadlock:
                 if not held_nothing:
                     raise
-                self._release_all()
+                self._locks.release_all()
             except BaseException:
                 if held_nothing:
-                    self._release_all()
+                    self._locks.release_all()
                 raise
 
     def try_lock(self, mutex):
@@ -309,7 +331,7 @@ class TaskContext:
         self._check(mutex)
         is_acquired = mutex not in self and self._library.ww_mutex_trylock(mutex._at, self._at) == 1
         if is_acquired:
-            self._held[mutex] = None
+            self._held[mutex._its_end] = mutex._at
         return is_acquired
 
     def unlock(self, mutex):
@@ -318,18 +340,13 @@ class TaskContext:
         if mutex not in self:
             raise OSError(errno.EINVAL, "the context doesn't hold it")
         told(self._library.ww_mutex_unlock_checked(mutex._at))
-        del self._held[mutex]
-
-    def _release_all(self):
-        while self._held:
-            mutex, _ = self._held.popitem()
-            self._library.ww_mutex_unlock_checked(mutex._at)
+        del self._held[mutex._its_end]
 
     def unlock_all(self):
         """Releases all. After a Deadlock the next lock call first waits for the mutex at which that came."""
         self._check()
-        self._release_all()
+        self._locks.release_all()
 
     def __contains__(self, mutex):
         """Whether it holds this mutex."""
-        return mutex in self._held
+        return isinstance(mutex, Mutex) and mutex._its_end in self._held
