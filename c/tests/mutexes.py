@@ -250,6 +250,7 @@ def ends_each_block():
             sys.settrace(None)
         return left <= 0
 
+    is_hit(-1)  # Never; early versions of Python 3.12 tell of instructions only once they were asked for that before.
     at = 1
     while is_hit(at):
         assert not a.locked(), at

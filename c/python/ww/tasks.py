@@ -79,10 +79,10 @@ class _Event(ctypes.Structure):
         """Its wait has ended. If its waker was called, or is about to be, the entry is in the list, or comes there."""
         if self.is_inherited:
             return
-        if is_called:
-            self.called.add(at)
-        else:
+        if not is_called:
             del self.waits[at]
+        elif at in self.waits:
+            self.called.add(at)
         if self.is_left:
             self.leave()
 
