@@ -146,6 +146,28 @@ async def is_cancelled(kind):
     assert not a.locked() and not b.locked()
 
 
+async def releases_once():
+    """What an interrupt left just behind the release isn't released again, since another context may hold it."""
+    buffers = made()
+    library, a = buffers._library, ww.Mutex(buffers)
+    unlock = library.ww_mutex_unlock_checked
+
+    def is_interrupted(at):
+        unlock(at)
+        raise KeyboardInterrupt
+
+    async with buffers.context() as one, buffers.context() as two:
+        await one.lock(a)
+        library.ww_mutex_unlock_checked = is_interrupted
+        try:
+            one.unlock(a)
+        except KeyboardInterrupt:
+            library.ww_mutex_unlock_checked = unlock
+        assert two.try_lock(a)
+        one.unlock_all()
+        assert a.locked() and a in two and a not in one
+
+
 async def a_thread_wakes_it():
     """One that holds the mutex by `with`; the loop goes on meanwhile."""
     buffers = made()
@@ -468,6 +490,7 @@ def main():
         storm(kind, 2, 30, 20, 4, False)
         storm(kind, 2, 30, 20, 3, True)
     asyncio.run(waits_in_turn())
+    asyncio.run(releases_once())
     asyncio.run(a_thread_wakes_it())
     asyncio.run(one_is_dropped())
     asyncio.run(a_child_leaves_it())

@@ -339,8 +339,9 @@ class TaskContext:
         self._check(mutex)
         if mutex not in self:
             raise OSError(errno.EINVAL, "the context doesn't hold it")
-        told(self._library.ww_mutex_unlock_checked(mutex._at))
-        del self._held[mutex._its_end]
+        # In this order: if an interrupt comes between, it isn't released a second time, when another context may hold it.
+        at = self._held.pop(mutex._its_end)
+        told(self._library.ww_mutex_unlock_checked(at))
 
     def unlock_all(self):
         """Releases all. After a Deadlock the next lock call first waits for the mutex at which that came."""
