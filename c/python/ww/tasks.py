@@ -6,6 +6,7 @@ import errno
 import functools
 import os
 import select
+import threading
 import time
 import weakref
 
@@ -52,6 +53,7 @@ class _Event(ctypes.Structure):
         self.waits = {}  # By the address of its entry, the memory of a wait which other threads may use.
         self.called = set()  # Entries of waits that have ended, but whose waker was called, or is about to be.
         self.is_left = self.is_inherited = False
+        self.lock = threading.RLock()  # Several threads may take and close what their loop has left.
         read, take = functools.partial(os.eventfd_read, self.descriptor), functools.partial(library.ww_event_take, ctypes.addressof(self))
         # No line of Python is run between the two, which a signal could interrupt.
         self.read_and_take = functools.partial(map, functools.partial.__call__, (read, take))
@@ -59,30 +61,32 @@ class _Event(ctypes.Structure):
 
     def take(self):
         """The entries that are in the list; none, if the thread that has filled it is still to write."""
-        taken = []
         if self.is_inherited:
+            return []
+        with self.lock:
+            taken, at = [], None
+            try:
+                _, at = self.read_and_take() if self.descriptor >= 0 else (0, None)
+            except BlockingIOError:
+                pass
+            while at:
+                taken.append(at)
+                at = self.waits[at][0].next
+            self.called.difference_update(taken)
+            for at in taken:
+                del self.waits[at]
+            self.close_if_unused()
             return taken
-        try:
-            _, at = self.read_and_take()
-        except BlockingIOError:
-            return taken
-        while at:
-            taken.append(at)
-            at = self.waits[at][0].next
-        self.called.difference_update(taken)
-        for at in taken:
-            del self.waits[at]
-        self.close_if_unused()
-        return taken
 
     def removes(self, at, is_called):
         """Its wait has ended. If its waker was called, or is about to be, the entry is in the list, or comes there."""
         if self.is_inherited:
             return
-        if not is_called:
-            del self.waits[at]
-        elif at in self.waits:
-            self.called.add(at)
+        with self.lock:
+            if not is_called:
+                del self.waits[at]
+            elif at in self.waits:
+                self.called.add(at)
         if self.is_left:
             self.leave()
 
@@ -91,16 +95,18 @@ class _Event(ctypes.Structure):
         if it isn't, the event stays. A wait that goes on closes the descriptor when it ends."""
         self.is_left = True
         until = time.monotonic() + _PATIENCE
-        while (self.first or self.called) and not self.is_inherited and time.monotonic() < until:
+        # Another thread may take the rest, and close the descriptor.
+        while (descriptor := self.descriptor) >= 0 and (self.first or self.called) and time.monotonic() < until:
             ready = select.poll()
-            ready.register(self.descriptor, select.POLLIN)
-            ready.poll(1000 * _PATIENCE)
+            ready.register(descriptor, select.POLLIN)
+            ready.poll(100)
             self.take()
-        self.close_if_unused()
+        self.take()
 
     def close_if_unused(self):
         if self.is_left and not self.waits and _events.pop(ctypes.addressof(self), None):
-            os.close(self.descriptor)
+            descriptor, self.descriptor = self.descriptor, -1
+            os.close(descriptor)
 
 
 class _Wakes:
