@@ -7,6 +7,7 @@ mod executor;
 
 use executor::{at_most, block_on, each_order, poll, times, yield_now, Draws, Flag, Pool};
 use std::future::Future;
+use std::panic::{self, AssertUnwindSafe};
 use std::path::{Path, PathBuf};
 use std::pin::{pin, Pin};
 use std::sync::atomic::{AtomicBool, AtomicU64, Ordering::Relaxed};
@@ -612,6 +613,37 @@ fn whoever_waits_for_a_context_sleeps() {
     });
     assert!(HAS_SLEPT.load(Relaxed) && !BOXES[0].is_locked());
     drop(held);
+}
+
+/// The clone of a waker panics, at the first poll of a call or at the next one: that call ends, and the context goes on.
+#[test]
+fn a_panic_of_a_waker_ends_a_call() {
+    class!(struct Boxes: WoundWait);
+    static BOXES: [Mutex<Boxes, u64>; 2] = [Mutex::new(0), Mutex::new(0)];
+    static PANICS: RawWakerVTable = RawWakerVTable::new(|_| panic::resume_unwind(Box::new(())), |_| (), |_| (), |_| ());
+    // SAFETY: these functions access nothing.
+    let waker = unsafe { Waker::new(ptr::null(), &PANICS) };
+    let mut context = Context::<Boxes>::new();
+    let tx = block_on(context.attempt()).unwrap();
+    let guard = block_on(tx.lock(&BOXES[0])).unwrap();
+    for polls in [0, 1] {
+        let held = BOXES[1].lock();
+        let mut lock = Box::pin(tx.lock(&BOXES[1]));
+        for _ in 0..polls {
+            assert!(poll(lock.as_mut(), &Arc::default()).is_pending());
+        }
+        let told =
+            panic::catch_unwind(AssertUnwindSafe(|| lock.as_mut().poll(&mut Polling::from_waker(&waker)).is_ready()));
+        assert!(told.is_err());
+        drop(lock);
+        drop(held);
+        assert!(BOXES[0].is_locked() && !BOXES[1].is_locked());
+        drop(tx.try_lock(&BOXES[1]).expect("nobody holds it"));
+    }
+    drop(guard);
+    assert!(block_on(tx.lock(&BOXES[0])).is_ok());
+    drop(context);
+    nothing_is_left::<Boxes>(&[], usual());
 }
 
 /// Only the waker of the last poll is called, and none is kept.

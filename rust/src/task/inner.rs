@@ -259,17 +259,25 @@ impl Inside {
         first: Option<i32>,
         later: &mut Later,
     ) -> Poll<Result<(), Error>> {
-        let mut lent = None;
+        let (mut lent, mut waits) = (None, false);
         match mem::take(&mut self.rare().call) {
             Call::Ended(_, Some(told)) => return Poll::Ready(told),
-            Call::Waits(_, old) => match self.take_back(old) {
-                Some(back) if back.will_wake(waker) => lent = Some(Lent::lend(back)),
-                back => later.back = back,
-            },
+            Call::Waits(_, old) => {
+                waits = true;
+                match self.take_back(old) {
+                    Some(back) if back.will_wake(waker) => lent = Some(Lent::lend(back)),
+                    back => later.back = back,
+                }
+            }
             _ if self.is_over() => return Poll::Ready(Err(Error::Deadlock)),
             _ => {}
         }
-        let lent = lent.unwrap_or_else(|| Lent::lend(waker.clone()));
+        let lent = lent.unwrap_or_else(|| {
+            let unarmed = Unarmed { inside: self, number, first, waits };
+            let clone = waker.clone();
+            mem::forget(unarmed);
+            Lent::lend(clone)
+        });
         let (index, raw) = (number.index(), self.raw());
         // SAFETY: the context has begun; what is on its way is this call, or nothing.
         let answer = unsafe {
@@ -329,6 +337,36 @@ impl Inside {
     unsafe fn end(&mut self) {
         // SAFETY: as asked for here.
         unsafe { ffi::ww_acquire_fini(self.raw()) };
+    }
+}
+
+/// A call whose waker is being cloned, by other programs' code. If that panics, this ends the call, of which nobody knows.
+struct Unarmed<'i> {
+    inside: &'i mut Inside,
+    number: Number,
+    /// What its first step returned.
+    first: Option<i32>,
+    /// It is on its way.
+    waits: bool,
+}
+
+impl Drop for Unarmed<'_> {
+    #[cold]
+    fn drop(&mut self) {
+        let (index, raw) = (self.number.index(), self.inside.raw());
+        // SAFETY: the context has begun, and the call is on its way, and ends with this; then it may have acquired the mutex.
+        unsafe {
+            let answer = match self.first {
+                Some(r) => ffi::ww_number_lock_poll_further_(index, raw, ptr::null(), r),
+                None if self.waits => ffi::ww_number_lock_poll(index, raw, ptr::null()),
+                None => return,
+            };
+            match -answer {
+                0 => ffi::unlock(index, raw),
+                ffi::EDEADLK => drop(self.inside.told(self.number, answer)),
+                _ => {}
+            }
+        }
     }
 }
 
