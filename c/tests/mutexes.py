@@ -250,6 +250,7 @@ def ends_each_block():
             sys.settrace(None)
         return left <= 0
 
+    is_hit(-1)  # Never; early versions of Python 3.12 tell of instructions only once they were asked for that before.
     at = 1
     while is_hit(at):
         assert not a.locked(), at
@@ -316,6 +317,38 @@ def is_called_off(kind):
             signal.signal(signal.SIGUSR1, lambda *_: mine.cancel())
             interrupts(signal.SIGUSR1, "_answer", lambda: waits(mine))
     assert told == [True, True, True]
+
+
+def ends_behind_a_cancel():
+    """A block that ends while another thread is in the middle of a cancel; and one that hasn't begun isn't cancelled."""
+    buffers = made()
+    library, told, is_called = buffers._library, [], threading.Event()
+    names = ("ww_acquire_cancel", "ww_acquire_fini_checked")
+    cancel, fini = (getattr(library, name) for name in names)
+
+    def cancels_slowly(at):
+        is_called.set()
+        time.sleep(0.2)
+        told.append("cancelled")
+        return cancel(at)
+
+    def ends(at):
+        told.append("ended")
+        return fini(at)
+
+    for name, call in zip(names, (cancels_slowly, ends)):
+        setattr(library, name, call)
+    context = buffers.context()
+    assert fault_of(context.cancel) == errno.EINVAL and not told
+    with context:
+        thread = threading.Thread(target=context.cancel)
+        thread.start()
+        is_called.wait()
+    thread.join()
+    for name, call in zip(names, (cancel, fini)):
+        setattr(library, name, call)
+    assert told == ["cancelled", "ended"] and fault_of(context.cancel) == errno.EINVAL
+    begins(buffers)
 
 
 def interrupts(number, name, call):
@@ -490,6 +523,7 @@ frees_cycles()
 loses_nothing()
 ends_each_block()
 waits_in_turn()
+ends_behind_a_cancel()
 forks()
 for each in KINDS:
     for test in (refuses_mutexes, refuses_again, ends_in_time, is_called_off, hears_interrupts, resolves, backs_off_by_itself, keeps_nothing):

@@ -1,11 +1,13 @@
 """Tasks of asyncio that wait without their thread: what they refuse, how their waits end, and sums by tasks of several
 loops beside threads: tasks.py libww.so"""
 import asyncio
+import ctypes
 import errno
 import gc
 import os
 import random
 import sys
+import tempfile
 import threading
 import time
 
@@ -47,6 +49,47 @@ async def refuses(kind):
             assert False
     except OSError as error:
         assert error.errno == errno.EINVAL
+
+
+async def refuses_other_tasks(kind):
+    """By a context by which a task waits; and the end of its block ends that wait, too."""
+    buffers = made(kind)
+    a, b = ww.Mutex(buffers), ww.Mutex(buffers)
+    async with buffers.context() as older, buffers.context() as two:
+        await older.lock(a)
+        task = asyncio.create_task(two.lock(a))
+        await asyncio.sleep(0)
+        for mutex in (a, b):
+            assert await fault_of(asyncio.wait_for(two.lock(mutex), 10)) == errno.EBUSY
+        for call in (lambda: two.try_lock(b), lambda: two.unlock(a), two.unlock_all):
+            assert fault_of_call(call) == errno.EBUSY
+        older.unlock(a)
+        await asyncio.wait_for(task, 10)
+        assert a in two and not b.locked()
+    older, two = buffers.context(), buffers.context()
+    async with older as one:
+        await one.lock(a)
+        async with two as other:
+            task = asyncio.create_task(other.lock(a))
+            await asyncio.sleep(0)
+        assert await fault_of(asyncio.wait_for(task, 10)) == errno.EINVAL and a in one
+        async with buffers.context() as other:
+            task = asyncio.create_task(other.lock(b, a))
+            await asyncio.sleep(0)
+            one.unlock(a)  # it is woken, and its context ends before it runs
+        assert await fault_of(asyncio.wait_for(task, 10)) == errno.EINVAL
+    assert not a.locked() and not b.locked()
+    for it in (older, two):
+        assert await fault_of(it.__aenter__()) == errno.EINVAL and fault_of_call(it.__enter__) == errno.EINVAL
+    await begin_all(buffers, 4)
+
+
+def fault_of_call(call):
+    try:
+        call()
+    except OSError as error:
+        return error.errno
+    return 0
 
 
 async def begins(of):
@@ -101,6 +144,28 @@ async def is_cancelled(kind):
         except asyncio.CancelledError:
             pass
     assert not a.locked() and not b.locked()
+
+
+async def releases_once():
+    """What an interrupt left just behind the release isn't released again, since another context may hold it."""
+    buffers = made()
+    library, a = buffers._library, ww.Mutex(buffers)
+    unlock = library.ww_mutex_unlock_checked
+
+    def is_interrupted(at):
+        unlock(at)
+        raise KeyboardInterrupt
+
+    async with buffers.context() as one, buffers.context() as two:
+        await one.lock(a)
+        library.ww_mutex_unlock_checked = is_interrupted
+        try:
+            one.unlock(a)
+        except KeyboardInterrupt:
+            library.ww_mutex_unlock_checked = unlock
+        assert two.try_lock(a)
+        one.unlock_all()
+        assert a.locked() and a in two and a not in one
 
 
 async def a_thread_wakes_it():
@@ -218,6 +283,135 @@ async def begin_all(of, count):
         await it.__aexit__(None, None, None)
 
 
+class SlowWaker:
+    """In place of ww_event_wake, which it does step by step, in the thread that ends a wait: for a while it stands before one
+    of the two steps."""
+
+    def __init__(self, library, before_write):
+        self.library, self.whole = library, library.ww_event_wake
+        self.before_write, self.stands = before_write, threading.Event()
+        library.ww_event_wake = self.called = ctypes.CFUNCTYPE(None, ctypes.c_void_p, ctypes.c_void_p)(self.wake)
+
+    def stand(self):
+        self.stands.set()
+        time.sleep(0.3)
+
+    def wake(self, event_at, woken_at):
+        event, woken = ww.tasks._Event.from_address(event_at), ww.tasks._Woken.from_address(woken_at)
+        descriptor = event.descriptor
+        if not self.before_write:
+            self.stand()
+        woken.next, event.first = event.first, woken_at
+        if self.before_write:
+            self.stand()
+        os.write(descriptor, (1).to_bytes(8, sys.byteorder))
+
+    def end(self):
+        self.library.ww_event_wake = self.whole
+
+
+def descriptors():
+    return len(os.listdir("/proc/self/fd"))
+
+
+def a_waker_is_slow(before_write):
+    """A loop is left with a task that another thread is about to wake: nothing that this thread uses is gone by then, neither
+    the descriptor, whose number another file would get, nor the memory."""
+    buffers = made()
+    mutex = ww.Mutex(buffers)
+    is_held, goes = threading.Event(), threading.Event()
+    slow = SlowWaker(buffers._library, before_write)
+    open_before = descriptors()
+
+    def hold():
+        with mutex:
+            is_held.set()
+            goes.wait()
+
+    async def lock():
+        async with buffers.context() as context:
+            await context.lock(mutex)
+
+    async def leave():
+        task = asyncio.create_task(lock())
+        await asyncio.sleep(0)
+        goes.set()
+        slow.stands.wait()
+        task.cancel()
+        await asyncio.gather(task, return_exceptions=True)
+
+    thread = threading.Thread(target=hold)
+    thread.start()
+    is_held.wait()
+    asyncio.run(leave())
+    gc.collect()
+    files = [tempfile.TemporaryFile() for _ in range(20)]
+    thread.join()
+    assert [os.fstat(it.fileno()).st_size for it in files] == [0] * 20
+    for it in files:
+        it.close()
+    slow.end()
+    assert descriptors() == open_before and not ww.tasks._events and not mutex.locked()
+
+
+async def a_child_leaves_it():
+    """What wakes a loop isn't taken from it by a child of a fork, which has its memory and its descriptor."""
+    buffers = made()
+    mutex = ww.Mutex(buffers)
+    async with buffers.context() as one:
+        await one.lock(mutex)
+        task = asyncio.create_task(lock_once(buffers, mutex))
+        await asyncio.sleep(0)
+        wakes = ww.tasks._Wakes.of(buffers._library)
+        one.unlock(mutex)
+    child = os.fork()
+    if child == 0:
+        wakes.take()
+        wakes.__del__()
+        os._exit(bool(ww.tasks._events))
+    assert os.waitpid(child, 0)[1] == 0
+    await asyncio.wait_for(task, 10)
+
+
+async def lock_once(of, mutex):
+    async with of.context() as context:
+        await context.lock(mutex)
+
+
+async def locks_again(kind):
+    """A mutex that it holds, and for which it had to wait; also once mutexes that it held meanwhile are gone."""
+    buffers = made(kind)
+    mutex, other = ww.Mutex(buffers), ww.Mutex(buffers)
+
+    async def waits():
+        async with buffers.context() as two:
+            await two.lock(mutex)
+            assert not two.try_lock(mutex) and await fault_of(two.lock(mutex)) == errno.EALREADY
+            assert await fault_of(two.lock(other, mutex)) == errno.EALREADY and not other.locked()
+            two.unlock(mutex)
+            assert not mutex.locked()
+            return True
+
+    async def waits_and_locks_others():
+        async with buffers.context() as two:
+            await two.lock(mutex)
+            for _ in range(20):
+                once = ww.Mutex(buffers)
+                await two.lock(once)
+                two.unlock(once)
+                del once
+                gc.collect()
+            assert await fault_of(two.lock(mutex)) == errno.EALREADY and mutex in two
+            return True
+
+    for wait in (waits, waits_and_locks_others):
+        async with buffers.context() as one:
+            await one.lock(mutex)
+            task = asyncio.create_task(wait())
+            await asyncio.sleep(0)
+        assert await task and not mutex.locked()
+
+
 def a_loop_is_left():
     """With a task amid its wait, and with one that holds something."""
     buffers = made()
@@ -239,12 +433,39 @@ def a_loop_is_left():
     assert a.locked() and b.locked()
     for it in tasks:
         it._log_destroy_pending = False
+    (event,) = ww.tasks._events.values()
+    event.leave()
+    assert ww.tasks._events  # its wait goes on
     loop.close()
     del tasks, loop, it
     for _ in range(3):
         gc.collect()
-    assert not a.locked() and not b.locked()
+    assert not a.locked() and not b.locked() and not ww.tasks._events
     asyncio.run(begin_all(buffers, 4))
+
+
+def frees_cycles():
+    """A class that refers to its mutexes, to a context that holds them, and to a task that waits for one."""
+    library, told = made()._library, []
+    free = library.ww_class_free
+
+    async def make(waits):
+        buffers = made()
+        buffers.all = [ww.Mutex(buffers) for _ in range(3)]
+        buffers.one = await buffers.context().__aenter__()
+        await buffers.one.lock(*buffers.all)
+        if waits:
+            buffers.two = await buffers.context().__aenter__()
+            buffers.wait = buffers.two.lock(*buffers.all)
+            buffers.wait.send(None)
+
+    library.ww_class_free = lambda at: told.append(free(at))
+    for waits in (False, True):
+        asyncio.run(make(waits))
+        for _ in range(3):
+            gc.collect()
+    library.ww_class_free = free
+    assert told == [0, 0] and not ww.tasks._events
 
 
 async def one_is_dropped():
@@ -263,15 +484,22 @@ def main():
     begun = time.monotonic()
     for kind in KINDS:
         asyncio.run(refuses(kind))
+        asyncio.run(refuses_other_tasks(kind))
         asyncio.run(is_cancelled(kind))
+        asyncio.run(locks_again(kind))
         storm(kind, 2, 30, 20, 4, False)
         storm(kind, 2, 30, 20, 3, True)
     asyncio.run(waits_in_turn())
+    asyncio.run(releases_once())
     asyncio.run(a_thread_wakes_it())
     asyncio.run(one_is_dropped())
+    asyncio.run(a_child_leaves_it())
     a_loop_is_left()
+    frees_cycles()
+    for before_write in (True, False):
+        a_waker_is_slow(before_write)
     gc.collect()
-    assert not ww.tasks._Wakes.awaited
+    assert not ww.tasks._events
     assert time.monotonic() - begun < 300
     print("tasks: each wait ended as it should")
 

@@ -7,13 +7,14 @@ mod executor;
 
 use executor::{at_most, block_on, each_order, poll, times, yield_now, Draws, Flag, Pool};
 use std::future::Future;
-use std::mem;
+use std::panic::{self, AssertUnwindSafe};
+use std::path::{Path, PathBuf};
 use std::pin::{pin, Pin};
 use std::sync::atomic::{AtomicBool, AtomicU64, Ordering::Relaxed};
 use std::sync::{Arc, OnceLock};
-use std::task::{Context as Polling, Poll, Waker};
-use std::thread;
+use std::task::{Context as Polling, Poll, RawWaker, RawWakerVTable, Waker};
 use std::time::{Duration, Instant};
+use std::{fs, hint, mem, ptr, thread};
 use ww_mutex::task::{Context, Guard, Tx};
 use ww_mutex::{class, transaction, Class, Error, Mutex};
 
@@ -337,6 +338,89 @@ fn threads_and_tasks_share_a_class() {
     storm::<Few>(2);
 }
 
+/// How many wakers there were, how many of them were called or dropped, and what came after that.
+struct Uses {
+    made: AtomicU64,
+    over: AtomicU64,
+    wrong: AtomicU64,
+}
+
+static USES: Uses = Uses { made: AtomicU64::new(0), over: AtomicU64::new(0), wrong: AtomicU64::new(0) };
+
+impl Uses {
+    fn make(&self) -> RawWaker {
+        static CALLS: RawWakerVTable =
+            RawWakerVTable::new(|_| USES.make(), |is_over| USES.end(is_over), |_| (), |is_over| USES.end(is_over));
+        self.made.fetch_add(1, Relaxed);
+        // It leaks, so that what comes too late finds it.
+        RawWaker::new(ptr::from_ref(Box::leak(Box::new(AtomicBool::new(false)))).cast(), &CALLS)
+    }
+
+    fn end(&self, is_over: *const ()) {
+        // SAFETY: `make` leaked it.
+        let was_over = unsafe { &*is_over.cast::<AtomicBool>() }.swap(true, Relaxed);
+        self.wrong.fetch_add(u64::from(was_over), Relaxed);
+        self.over.fetch_add(1, Relaxed);
+    }
+}
+
+/// Polls without need, each with another waker, and drops, while other threads are in the middle of calling one: for a
+/// mutex, and for a context.
+#[test]
+fn each_waker_is_called_or_dropped_once() {
+    class! {
+        struct Wound: WoundWait;
+        struct Die: WaitDie;
+        struct One: WoundWait, mutexes = 1, contexts = 1;
+    }
+    fn storm<C: Class>() {
+        let (mutex, is_over) = (Mutex::<C, u64>::new(0), AtomicBool::new(false));
+        let pause = |draws: &mut Draws| (0..draws.below(400)).for_each(|_| hint::spin_loop());
+        let polls = |seed| {
+            let mut draws = Draws(seed);
+            for _ in 0..times(20_000) {
+                let mut add = pin!(async {
+                    transaction!(C, |tx| {
+                        let mut count = tx.lock(&mutex).await?;
+                        yield_now().await;
+                        *count += 1;
+                        Ok::<_, Error>(())
+                    })
+                });
+                let mut is_ready = || {
+                    // SAFETY: the functions do what those of a waker have to.
+                    let waker = unsafe { Waker::from_raw(USES.make()) };
+                    add.as_mut().poll(&mut Polling::from_waker(&waker)).is_ready()
+                };
+                while !is_ready() && draws.below(8) > 0 {
+                    pause(&mut draws);
+                }
+            }
+        };
+        thread::scope(|scope| {
+            scope.spawn(|| {
+                let mut draws = Draws(3);
+                while !is_over.load(Relaxed) {
+                    let held = mutex.lock();
+                    pause(&mut draws);
+                    drop(held);
+                    pause(&mut draws);
+                }
+            });
+            for thread in [scope.spawn(|| polls(1)), scope.spawn(|| polls(2))] {
+                thread.join().unwrap();
+            }
+            is_over.store(true, Relaxed);
+        });
+        drop(mutex.try_lock().expect("nobody holds it"));
+    }
+    storm::<Wound>();
+    storm::<Die>();
+    storm::<One>();
+    assert_eq!(USES.wrong.load(Relaxed), 0);
+    assert_eq!(USES.over.load(Relaxed), USES.made.load(Relaxed));
+}
+
 // ---- one thread that says who goes on ----
 
 /// In each order: two tasks that lock two objects in opposite orders, three that lock three in a ring, and so on; with
@@ -449,6 +533,117 @@ fn a_context_is_handed_on() {
     drop(got);
     assert_eq!(waiting.join().unwrap(), Ok(1));
     nothing_is_left::<Boxes>(&[], 1);
+}
+
+/// One of a mutex for which it had to wait, by a lock call and by a try.
+#[test]
+fn a_second_guard_is_refused() {
+    class! {
+        struct Wound: WoundWait;
+        struct Die: WaitDie;
+    }
+    fn waits<C: Class>() {
+        let mutex = Mutex::<C, u64>::new(0);
+        let (flag, held) = (Arc::default(), mutex.lock());
+        let mut twice = pin!(async {
+            transaction!(C, |tx| {
+                let mut one = tx.lock(&mutex).await?;
+                assert!(tx.try_lock(&mutex).is_none());
+                assert_eq!(tx.lock(&mutex).await.map(|_| ()), Err(Error::Duplicate));
+                assert!(tx.try_lock(&mutex).is_none());
+                *one += 1;
+                drop(one);
+                *tx.try_lock(&mutex).expect("nobody holds it") += 1;
+                Ok::<_, Error>(())
+            })
+        });
+        assert!(poll(twice.as_mut(), &flag).is_pending());
+        drop(held);
+        assert!(flag.is_set() && block_on(twice) == Ok(()) && *mutex.try_lock().expect("nobody holds it") == 2);
+    }
+    waits::<Wound>();
+    waits::<Die>();
+}
+
+/// How often a thread, by its folder, has gone to sleep so far.
+fn sleeps_of(thread: &Path) -> u64 {
+    let status = fs::read_to_string(thread.join("status")).unwrap();
+    let line = status.lines().find_map(|line| line.strip_prefix("voluntary_ctxt_switches:"));
+    line.unwrap().trim().parse().unwrap()
+}
+
+/// While one thread uses a context, another one that drops a guard of it sleeps: else, with a higher priority and the same
+/// processor, it would wait forever. Here the first one is cloning a waker until the second has slept.
+#[test]
+fn whoever_waits_for_a_context_sleeps() {
+    class!(struct Boxes: WoundWait);
+    static BOXES: [Mutex<Boxes, u64>; 2] = [Mutex::new(0), Mutex::new(0)];
+    static IS_IN_USE: AtomicBool = AtomicBool::new(false);
+    static HAS_SLEPT: AtomicBool = AtomicBool::new(false);
+    static WAITS: OnceLock<(PathBuf, u64)> = OnceLock::new();
+    fn has_slept() -> bool {
+        WAITS.get().is_some_and(|(thread, before)| sleeps_of(thread) >= before + 10)
+    }
+    fn clone(_: *const ()) -> RawWaker {
+        IS_IN_USE.store(true, Relaxed);
+        let began = Instant::now();
+        while !has_slept() && began.elapsed() < Duration::from_secs(10) {
+            thread::sleep(Duration::from_millis(1));
+        }
+        HAS_SLEPT.store(has_slept(), Relaxed);
+        RawWaker::new(ptr::null(), Waker::noop().vtable())
+    }
+    static CLONES: RawWakerVTable = RawWakerVTable::new(clone, |_| {}, |_| {}, |_| {});
+    // SAFETY: these functions access nothing.
+    let waker = unsafe { Waker::new(ptr::null(), &CLONES) };
+    let mut context = Context::<Boxes>::new();
+    let tx = block_on(context.attempt()).unwrap();
+    let (guard, held) = (block_on(tx.lock(&BOXES[0])).unwrap(), BOXES[1].lock());
+    thread::scope(|scope| {
+        scope.spawn(|| {
+            let me = Path::new("/proc").join(fs::read_link("/proc/thread-self").unwrap());
+            while !IS_IN_USE.load(Relaxed) {
+                thread::sleep(Duration::from_millis(1));
+            }
+            let before = sleeps_of(&me);
+            WAITS.set((me, before)).unwrap();
+            drop(guard);
+        });
+        assert!(pin!(tx.lock(&BOXES[1])).poll(&mut Polling::from_waker(&waker)).is_pending());
+    });
+    assert!(HAS_SLEPT.load(Relaxed) && !BOXES[0].is_locked());
+    drop(held);
+}
+
+/// The clone of a waker panics, at the first poll of a call or at the next one: that call ends, and the context goes on.
+#[test]
+fn a_panic_of_a_waker_ends_a_call() {
+    class!(struct Boxes: WoundWait);
+    static BOXES: [Mutex<Boxes, u64>; 2] = [Mutex::new(0), Mutex::new(0)];
+    static PANICS: RawWakerVTable = RawWakerVTable::new(|_| panic::resume_unwind(Box::new(())), |_| (), |_| (), |_| ());
+    // SAFETY: these functions access nothing.
+    let waker = unsafe { Waker::new(ptr::null(), &PANICS) };
+    let mut context = Context::<Boxes>::new();
+    let tx = block_on(context.attempt()).unwrap();
+    let guard = block_on(tx.lock(&BOXES[0])).unwrap();
+    for polls in [0, 1] {
+        let held = BOXES[1].lock();
+        let mut lock = Box::pin(tx.lock(&BOXES[1]));
+        for _ in 0..polls {
+            assert!(poll(lock.as_mut(), &Arc::default()).is_pending());
+        }
+        let told =
+            panic::catch_unwind(AssertUnwindSafe(|| lock.as_mut().poll(&mut Polling::from_waker(&waker)).is_ready()));
+        assert!(told.is_err());
+        drop(lock);
+        drop(held);
+        assert!(BOXES[0].is_locked() && !BOXES[1].is_locked());
+        drop(tx.try_lock(&BOXES[1]).expect("nobody holds it"));
+    }
+    drop(guard);
+    assert!(block_on(tx.lock(&BOXES[0])).is_ok());
+    drop(context);
+    nothing_is_left::<Boxes>(&[], usual());
 }
 
 /// Only the waker of the last poll is called, and none is kept.

@@ -56,7 +56,8 @@ _CALLS |= {f"ww_{it}": (ctypes.c_int, _AT) for it in _ALONE}
 _PAIRS = ("mutex_init_checked", "acquire_init_checked", "mutex_lock_interruptible", "mutex_trylock")
 _CALLS |= {f"ww_{it}": (ctypes.c_int, _AT, _AT) for it in _PAIRS}
 _CALLS |= {f"ww_{it}": (None, _AT) for it in ("tries_begin_", "back_off_", "acquire_unlock_all")}
-# During these calls no other thread of Python runs: so a context isn't cancelled while it ends.
+# A context makes these calls under a lock of its own. During them Python keeps its lock, too, if it has one: then nobody ever
+# waits for the context's.
 _ALONE_IN_PYTHON = ("ww_acquire_cancel", "ww_acquire_fini_checked")
 
 

@@ -7,7 +7,6 @@ import collections
 import ctypes
 import errno
 import functools
-import itertools
 import threading
 import time
 import weakref
@@ -19,13 +18,14 @@ from .library import WAIT_DIE, WOUND_WAIT, Already, Deadlock, Time, opened, told
 # are in the order of their timestamps, so this loses no place in the order.
 _SLICE = 100_000_000
 _NEVER = 2**62  # A time of the clock, in nanoseconds too.
-# By number, the call that ends each structure of the library. They are made until the program's last moment.
-_ends, _numbers = {}, itertools.count()
+# By its address, the call that ends each structure of the library. They are made until the program's last moment.
+_ends = {}
 ctypes.pythonapi.Py_IncRef(ctypes.py_object(_ends))
+_LOOK_UPS = [f"{{{k}[0]!s:.0}}" for k in range(9)]  # of 0 in so many arguments of str.format, for `_once`
 
 
 class _End(int):
-    """The number of a call that is made once nothing refers to this. What that call keeps is reached from `_ends`: so it is
+    """The address of a call that is made once nothing refers to this. What that call keeps is reached from `_ends`: so it is
     freed after the call, whatever cycle of references their owners were in. No line of Python is run, which a signal could
     interrupt."""
 
@@ -33,12 +33,11 @@ class _End(int):
     __del__ = property(_ends.pop)
 
 
-def _ending(call, at, *kept):
-    """An end of this memory by this call, which keeps what may only be freed after it."""
-    number, end = next(_numbers), functools.partial(call, at)
+def _ending(end, *kept):
+    """An end by this call, which keeps what may only be freed after it."""
     end.kept = kept
-    _ends[number] = end
-    return _End(number)
+    _ends[id(end)] = end
+    return _End(id(end))
 
 
 def _once(*calls):
@@ -46,7 +45,7 @@ def _once(*calls):
     return; and a mapping that is true once it was called. str.format looks up 0 in each dictionary, which lacks it and so
     makes it by its call: no line of Python is run, which a signal could interrupt."""
     made = [collections.defaultdict(call) for call in calls]
-    return functools.partial("".join(f"{{{k}[0]!s:.0}}" for k in range(len(made))).format, *made), made[0]
+    return functools.partial("".join(_LOOK_UPS[: len(made)]).format, *made), made[0]
 
 
 class _Exit:
@@ -107,7 +106,7 @@ class Class:
             raise _wrong("a class is WOUND_WAIT or WAIT_DIE")
         self._library = opened(library)
         self._at = _memory(self._library.ww_class_size())
-        self._its_end = _ending(self._library.ww_class_free, self._at)
+        self._its_end = _ending(functools.partial(self._library.ww_class_free, self._at))
         self._library.ww_class_init(self._at, kind, None)
         told(self._library.ww_class_limit(self._at, mutexes, contexts))
 
@@ -162,7 +161,7 @@ class Mutex:
             raise TypeError("a mutex is of a ww.Class")
         self._class, self._library, self._alone = of, of._library, None
         self._at = _memory(self._library.ww_mutex_size())
-        self._its_end = _ending(self._library.ww_mutex_destroy, self._at, of._its_end)
+        self._its_end = _ending(functools.partial(self._library.ww_mutex_destroy, self._at), of._its_end)
         told(self._library.ww_mutex_init_checked(self._at, of._at))
 
     def __enter__(self):
@@ -201,15 +200,17 @@ class Context:
         # two lines: so a mutex is in the first set before it can be held, and leaves the second before it is released.
         self._near, self._held = set(), set()
         self._at = _memory(self._library.ww_acquire_size())
-        fini = _ending(self._library.ww_acquire_fini_checked, self._at, of._its_end, self._near)
-        self._its_end = _ending(self._library.ww_acquire_unlock_all, self._at, fini)
-        release, end = (functools.partial(call, self._at) for call in (self._library.ww_acquire_unlock_all, self._library.ww_acquire_fini_checked))
-        self._end, self._is_over = _once(release, end, self._held.clear, self._near.clear)
+        # Its end comes once, in a block or when it is dropped, and other threads may cancel it until then: so the end and each
+        # cancel are made under a lock.
+        self._lock = threading.Lock()
+        release, fini = (functools.partial(call, self._at) for call in (self._library.ww_acquire_unlock_all, self._library.ww_acquire_fini_checked))
+        self._end, self._is_over = _once(self._lock.acquire, release, fini, self._lock.release, self._held.clear, self._near.clear)
+        self._its_end = _ending(self._end, of._its_end, self._near)
 
     __exit__ = _Exit()
 
     def __enter__(self):
-        if self._thread is not None:
+        if self._thread is not None or self._of_task is not None:
             raise _wrong("a context begins once")
         try:
             self._begin(_until(self._timeout))
@@ -222,7 +223,7 @@ class Context:
     async def __aenter__(self):
         from .tasks import TaskContext  # asyncio is loaded for those who use it
 
-        if self._thread is not None or self._timeout is not None:
+        if self._thread is not None or self._of_task is not None or self._timeout is not None:
             raise _wrong("a context begins once, and a task's without a timeout: asyncio has some")
         self._of_task = TaskContext(self._class)
         await self._of_task.begin()
@@ -250,7 +251,8 @@ class Context:
             codes.append(self._library.ww_acquire_init_until(self._at, self._class._at, end))
             begun.set()
             if left.is_set():
-                self._library.ww_acquire_fini_checked(self._at)
+                with self._lock:
+                    self._library.ww_acquire_fini_checked(self._at)
 
         if not _is_main():
             begin()
@@ -364,5 +366,10 @@ class Context:
 
     def cancel(self):
         """Ends its wait, the current one or the next; any thread may call it. Already: a cancel is pending; EINVAL: the
-        context has ended."""
-        told(self._library.ww_acquire_cancel(self._at))  # Before the end or after it: no other thread of Python runs during either.
+        context hasn't begun, or has ended."""
+        if self._thread is None:
+            raise _wrong("the context hasn't begun")
+        calls = self._lock.acquire, functools.partial(self._library.ww_acquire_cancel, self._at), self._lock.release
+        # No line of Python is run between these, which a signal could interrupt.
+        _, code, _ = map(functools.partial.__call__, map(functools.partial, calls))
+        told(code)

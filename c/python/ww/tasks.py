@@ -3,10 +3,15 @@ Python 3.10, which has eventfd."""
 import asyncio
 import ctypes
 import errno
+import functools
 import os
+import select
+import threading
+import time
 import weakref
 
 from .library import Deadlock, told
+from .mutexes import Mutex, _ending
 
 
 class _Waker(ctypes.Structure):
@@ -21,33 +26,98 @@ class _Seek(ctypes.Structure):
     _fields_ = [("next", ctypes.c_void_p), ("of", ctypes.c_void_p), ("seat", ctypes.c_void_p), ("waker", _Waker), ("served", ctypes.c_uint32)]
 
 
-class _Event(ctypes.Structure):
-    """struct ww_event."""
-
-    _fields_ = [("first", ctypes.c_void_p), ("descriptor", ctypes.c_int)]
-
-    def __del__(self):
-        os.close(self.descriptor)
-
-
 class _Woken(ctypes.Structure):
     """struct ww_woken."""
 
     _fields_ = [("next", ctypes.c_void_p)]
 
 
+# The events whose descriptors are open: threads that go on while the interpreter ends may still use them, so they are there
+# until the program's last moment. And in a forked child those of its parent: a mutex that is released there may use one.
+_events, _inherited = {}, []
+for _kept in _events, _inherited:
+    ctypes.pythonapi.Py_IncRef(ctypes.py_object(_kept))
+# For how many seconds the end of a loop waits at most for threads that are in the middle of a call.
+_PATIENCE = 10
+
+
+class _Event(ctypes.Structure):
+    """struct ww_event: the thread that ends a wait puts the wait's entry into a list and, if that was empty, then writes to a
+    descriptor, without Python's lock. So the list is taken only after a read that succeeded: then the one write that belongs to
+    it is over. An event without waits has an empty list, so nobody is about to write, and its descriptor may be closed."""
+
+    _fields_ = [("first", ctypes.c_void_p), ("descriptor", ctypes.c_int)]
+
+    def __init__(self, library):
+        super().__init__(None, os.eventfd(0, os.EFD_NONBLOCK | os.EFD_CLOEXEC))
+        self.waits = {}  # By the address of its entry, the memory of a wait which other threads may use.
+        self.called = set()  # Entries of waits that have ended, but whose waker was called, or is about to be.
+        self.is_left = self.is_inherited = False
+        self.lock = threading.RLock()  # Several threads may take and close what their loop has left.
+        read, take = functools.partial(os.eventfd_read, self.descriptor), functools.partial(library.ww_event_take, ctypes.addressof(self))
+        # No line of Python is run between the two, which a signal could interrupt.
+        self.read_and_take = functools.partial(map, functools.partial.__call__, (read, take))
+        _events[ctypes.addressof(self)] = self
+
+    def take(self):
+        """The entries that are in the list; none, if the thread that has filled it is still to write."""
+        if self.is_inherited:
+            return []
+        with self.lock:
+            taken, at = [], None
+            try:
+                _, at = self.read_and_take() if self.descriptor >= 0 else (0, None)
+            except BlockingIOError:
+                pass
+            while at:
+                taken.append(at)
+                at = self.waits[at][0].next
+            self.called.difference_update(taken)
+            for at in taken:
+                del self.waits[at]
+            self.close_if_unused()
+            return taken
+
+    def removes(self, at, is_called):
+        """Its wait has ended. If its waker was called, or is about to be, the entry is in the list, or comes there."""
+        if self.is_inherited:
+            return
+        with self.lock:
+            if not is_called:
+                del self.waits[at]
+            elif at in self.waits:
+                self.called.add(at)
+        if self.is_left:
+            self.leave()
+
+    def leave(self):
+        """Its loop takes nothing any more. What other threads have begun to do with it is over in a moment, which this awaits;
+        if it isn't, the event stays. A wait that goes on closes the descriptor when it ends."""
+        self.is_left = True
+        until = time.monotonic() + _PATIENCE
+        # Another thread may take the rest, and close the descriptor.
+        while (descriptor := self.descriptor) >= 0 and (self.first or self.called) and time.monotonic() < until:
+            ready = select.poll()
+            ready.register(descriptor, select.POLLIN)
+            ready.poll(100)
+            self.take()
+        self.take()
+
+    def close_if_unused(self):
+        if self.is_left and not self.waits and _events.pop(ctypes.addressof(self), None):
+            descriptor, self.descriptor = self.descriptor, -1
+            os.close(descriptor)
+
+
 class _Wakes:
-    """What wakes a loop: the thread that ends a wait fills a list and writes to a descriptor, without Python's lock. Only the
-    loop refers to it, and to the futures of its waits, so that the rest of a closed loop can be freed."""
+    """What wakes the tasks of a loop. Only the loop refers to it, and to the futures of its waits, so that the rest of a closed
+    loop can be freed."""
 
     of_loops = weakref.WeakKeyDictionary()
-    # The waits by their entries of the list. The thread that calls the waker writes there, so an entry stays until it was
-    # taken from the list, or the waker was taken back.
-    awaited = {}
 
     def __init__(self, loop, library):
-        self.library, self.futures = library, {}
-        self.event = _Event(None, os.eventfd(0, os.EFD_NONBLOCK | os.EFD_CLOEXEC))
+        self.futures = {}  # By the addresses of their waits' entries.
+        self.event = _Event(library)
         self.wake = ctypes.cast(library.ww_event_wake, ctypes.c_void_p).value
         loop.add_reader(self.event.descriptor, self.take)
 
@@ -60,40 +130,72 @@ class _Wakes:
             wakes = of_libraries[library] = cls(loop, library)
         return wakes
 
-    def begin(self):
-        """A wait: its waker, its place in the list, and the future of its wake-up."""
+    def begin(self, *kept):
+        """A wait: its waker, the address of its entry, and the future of its wake-up."""
         woken, future = _Woken(), asyncio.get_running_loop().create_future()
         at = ctypes.addressof(woken)
-        self.awaited[at] = woken, self.event
+        self.event.waits[at] = woken, *kept
         self.futures[at] = future
         return _Waker(self.wake, ctypes.addressof(self.event), at), at, future
 
-    def end(self, at):
-        """Removes the wait at this place, which was taken from the list, or won't come there, and returns its future."""
-        del self.awaited[at]
-        return self.futures.pop(at)
-
-    def taken(self):
-        """The futures of the waits that were woken since."""
-        at = self.library.ww_event_take(ctypes.byref(self.event))
-        while at:
-            after = _Woken.from_address(at).next
-            yield self.end(at)
-            at = after
+    def end(self, at, is_called):
+        """Ends a wait that wasn't woken yet."""
+        del self.futures[at]
+        self.event.removes(at, is_called)
 
     def take(self):
-        try:
-            os.eventfd_read(self.event.descriptor)
-        except BlockingIOError:
-            pass
-        for future in self.taken():
-            if not future.done():
+        for at in self.event.take():
+            future = self.futures.pop(at, None)
+            if future and not future.done():
                 future.set_result(None)
 
     def __del__(self):
-        """Takes all, if a loop was left before it did."""
-        for _ in self.taken():
-            pass
+        self.event.leave()
+
+
+def _inherit():
+    """In a forked child. Nobody is there who writes, and what is read there is lost to the parent, whose descriptor it is."""
+    for event in _events.values():
+        event.is_inherited = True
+        os.close(event.descriptor)
+        event.descriptor = -1
+    _inherited.extend(_events.values())
+    _events.clear()
+    _Wakes.of_loops.clear()
+
+
+os.register_at_fork(after_in_child=_inherit)
+
+
+def _ended():
+    return OSError(errno.EINVAL, "the context is of no `async with` block that goes on")
+
+
+class _Locks:
+    """What a context of a task holds, and its end. It refers to memory, and to the ends of what may only end after it. It is
+    reached from the end of its context: so those come later, whatever cycle of references their owners were in."""
+
+    def __init__(self, of):
+        self.library, self.its_class, self.at = of._library, of._its_end, (ctypes.c_uint64 * -(-of._library.ww_acquire_size() // 8))()
+        self.held = {}  # By its end, the memory of each mutex that it holds, in the order in which it acquired them.
+        self.awaited = None  # The end of the mutex for which it waits.
+        self.is_begun = self.is_over = self.waits = False
+
+    def end(self):
+        if not self.is_begun or self.is_over:
+            return
+        self.is_over = True
+        if not self.waits:
+            self.release_and_end()
+
+    def release_and_end(self):
+        self.release_all()
+        self.library.ww_acquire_fini_checked(self.at)
+
+    def release_all(self):
+        while self.held:
+            its_end, at = self.held.popitem()
+            self.library.ww_mutex_unlock_checked(at)
 
 
 class TaskContext:
@@ -102,11 +204,12 @@ class TaskContext:
 
     def __init__(self, of):
         self._class, self._library = of, of._library
-        self._at = (ctypes.c_uint64 * -(-of._library.ww_acquire_size() // 8))()
+        self._locks = _Locks(of)
+        self._at, self._held = self._locks.at, self._locks.held
         self._seek = _Seek()
-        self._held = {}  # Its mutexes, in the order in which it acquired them.
         self._contended = None  # The mutex at which it got Deadlock, once it has released all.
-        self._is_begun = self._is_over = False
+        self._future = None  # That of the wait that is under way.
+        self._its_end = _ending(functools.partial(self._locks.end))
 
     def _begin_poll(self, waker):
         return self._library.ww_acquire_init_poll(self._at, self._class._at, ctypes.byref(self._seek), waker)
@@ -115,17 +218,21 @@ class TaskContext:
         """Returns what the last poll returned. If this is cancelled, its caller ends the wait, by a poll without a waker."""
         wakes = _Wakes.of(self._library)
         while True:
-            waker, at, future = wakes.begin()
-            code = poll(ctypes.byref(waker))
-            if code != -errno.EINPROGRESS:
-                wakes.end(at)
-                return code
+            waker, at, future = wakes.begin(self._at, self._seek)
+            code, self._locks.waits, self._future = -errno.EINPROGRESS, True, future
             try:
+                code = poll(ctypes.byref(waker))
+                if code != -errno.EINPROGRESS:
+                    return code
                 await future
-            except BaseException:
-                if at in wakes.futures and self._library.ww_poll_take_back(self._at, seek):
-                    wakes.end(at)
-                raise
+            finally:
+                self._locks.waits, self._future = False, None
+                if wakes.futures.get(at) is future:  # It wasn't woken; another wait may have its address by now.
+                    wakes.end(at, code == -errno.EINPROGRESS and not self._takes_back(wakes, seek))
+
+    def _takes_back(self, wakes, seek):
+        """A forked child takes nothing back: a lock that it needs for that may be one that another thread had as it was made."""
+        return not wakes.event.is_inherited and self._library.ww_poll_take_back(self._at, seek)
 
     async def begin(self):
         """Begins the context; if none is free it waits for one, in turn."""
@@ -136,20 +243,19 @@ class TaskContext:
                 if self._begin_poll(None) == 0:
                     self._library.ww_acquire_fini_checked(self._at)
                 raise
-        self._is_begun = True
+        self._locks.is_begun = True
 
     def end(self):
-        """Releases everything that it holds, and ends."""
-        if self._is_begun and not self._is_over:
-            self._is_over = True
-            self._release_all()
-            self._library.ww_acquire_fini_checked(self._at)
-
-    __del__ = end
+        """Releases everything that it holds, and ends; if another task waits by it, as soon as that one runs."""
+        self._locks.end()
+        if self._locks.is_over and self._locks.waits and not (self._future.done() or self._future.get_loop().is_closed()):
+            self._future.set_exception(_ended())
 
     def _check(self, *mutexes):
-        if not self._is_begun or self._is_over:
-            raise OSError(errno.EINVAL, "the context is of no `async with` block that goes on")
+        if not self._locks.is_begun or self._locks.is_over:
+            raise _ended()
+        if self._locks.waits:
+            raise OSError(errno.EBUSY, "another task waits by this context")
         self._class._check(*mutexes)
 
     async def _lock_one(self, mutex):
@@ -157,17 +263,25 @@ class TaskContext:
             return self._library.ww_mutex_lock_poll(mutex._at, self._at, waker)
 
         if self._library.ww_mutex_trylock(mutex._at, self._at) != 1:
+            self._locks.awaited = mutex._its_end
             try:
                 code = await self._wait(poll, None)
+                if self._locks.is_over:
+                    raise _ended()
             except BaseException:
                 code = poll(None)
-                if code == 0:
+                # It may have acquired the mutex before, and not come to know.
+                if code == 0 or (code == -errno.EALREADY and mutex not in self):
                     self._library.ww_mutex_unlock_checked(mutex._at)
                 self._is_told(mutex, code)
+                if self._locks.is_over:
+                    self._locks.release_and_end()
                 raise
+            finally:
+                self._locks.awaited = None
             self._is_told(mutex, code)
             told(code)
-        self._held[mutex] = None
+        self._held[mutex._its_end] = mutex._at
 
     def _is_told(self, mutex, code):
         if code == -errno.EDEADLK:
@@ -190,7 +304,8 @@ class TaskContext:
                 acquired.append(mutex)
         except BaseException:
             for mutex in reversed(acquired):
-                self.unlock(mutex)
+                if mutex in self:
+                    self.unlock(mutex)
             raise
 
     async def lock(self, *mutexes):
@@ -211,10 +326,10 @@ class TaskContext:
             except Deadlock:
                 if not held_nothing:
                     raise
-                self._release_all()
+                self._locks.release_all()
             except BaseException:
                 if held_nothing:
-                    self._release_all()
+                    self._locks.release_all()
                 raise
 
     def try_lock(self, mutex):
@@ -222,7 +337,7 @@ class TaskContext:
         self._check(mutex)
         is_acquired = mutex not in self and self._library.ww_mutex_trylock(mutex._at, self._at) == 1
         if is_acquired:
-            self._held[mutex] = None
+            self._held[mutex._its_end] = mutex._at
         return is_acquired
 
     def unlock(self, mutex):
@@ -230,19 +345,15 @@ class TaskContext:
         self._check(mutex)
         if mutex not in self:
             raise OSError(errno.EINVAL, "the context doesn't hold it")
-        told(self._library.ww_mutex_unlock_checked(mutex._at))
-        del self._held[mutex]
-
-    def _release_all(self):
-        while self._held:
-            mutex, _ = self._held.popitem()
-            self._library.ww_mutex_unlock_checked(mutex._at)
+        # In this order: if an interrupt comes between, it isn't released a second time, when another context may hold it.
+        at = self._held.pop(mutex._its_end)
+        told(self._library.ww_mutex_unlock_checked(at))
 
     def unlock_all(self):
         """Releases all. After a Deadlock the next lock call first waits for the mutex at which that came."""
         self._check()
-        self._release_all()
+        self._locks.release_all()
 
     def __contains__(self, mutex):
         """Whether it holds this mutex."""
-        return mutex in self._held
+        return isinstance(mutex, Mutex) and mutex._its_end in self._held

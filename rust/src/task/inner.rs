@@ -13,6 +13,7 @@ use core::ptr;
 use core::sync::atomic::{AtomicBool, Ordering};
 use core::task::{Poll, Waker};
 use std::thread;
+use std::time::Duration;
 
 /// A context. Its `Tx` and its guards may be in several threads, so one of them uses it at a time.
 pub(super) struct Inner {
@@ -141,13 +142,15 @@ impl Inner {
         Entered(self)
     }
 
+    /// Another thread is in the middle of a call, for some instructions, unless it is preempted there. A thread of a higher
+    /// priority may have its processor then, which a yield doesn't give it: so in the end this sleeps.
     #[cold]
     fn await_others(&self) {
         for step in 0u32.. {
-            if step < 64 {
-                hint::spin_loop();
-            } else {
-                thread::yield_now();
+            match step {
+                0..64 => hint::spin_loop(),
+                64..128 => thread::yield_now(),
+                _ => thread::sleep(Duration::from_micros(50)),
             }
             if !self.is_used.swap(true, Ordering::Acquire) {
                 return;
@@ -256,17 +259,25 @@ impl Inside {
         first: Option<i32>,
         later: &mut Later,
     ) -> Poll<Result<(), Error>> {
-        let mut lent = None;
+        let (mut lent, mut waits) = (None, false);
         match mem::take(&mut self.rare().call) {
             Call::Ended(_, Some(told)) => return Poll::Ready(told),
-            Call::Waits(_, old) => match self.take_back(old) {
-                Some(back) if back.will_wake(waker) => lent = Some(Lent::lend(back)),
-                back => later.back = back,
-            },
+            Call::Waits(_, old) => {
+                waits = true;
+                match self.take_back(old) {
+                    Some(back) if back.will_wake(waker) => lent = Some(Lent::lend(back)),
+                    back => later.back = back,
+                }
+            }
             _ if self.is_over() => return Poll::Ready(Err(Error::Deadlock)),
             _ => {}
         }
-        let lent = lent.unwrap_or_else(|| Lent::lend(waker.clone()));
+        let lent = lent.unwrap_or_else(|| {
+            let unarmed = Unarmed { inside: self, number, first, waits };
+            let clone = waker.clone();
+            mem::forget(unarmed);
+            Lent::lend(clone)
+        });
         let (index, raw) = (number.index(), self.raw());
         // SAFETY: the context has begun; what is on its way is this call, or nothing.
         let answer = unsafe {
@@ -326,6 +337,36 @@ impl Inside {
     unsafe fn end(&mut self) {
         // SAFETY: as asked for here.
         unsafe { ffi::ww_acquire_fini(self.raw()) };
+    }
+}
+
+/// A call whose waker is being cloned, by other programs' code. If that panics, this ends the call, of which nobody knows.
+struct Unarmed<'i> {
+    inside: &'i mut Inside,
+    number: Number,
+    /// What its first step returned.
+    first: Option<i32>,
+    /// It is on its way.
+    waits: bool,
+}
+
+impl Drop for Unarmed<'_> {
+    #[cold]
+    fn drop(&mut self) {
+        let (index, raw) = (self.number.index(), self.inside.raw());
+        // SAFETY: the context has begun, and the call is on its way, and ends with this; then it may have acquired the mutex.
+        unsafe {
+            let answer = match self.first {
+                Some(r) => ffi::ww_number_lock_poll_further_(index, raw, ptr::null(), r),
+                None if self.waits => ffi::ww_number_lock_poll(index, raw, ptr::null()),
+                None => return,
+            };
+            match -answer {
+                0 => ffi::unlock(index, raw),
+                ffi::EDEADLK => drop(self.inside.told(self.number, answer)),
+                _ => {}
+            }
+        }
     }
 }
 
