@@ -34,11 +34,11 @@ generated/%.s:
 	@echo 'there is no $@: the proved program is there for x86_64 and aarch64 alone' >&2 && false
 
 # The checksum of the sources of which this program is stands beside it, for ./run and ./test.
-$(PROGRAM): $(ASSEMBLY) c/heap.c c/program.c
+$(PROGRAM): $(ASSEMBLY) c/program.c
 	@mkdir -p $(OUT)
 	@rm -f $@ $@.sources
 	$(CC) -c $(ASSEMBLY) -o $@.o
-	$(CC) $(AS_C) -DWW_RUN $@.o c/heap.c c/program.c $(LDFLAGS) -pthread -o $@
+	$(CC) $(AS_C) $@.o c/program.c $(LDFLAGS) -pthread -o $@
 	@sed -n 's/^ \* sources: //p' $(ASSEMBLY) >$@.sources
 	@tools/is_of_sources $@ || true
 

@@ -1,8 +1,7 @@
 /*
- * program.c - what the proved program, as `make` builds it, has of C besides its heap
- * (heap.c): the error number of a call that failed, and a start at which the heap gets
- * large pages, since a quarter of a run on a long input were the faults of small ones.
- * What the function has to do is written in the toolchain's os.
+ * program.c - what the proved program, as `make` builds it, has of C: the error number of a call that failed; its heap, which is
+ * malloc's; and a start at which that gets large pages, since a quarter of a run on a long input were the faults of small ones.
+ * What the functions have to do is written in the toolchain's os and libc.
  */
 #define _DEFAULT_SOURCE
 #include <errno.h>
@@ -18,6 +17,31 @@
 int rattle_errno(void);
 
 int rattle_errno(void) { return errno; }
+
+/* Whether it was granted, and the block; if it wasn't, an address that isn't null. */
+struct tried {
+	uint64_t ok;
+	void *p;
+};
+
+struct tried rattle_alloc(size_t size, size_t align);
+struct tried rattle_realloc(void *p, size_t kept, size_t size, size_t align);
+void rattle_dealloc(void *p);
+
+static char none;
+
+static struct tried told(void *p) { return (struct tried){ .ok = p != NULL, .p = p ? p : &none }; }
+
+/* 0 bytes may be asked for, for which malloc may return NULL; and no larger alignment than malloc gives. */
+struct tried rattle_alloc(size_t size, size_t align) { return told(malloc(size ? size : align)); }
+
+struct tried rattle_realloc(void *p, size_t kept, size_t size, size_t align)
+{
+	(void)kept;
+	return told(realloc(p, size ? size : align));
+}
+
+void rattle_dealloc(void *p) { free(p); }
 
 /* If the system has no large pages, or no heap that grows at its end, this has no effect. */
 __attribute__((constructor)) static void begin_heap(void)

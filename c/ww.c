@@ -102,34 +102,65 @@ static void await_guard(struct ww_stay *stay, unsigned *step)
 		(*step)++;
 }
 
-static bool is_due(const struct ww_stop *stop)
+static bool is_due(const struct ww_wait *wait)
 {
-	return (stop->asked && __atomic_load_n(stop->asked, __ATOMIC_SEQ_CST)) || (stop->until && ww_has_come(stop->until));
+	return (wait->asked && __atomic_load_n(wait->asked, __ATOMIC_SEQ_CST)) || (wait->until && ww_has_come(wait->until));
+}
+
+/* The token while the waker that was left last is still to be called. */
+static uint32_t armed(const ww_seat *s) { return ARMED | s->armed << 2; }
+
+/*
+ * From now on whoever wakes the seat calls this waker; false if the seat was woken before, whose token is then gone.
+ * Relaxed: a thread that reads the waker finds this token before and after that.  A driver's move `parks`, or else `rises`.
+ */
+static bool arm(ww_seat *s, const struct ww_waker *waker)
+{
+	uint32_t was = NOTHING;
+
+	__atomic_store_n(&s->waker.wake, waker->wake, __ATOMIC_RELAXED);
+	__atomic_store_n(&s->waker.loop, waker->loop, __ATOMIC_RELAXED);
+	__atomic_store_n(&s->waker.task, waker->task, __ATOMIC_RELAXED);
+	s->armed++;
+	if (__atomic_compare_exchange_n(&s->token, &was, armed(s), false, __ATOMIC_SEQ_CST, __ATOMIC_SEQ_CST))
+		return true;
+	__atomic_store_n(&s->token, NOTHING, __ATOMIC_SEQ_CST);
+	return false;
+}
+
+bool ww_disarm(ww_seat *s)
+{
+	uint32_t was = armed(s);
+
+	return __atomic_compare_exchange_n(&s->token, &was, NOTHING, false, __ATOMIC_SEQ_CST, __ATOMIC_SEQ_CST);
+}
+
+/* The waker of a thread that sleeps on its seat's token. The thread may have gone on by then, so only the address is used. */
+static void wake_thread(void *pool, void *token)
+{
+	ww_sleeps_no_more(pool);
+	ww_futex_wake(token);
 }
 
 /*
  * Sleeps until the seat is woken, or until its time has come.  A thread that asks for the wait's end wakes it, too.
- * A token that was given before is kept, so no wake-up is lost.
- * Of a driver's six moves (crates/ww_drives) the first exchange is `parks`, and what leaves NOTHING is `rises`.
+ * A token that was given before is kept, so no wake-up is lost.  What leaves NOTHING is a driver's move `rises`.
  */
-static void park(ww_seat *s, const struct ww_stop *stop)
+static void park(ww_seat *s, const struct ww_wait *wait)
 {
-	uint32_t word = NOTHING;
+	const struct ww_waker thread = { .wake = wake_thread, .loop = s->pool, .task = &s->token };
+	const struct timespec *until = wait->until;
 	bool woken = false;
 
 	for (unsigned step = 0; step < WAKES && __atomic_load_n(&s->token, __ATOMIC_SEQ_CST) != TOKEN; step++)
 		pause_for(1u << step);
 	ww_sleeps(s->pool);
-	if (__atomic_compare_exchange_n(&s->token, &word, ASLEEP, false, __ATOMIC_SEQ_CST, __ATOMIC_SEQ_CST)) {
-		const struct timespec *until = stop && !stop->sent ? stop->until : NULL;
-
-		while (__atomic_load_n(&s->token, __ATOMIC_SEQ_CST) == ASLEEP && !(until && ww_has_come(until)))
-			ww_futex_wait(&s->token, ASLEEP, until);
+	if (arm(s, &thread)) {
+		while (__atomic_load_n(&s->token, __ATOMIC_SEQ_CST) == armed(s) && !(until && ww_has_come(until)))
+			ww_futex_wait(&s->token, armed(s), until);
 		woken = __atomic_exchange_n(&s->token, NOTHING, __ATOMIC_SEQ_CST) == TOKEN;
-	} else {
-		__atomic_store_n(&s->token, NOTHING, __ATOMIC_SEQ_CST);
 	}
-	if (!woken) /* otherwise the thread that woke it has called that */
+	if (!woken) /* otherwise its waker has called that */
 		ww_sleeps_no_more(s->pool);
 }
 
@@ -144,23 +175,15 @@ void ww_unpark(ww_seat *s)
 	struct ww_waker waker = { 0 };
 
 	do {
-		if (UNLIKELY(was >= ARMED)) {
+		if (was >= ARMED) {
 			waker.wake = __atomic_load_n(&s->waker.wake, __ATOMIC_RELAXED);
 			waker.loop = __atomic_load_n(&s->waker.loop, __ATOMIC_RELAXED);
 			waker.task = __atomic_load_n(&s->waker.task, __ATOMIC_RELAXED);
 		}
 	} while (!__atomic_compare_exchange_n(&s->token, &was, TOKEN, false, __ATOMIC_SEQ_CST, __ATOMIC_SEQ_CST));
-	if (was == ASLEEP) {
-		ww_sleeps_no_more(s->pool);
-		ww_futex_wake(&s->token);
-	} else if (UNLIKELY(was >= ARMED)) {
+	if (was >= ARMED)
 		waker.wake(waker.loop, waker.task);
-	}
 }
-
-#ifdef WW_DEBUG
-bool ww_is_parked(const ww_seat *s) { return __atomic_load_n(&s->token, __ATOMIC_SEQ_CST) == ASLEEP; }
-#endif
 
 /* A driver's move `names`, and `wakes` right after it. */
 void ww_wake(ww_seat *s)
@@ -183,23 +206,21 @@ static void rest(struct ww_stay *stay, uint32_t pauses, bool yields)
 	}
 }
 
-void ww_stop_if_due(ww_seat *s, struct ww_stop *stop)
+/* If the end of the wait is due, its next steps end it. The seat isn't inside a guard. */
+static void stop_if_due(ww_seat *s, struct ww_wait *wait)
 {
-	if (!stop || stop->sent || !is_due(stop))
-		return;
-	ww_call_off(s);
-	stop->sent = true;
+	if (is_due(wait))
+		wait->stops = !ww_heed_(&s->handle);
 }
 
 /*
  * After WW_AGAIN the next step comes immediately, and nothing else: the seat may be inside a guard, where it holds up
- * everybody, and cancelling its wait takes a lock for which it might have to wait.  A cancel that comes meanwhile ends the
- * sleep to which these steps lead.
+ * everybody.  A cancel that comes meanwhile ends the sleep to which these steps lead.
  *
  * Whom to wake is asked after these steps, since nobody can be due while a call pauses between them: it spins before it goes
  * inside a guard for the first time, and a seat that is shut out of a guard has learned nothing.
  */
-COLD int ww_go_on_awake(ww_seat *s, struct ww_stop *stop, struct ww_stay *stay)
+COLD int ww_go_on_awake(ww_seat *s, struct ww_wait *wait, struct ww_stay *stay)
 {
 	unsigned step = 0;
 
@@ -221,22 +242,25 @@ COLD int ww_go_on_awake(ww_seat *s, struct ww_stop *stop, struct ww_stay *stay)
 		default:
 			return r;
 		}
-		ww_stop_if_due(s, stop);
+		stop_if_due(s, wait);
 	}
 }
 
-COLD int ww_go_on(ww_seat *s, struct ww_stop *stop)
+/* A poll neither rests nor yields, since the task that has the lock may be one of its own thread. */
+COLD int ww_go_on(ww_seat *s, struct ww_wait *wait, bool sleeps)
 {
-	struct ww_stay stay = { 0 };
-	int r;
+	struct ww_stay stay = { .over = wait->polls };
 
-	for (;;) {
-		ww_stop_if_due(s, stop);
-		r = ww_go_on_awake(s, stop, &stay);
+	for (int r;; sleeps = true) {
+		if (sleeps && !wait->polls)
+			park(s, wait);
+		else if (sleeps && wait->waker && arm(s, wait->waker))
+			return -EINPROGRESS;
+		stop_if_due(s, wait);
+		r = ww_go_on_awake(s, wait, &stay);
 		ww_wake(s);
 		if (r != WW_SLEEPS)
 			return r;
-		park(s, stop);
 	}
 }
 

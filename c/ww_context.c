@@ -39,7 +39,7 @@ COLD static int not_begun(struct ww_acquire_ctx *x, ww_seat *s, int r)
 	no_more(x);
 	x->gives = x->empty_;
 	x->acquired = x->state = 0;
-	x->newest = x->prelocked = NULL;
+	x->newest = NULL;
 	return r;
 }
 
@@ -120,8 +120,8 @@ void ww_acquire_init(struct ww_acquire_ctx *x, struct ww_class *c)
 /* The proved library isn't called: as in the kernel, a lock after this is like any other; the debug library reports it. */
 int ww_acquire_done_checked(struct ww_acquire_ctx *x)
 {
-	if (UNLIKELY(!x->own || x->state & IS_DONE))
-		return -EINVAL;
+	if (UNLIKELY(!x->own || x->state & (IS_DONE | IS_POLLED)))
+		return x->own && is_polled(x) ? -EBUSY : -EINVAL;
 	x->state |= IS_DONE;
 	return 0;
 }
@@ -131,7 +131,7 @@ static const struct ww_class *class_of(const struct ww_acquire_ctx *x) { return 
 void ww_acquire_done(struct ww_acquire_ctx *x)
 {
 	if (UNLIKELY(ww_acquire_done_checked(x)))
-		end_of(class_of(x), "ww_acquire_done", "the context is done, or has ended");
+		end_of(class_of(x), "ww_acquire_done", x->own && is_polled(x) ? WAITS_BY_POLL : "the context is done, or has ended");
 }
 
 int ww_acquire_fini_checked(struct ww_acquire_ctx *x)
@@ -151,8 +151,8 @@ int ww_acquire_fini_checked(struct ww_acquire_ctx *x)
 COLD static void fini_else(struct ww_acquire_ctx *x)
 {
 	if (ww_acquire_fini_checked(x))
-		end_of(class_of(x), "ww_acquire_fini", !x->own ? "the context has ended" : x->acquired ? "the context still holds a mutex" :
-			told_at_begin(-ENOSPC));
+		end_of(class_of(x), "ww_acquire_fini", !x->own ? "the context has ended" : is_polled(x) ? WAITS_BY_POLL :
+			x->acquired ? "the context still holds a mutex" : told_at_begin(-ENOSPC));
 }
 
 void ww_acquire_fini(struct ww_acquire_ctx *x)

@@ -7,13 +7,14 @@
  *
  * If contexts seldom collide, they do no harm, however many sleep, and permits only hold them up.  So a crowd ends after a while.
  * After it, sleeping threads make the next one only if contexts often back off too; that one lasts longer.  If contexts seldom
- * back off, it takes longer until sleeping threads alone make one again.  As a crowd ends, each thread that goes on wakes two
- * others; so if contexts do harm, few have begun by then.
+ * back off, it takes longer until sleeping threads alone make one again.
  *
  * A permit ends after LEASE, whatever its thread does.  Until then its thread begins as many contexts as it likes, since each
- * change costs a wake-up.  The first thread in the queue takes a permit that has ended, or sleeps until the next one ends; then
- * the next thread is the first.  So no wait is endless, whatever the threads do that have permits.  All of this is a hint: no
- * lock asks who has a permit, so coming without one, or too late, costs only time.
+ * change costs a wake-up.  A thread that comes is promised the permit that ends first, from then on, and sleeps until that time.
+ * So they get permits in the order in which they came, and no wait is endless, whatever the threads do that have permits; also
+ * those who wait as a crowd ends still come in turn, so if contexts do harm, not all begin at once.  Nobody has to be woken: the
+ * thread whose permit has ended wakes the next one only because a timer may be late.  All of this is a hint: no lock asks who
+ * has a permit, so coming without one, or too late, costs only time.
  *
  * If permits end after few contexts, though their threads waited for no lock, then contexts take long, or threads do other
  * things between them, and permits leave processors idle.  So all threads go on, and for a while there is no crowd.
@@ -22,6 +23,7 @@
 #include "ww_pool.h"
 #include <sched.h>
 #include <string.h>
+#include <unistd.h>
 
 /* How long a permit lasts, in nanoseconds, as all times here; and with fewer contexts than FEW it ends after few. */
 enum { LEASE = 200000, FEW = 4 };
@@ -30,27 +32,27 @@ enum { OFTEN = 8, WINDOW = 2500000 };
 /* Bounds for how long a crowd lasts, and for how long after it sleeping threads alone make none. */
 enum { LEAST = 10000000, MOST = 1280000000 };
 
-/* On the stack of a thread that waits for a permit; under the lock of the crowd. */
-struct ww_permit_seeker {
-	struct ww_permit_seeker *next;
-	uint32_t calls; /* it sleeps on this: not 0 once it is the first, and one more each time that it is called to look */
-	bool is_out;	/* it was taken out of the queue, and needs no permit any more */
-};
+/* A time in nanoseconds. NULL, and what is centuries away, is never. */
+static uint64_t nanoseconds(const struct timespec *at)
+{
+	return at && at->tv_sec < (time_t)1 << 33 ? (uint64_t)at->tv_sec * 1000000000 + (uint64_t)at->tv_nsec : UINT64_MAX;
+}
 
 static uint64_t now_is(void)
 {
 	struct timespec now;
 
 	clock_gettime(CLOCK_MONOTONIC, &now);
-	return (uint64_t)now.tv_sec * 1000000000 + (uint64_t)now.tv_nsec;
+	return nanoseconds(&now);
 }
 
+/* The set has room for as many as a kernel has; where that doesn't say which of them this thread may use, all that run count. */
 uint32_t ww_processors(void)
 {
-	cpu_set_t set;
-	int count = sched_getaffinity(0, sizeof set, &set) ? 1 : CPU_COUNT(&set);
+	cpu_set_t set[8192 / CPU_SETSIZE];
+	long count = sched_getaffinity(0, sizeof set, set) ? sysconf(_SC_NPROCESSORS_ONLN) : CPU_COUNT_S(sizeof set, set);
 
-	return count < MANY_PERMITS ? (uint32_t)count : MANY_PERMITS;
+	return count < 1 ? 1 : count < MANY_PERMITS ? (uint32_t)count : MANY_PERMITS;
 }
 
 /* Nobody uses the class yet. `asleep` stays: a thread that woke one, of a class before in this memory, may have yet to count it. */
@@ -171,127 +173,61 @@ static uint32_t next_permit(const struct ww_crowd *crowd)
 	return next;
 }
 
-/* The crowd is locked. */
-static void begin_permit(struct ww_crowd *crowd, uint32_t k, uint64_t now)
+/*
+ * Promises this thread the permit that ends first, and returns when that begins.  If that is too late for it, it is promised none,
+ * and waits until its time: nobody leaves before a permit that was promised, so none is promised in vain.  The crowd is locked.
+ */
+static uint64_t promise(struct ww_crowd *crowd, uint64_t now, uint64_t until)
 {
-	crowd->ends[k] = ww_mine.permit.ends = now + LEASE;
+	uint32_t k = next_permit(crowd);
+	uint64_t begins = crowd->ends[k] > now ? crowd->ends[k] : now;
+
+	ww_mine.permit.place = k;
+	if (begins >= until)
+		return until;
+	crowd->ends[k] = ww_mine.permit.ends = begins + LEASE;
 	ww_mine.permit.contexts = 1;
 	ww_mine.permit.had_waited = ww_mine.permit.waits;
+	return begins;
 }
 
-/* Enters the queue, until `leave`. The crowd is locked. */
-static void join(struct ww_crowd *crowd, struct ww_permit_seeker *me)
+/* Sleeps until its permit begins, or its time.  If it comes late, others come sooner than its permit ends, which lasts no less. */
+static void await_permit(struct ww_crowd *crowd, uint64_t begins)
 {
-	me->calls = !crowd->first;
-	*(crowd->first ? &crowd->last->next : &crowd->first) = me;
-	crowd->last = me;
+	const struct timespec at = { .tv_sec = (time_t)(begins / 1000000000), .tv_nsec = (long)(begins % 1000000000) };
+
+	while (!ww_has_come(&at))
+		ww_futex_wait(&crowd->turns[ww_mine.permit.place], 0, &at);
+	if (ww_mine.permit.ends)
+		ww_mine.permit.ends = now_is() + LEASE;
+	__atomic_sub_fetch(&crowd->waiting, 1, __ATOMIC_RELAXED);
 }
 
-/* Wakes the first thread in the queue, if there is one, to look for a permit. The crowd is locked. */
-static void call_first(struct ww_crowd *crowd)
-{
-	if (!crowd->first)
-		return;
-	__atomic_store_n(&crowd->first->calls, crowd->first->calls + 1, __ATOMIC_RELAXED);
-	ww_futex_wake(&crowd->first->calls);
-}
-
-/* The crowd is locked. */
-static void take_out(struct ww_crowd *crowd, struct ww_permit_seeker *it)
-{
-	struct ww_permit_seeker **at = &crowd->first, *before = NULL;
-
-	while (*at != it) {
-		before = *at;
-		at = &before->next;
-	}
-	*at = it->next;
-	if (crowd->last == it)
-		crowd->last = before;
-	it->is_out = true;
-}
-
-/* The crowd is locked. */
-static void leave(struct ww_pool *p, struct ww_permit_seeker *me)
-{
-	struct ww_crowd *crowd = &p->crowd;
-
-	if (!me->is_out)
-		take_out(crowd, me);
-	if (crowd->first && !is_crowded(p)) {
-		call_first(crowd);
-		take_out(crowd, crowd->first);
-	}
-	call_first(crowd);
-}
-
-static bool is_earlier(const struct timespec *a, const struct timespec *b)
-{
-	return a->tv_sec != b->tv_sec ? a->tv_sec < b->tv_sec : a->tv_nsec < b->tv_nsec;
-}
-
-/* Waits for a permit, until its time has come, or nobody needs one any more. The crowd is locked, except while it sleeps. */
-static void await_permit(struct ww_pool *p, struct ww_permit_seeker *me, uint64_t now, const struct timespec *until)
-{
-	struct ww_crowd *crowd = &p->crowd;
-	bool slept = false;
-
-	for (;;) {
-		uint32_t calls = me->calls, k = next_permit(crowd);
-		uint64_t at = crowd->ends[k];
-		struct timespec ends = { .tv_sec = (time_t)(at / 1000000000), .tv_nsec = (long)(at % 1000000000) };
-
-		if (calls && at <= now) {
-			begin_permit(crowd, k, now);
-			return;
-		}
-		if (me->is_out || (calls && !is_crowded(p)) || (until && ww_has_come(until)))
-			return;
-		if (!slept) {
-			count(&crowd->awaited);
-			DTRACE_PROBE1(ww, permit_wait, p->class_);
-		}
-		slept = true;
-		pthread_mutex_unlock(&crowd->lock);
-		ww_futex_wait(&me->calls, calls, calls && !(until && is_earlier(until, &ends)) ? &ends : until);
-		pthread_mutex_lock(&crowd->lock);
-		now = now_is();
-	}
-}
-
-/* This thread's last permit has ended, so the thread that has waited longest may take it, before this one gets another. */
+/* This thread's last permit has ended, and the thread that was promised it next comes before this one gets another. */
 COLD static void find_permit(struct ww_pool *p, uint64_t now, const struct timespec *until)
 {
 	struct ww_crowd *crowd = &p->crowd;
-	struct ww_permit_seeker me = { 0 };
+	uint64_t begins = now;
 
 	pthread_mutex_lock(&crowd->lock);
 	if (ww_mine.permit.id == p->id && ww_mine.permit.ends) {
 		judge(p, now);
-		call_first(crowd);
+		ww_futex_wake(&crowd->turns[ww_mine.permit.place]);
 	}
 	ww_mine.permit.id = p->id;
 	ww_mine.permit.ends = 0;
 	if (now > crowd->over && !may_harm(crowd) && is_crowded(p))
 		disperse(p, now + crowd->off);
-	if (is_crowded(p)) {
-		join(crowd, &me);
-		await_permit(p, &me, now, until);
-		leave(p, &me);
+	if (is_crowded(p))
+		begins = promise(crowd, now, nanoseconds(until));
+	if (begins > now) {
+		count(&crowd->awaited);
+		__atomic_add_fetch(&crowd->waiting, 1, __ATOMIC_RELAXED);
+		DTRACE_PROBE1(ww, permit_wait, p->class_);
 	}
 	pthread_mutex_unlock(&crowd->lock);
-}
-
-uint32_t ww_permit_seekers(struct ww_pool *p)
-{
-	struct ww_crowd *crowd = &p->crowd;
-	uint32_t count = 0;
-
-	pthread_mutex_lock(&crowd->lock);
-	for (const struct ww_permit_seeker *it = crowd->first; it; it = it->next)
-		count++;
-	pthread_mutex_unlock(&crowd->lock);
-	return count;
+	if (begins > now)
+		await_permit(crowd, begins);
 }
 
 /* Whether this thread already uses the seat of the class that it keeps: then others may wait for what it holds. */
@@ -299,7 +235,7 @@ static bool has_another(const struct ww_pool *p)
 {
 	for (uint32_t k = 0; k < KEPT; k++)
 		if (ww_mine.seats[k].id == p->id)
-			return __atomic_load_n(&ww_mine.seats[k].seat->busy, __ATOMIC_RELAXED);
+			return __atomic_load_n(&ww_mine.seats[k].seat->busy, __ATOMIC_RELAXED) & BUSY;
 	return false;
 }
 

@@ -376,11 +376,11 @@ static struct timespec in_milliseconds(unsigned count)
 	return (struct timespec){ at.tv_sec + (time_t)(of_second / 1000000000), (long)(of_second % 1000000000) };
 }
 
-void ww_debug_waits(ww_seat *s, const struct ww_mutex *m, const struct timespec *until)
+void ww_debug_waits(ww_seat *s, const struct ww_mutex *m, const struct ww_wait *wait)
 {
 	struct watch *it = watch_of(s);
 
-	mine.seat = m && !until ? s : NULL;
+	mine.seat = m && !wait->until && !wait->polls ? s : NULL;
 	mine.seen = 0;
 	if (m) {
 		mine.looks = in_milliseconds(__atomic_load_n(&check_interval, __ATOMIC_RELAXED));
@@ -388,14 +388,12 @@ void ww_debug_waits(ww_seat *s, const struct ww_mutex *m, const struct timespec 
 		use(it);
 		set_place(&it->waits);
 		__atomic_store_n(&it->tid, syscall(SYS_gettid), __ATOMIC_RELAXED);
-		__atomic_store_n(&it->endless, until ? 0 : __atomic_add_fetch(&endless_waits, 1, __ATOMIC_RELAXED), __ATOMIC_RELAXED);
+		__atomic_store_n(&it->endless, wait->until ? 0 : __atomic_add_fetch(&endless_waits, 1, __ATOMIC_RELAXED), __ATOMIC_RELAXED);
 	}
 	__atomic_store_n(&it->wants, m ? m->number + 1 : 0, __ATOMIC_RELAXED);
 	if (!m)
 		unuse_if_free(it);
 }
-
-void ww_debug_rests(void) { mine.seat = NULL; }
 
 void ww_debug_seeks(const struct ww_pool *p, const struct timespec *until)
 {
@@ -421,6 +419,12 @@ static const ww_seat *next_wait(const struct ww_pool *of, const ww_seat *s)
 	return holder ? seat_with(of, true, holder, A_WAIT) : NULL;
 }
 
+/* Whether its thread sleeps, and nobody has woken it. */
+static bool is_parked(const ww_seat *s)
+{
+	return __atomic_load_n(&s->token, __ATOMIC_SEQ_CST) >= ARMED && !__atomic_load_n(&watch_of(s)->is_polled, __ATOMIC_RELAXED);
+}
+
 /*
  * Follows this wait to that of the thread that holds the mutex, and so on.  If this comes back to the first wait, and each of
  * the threads sleeps without a time, it returns a number that identifies these waits, and how many there are; otherwise 0.
@@ -435,7 +439,7 @@ static uint64_t deadlock(const struct ww_pool *of, unsigned *count)
 
 	for (*count = 1; s; ++*count) {
 		number = __atomic_load_n(&watch_of(s)->endless, __ATOMIC_RELAXED);
-		if (!number || (s != mine.seat && !ww_is_parked(s)))
+		if (!number || (s != mine.seat && !is_parked(s)))
 			return 0;
 		number *= MIX;
 		these += (number ^ number >> 29) * MIX; /* so that no other waits have that sum */
@@ -501,6 +505,11 @@ static void look_for_long_wait(void)
 		     LONG / 1000, number);
 }
 
+static bool is_earlier(const struct timespec *a, const struct timespec *b)
+{
+	return a->tv_sec != b->tv_sec ? a->tv_sec < b->tv_sec : a->tv_nsec < b->tv_nsec;
+}
+
 const struct timespec *ww_debug_sleeps(const struct timespec *until)
 {
 	unsigned most = __atomic_load_n(&check_interval, __ATOMIC_RELAXED);
@@ -512,7 +521,7 @@ const struct timespec *ww_debug_sleeps(const struct timespec *until)
 		look_for_long_wait();
 		mine.looks = in_milliseconds(most);
 	}
-	return &mine.looks;
+	return until && is_earlier(until, &mine.looks) ? until : &mine.looks;
 }
 
 static bool is_used(const struct watch *s)
@@ -520,7 +529,7 @@ static bool is_used(const struct watch *s)
 	return __atomic_load_n(&s->thread, __ATOMIC_RELAXED) || __atomic_load_n(&s->stamp, __ATOMIC_RELAXED);
 }
 
-void ww_debug_leak(const struct ww_loose *of, const char *why)
+void ww_debug_leak(const struct ww_seats *of, const char *why)
 {
 	const struct watch *first = NULL;
 
@@ -565,9 +574,9 @@ char *ww_debug_seen(struct ww_pool *p)
 		return NULL;
 	fprintf(to, "class \"%s\": %u of %u mutexes and %u of %u contexts in use, waits for a context: %u", name_of(p), taken_numbers(p),
 		p->mutexes, used_seats(p), seats_of(p),
-		__atomic_load_n(&p->loose.seekers, __ATOMIC_RELAXED) + __atomic_load_n(&p->tasks.seekers, __ATOMIC_RELAXED));
+		__atomic_load_n(&p->threads.seekers, __ATOMIC_RELAXED) + __atomic_load_n(&p->tasks.seekers, __ATOMIC_RELAXED));
 	if (is_crowded(p))
-		fprintf(to, "; a crowd, permits: %u, waits for one: %u", p->crowd.permits, ww_permit_seekers(p));
+		fprintf(to, "; a crowd, permits: %u, waits for one: %u", p->crowd.permits, permit_seekers(p));
 	for (uint32_t k = 0; k < seats_of(p); k++)
 		if (is_used(&p->debug->seats[k]))
 			print_seat(&p->debug->seats[k], k, to);

@@ -9,14 +9,12 @@ WW_HIDDEN void ww_debug_ended(struct ww_acquire_ctx *x);
 WW_HIDDEN void ww_debug_polls(bool now);
 /* A task uses the seat. */
 WW_HIDDEN void ww_debug_is_polled(ww_seat *s);
-/* A task waits by the seat that this thread used last, so the thread itself doesn't. */
-WW_HIDDEN void ww_debug_rests(void);
-/* The seat begins to wait for the mutex, until a time if that isn't NULL; or its wait has ended, if the mutex is NULL. */
-WW_HIDDEN void ww_debug_waits(ww_seat *s, const struct ww_mutex *m, const struct timespec *until);
+/* The seat begins to wait for the mutex, and so does this thread, unless it polls; or the wait has ended, if the mutex is NULL. */
+WW_HIDDEN void ww_debug_waits(ww_seat *s, const struct ww_mutex *m, const struct ww_wait *wait);
 /* This thread begins to wait for a seat, likewise. */
 WW_HIDDEN void ww_debug_seeks(const struct ww_pool *p, const struct timespec *until);
 /* Reports, in these words, that none of these seats became free for long, and where the oldest context began. */
-WW_HIDDEN void ww_debug_leak(const struct ww_loose *of, const char *why);
+WW_HIDDEN void ww_debug_leak(const struct ww_seats *of, const char *why);
 /* The mutex is asked for without a context. */
 WW_HIDDEN void ww_debug_alone(const struct ww_mutex *m, const struct timespec *until);
 WW_HIDDEN void ww_debug_acquired(const struct ww_mutex *m, const struct ww_acquire_ctx *x, ww_seat *s);

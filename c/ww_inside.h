@@ -31,25 +31,27 @@ struct ww_pool;
 /* A seat has two cache lines of its own, the second for its counts. It begins with its handle, as ww_mutex.h assumes. */
 typedef struct ww_seat {
 	ww_handle handle;
-	uint32_t token;		/* one futex word: nothing, a token, its thread sleeps, or its waker is to be called */
+	uint32_t token;		/* one futex word: nothing, a token, or its waker is to be called */
 	uint32_t busy;		/* see ww_pool.c */
 	struct ww_pool *pool;	/* the class that has it */
-	struct ww_loose *of;	/* the loose seats to which it belongs; NULL if it is a kept one */
+	struct ww_seats *of;	/* the seats among which it is */
 	uint64_t keeper;	/* the number of the thread that keeps it, or NO_THREAD */
 	uint64_t user;		/* the number of the thread that last locked by it without a context */
-	struct ww_seat *next;	/* another seat that no thread keeps */
 	uint64_t waits __attribute__((aligned(64))), back_offs; /* of its users, in all */
-	struct ww_waker waker;	/* of a wait without a thread; below, how many such waits there were */
+	struct ww_waker waker;	/* of its wait; below, how many waits there were */
 	uint32_t armed;
 	uint8_t ages;		/* see SHARE_AGE of ww_pool.h; only its user accesses it */
-	uint8_t place;		/* its index among the seats of tasks */
 } __attribute__((aligned(64))) ww_seat;
 
-/* What may end a wait early: then ww_call_off cancels it by another seat. */
-struct ww_stop {
+/* How a lock call waits. It ends early if its seat comes to heed the cancel of its own that is pending: see ww_may_stop. */
+struct ww_wait {
+	bool slowly;			/* it is the first lock after -EDEADLK */
+	bool heeds;			/* a cancel or a time may end it, */
 	const uint32_t *asked;		/* not 0 once somebody asks for that; or NULL */
 	const struct timespec *until;	/* on the monotonic clock; or NULL */
-	bool sent;
+	bool stops;			/* they do */
+	bool polls;			/* it blocks no thread, but leaves this waker; without one it doesn't wait */
+	const struct ww_waker *waker;
 };
 
 /* How a call yields to other threads: until when it may, whether it has begun to, and whether that time is over. */
@@ -58,25 +60,22 @@ struct ww_stay {
 	bool yielded, over;
 };
 
-/* The values of a seat's token.  From ARMED on, its waker is to be called, and the higher bits are the number of its wait. */
-enum { NOTHING, TOKEN, ASLEEP, ARMED };
+/* The values of a seat's token.  From ARMED on it sleeps: its waker is to be called, and the higher bits are the number of its wait. */
+enum { NOTHING, TOKEN, ARMED };
 
 #define WW_HIDDEN __attribute__((visibility("hidden")))
-/* Of the proved library's heap: the large blocks that a thread took while it opens a world, in this order. */
-enum { MANY_BLOCKS = 8 };
-struct ww_blocks {
-	struct ww_block { char *at; size_t size; } all[MANY_BLOCKS];
-	uint32_t count;
-};
 /* This thread opens a world between these calls.  The second one returns zeros to the system: see heap.c. */
-WW_HIDDEN void ww_heap_opens(struct ww_blocks *its);
+WW_HIDDEN void ww_heap_opens(void);
 WW_HIDDEN void ww_heap_opened(void);
-/* Makes all steps of a call after the first one. */
-WW_HIDDEN int ww_go_on(ww_seat *s, struct ww_stop *stop);
+/*
+ * Makes all steps of a call after the first one.  A poll that would have to sleep leaves its waker, and returns -EINPROGRESS;
+ * then `sleeps` says that it goes on from there, once it was woken.
+ */
+WW_HIDDEN int ww_go_on(ww_seat *s, struct ww_wait *wait, bool sleeps);
 /* The same, but it returns WW_SLEEPS where it would have to sleep. Its caller then asks whom to wake. */
-WW_HIDDEN int ww_go_on_awake(ww_seat *s, struct ww_stop *stop, struct ww_stay *stay);
-/* If the end of the wait is due, asks for it, once. */
-WW_HIDDEN void ww_stop_if_due(ww_seat *s, struct ww_stop *stop);
+WW_HIDDEN int ww_go_on_awake(ww_seat *s, struct ww_wait *wait, struct ww_stay *stay);
+/* The waker that the seat's user left isn't called: false if it was, or is about to be. */
+WW_HIDDEN bool ww_disarm(ww_seat *s);
 /* Wakes the seats that the proved library names. */
 WW_HIDDEN void ww_wake(ww_seat *s);
 /* This thread waits for a lock. */
@@ -86,10 +85,18 @@ WW_HIDDEN void ww_backs_off(struct ww_pool *p);
 /* A thread goes to sleep in a call by a seat of the class; and it is woken, or wakes by itself. */
 WW_HIDDEN void ww_sleeps(struct ww_pool *p);
 WW_HIDDEN void ww_sleeps_no_more(struct ww_pool *p);
-/* Cancels the wait of this seat, by the spare seat. */
-WW_HIDDEN void ww_call_off(ww_seat *victim);
-/* Wakes the seat's thread, calls its waker, or leaves it a token. */
+/*
+ * The seat's own cancel is pending from now on.  So it always is between two calls, while no call heeds it, until ww_heed_ lets a
+ * wait heed it, which that ends.
+ */
+WW_HIDDEN void ww_may_stop(ww_seat *s);
+/* Leaves the seat a token; if it sleeps, its waker is called, which wakes a thread or a task. */
 WW_HIDDEN void ww_unpark(ww_seat *s);
+static inline void call_waker(struct ww_waker waker)
+{
+	if (waker.wake)
+		waker.wake(waker.loop, waker.task);
+}
 /* Sleeps while the word is this, at most until a time of the monotonic clock, if that isn't NULL. */
 WW_HIDDEN void ww_futex_wait(uint32_t *word, uint32_t is, const struct timespec *until);
 WW_HIDDEN void ww_futex_wake(uint32_t *word);
@@ -98,8 +105,6 @@ WW_HIDDEN bool ww_has_come(const struct timespec *until);
 #ifdef WW_DEBUG
 /* Called before this thread sleeps until a time, or NULL: checks its wait, and returns until when it may sleep at most. */
 WW_HIDDEN const struct timespec *ww_debug_sleeps(const struct timespec *until);
-/* Whether its thread sleeps, and nobody has woken it. */
-WW_HIDDEN bool ww_is_parked(const ww_seat *s);
 #else
 static inline const struct timespec *ww_debug_sleeps(const struct timespec *until) { return until; }
 #endif

@@ -33,8 +33,7 @@
  *	EASE, holding nothing: after FIRST a slow lock of it returns 0, having waited for it
  *	any		ww_mutex_lock_all		-EINVAL			as it was
  *
- *
- * HAS_TO_BACK_OFF is TOLD, WAITS_FIRST is FIRST, and `prelocked` what it OWES.  tests/mutex_loop.c tests all of this.
+ * HAS_TO_BACK_OFF is TOLD, WAITS_FIRST is FIRST, and IS_PRELOCKED that it OWES `prelocked`.  tests/mutex_loop.c tests all of this.
  */
 #define _GNU_SOURCE
 #include "ww_pool.h"
@@ -45,19 +44,22 @@
  */
 static void close_or_open(struct ww_acquire_ctx *x)
 {
-	x->pool = is_loop(x) && (x->state & (TRIES | WW_INTERRUPTIBLE) || x->prelocked) ? NO_POOL : x->own->pool;
+	x->pool = is_loop(x) && x->state & (TRIES | IS_PRELOCKED | WW_INTERRUPTIBLE) ? NO_POOL : x->own->pool;
 }
 
-/* Clears and sets bits of its state; it owes this mutex, if that isn't NULL. */
-static void become(struct ww_acquire_ctx *x, unsigned int not, unsigned int now, struct ww_mutex *prelocked)
+/* Clears and sets bits of its state. */
+static void become(struct ww_acquire_ctx *x, unsigned int not, unsigned int now)
 {
 	x->state = (x->state & ~not) | now;
-	x->prelocked = prelocked;
 	close_or_open(x);
 }
 
 void ww_acquire_flags(struct ww_acquire_ctx *x, unsigned int flags)
 {
+	if (is_polled(x)) {
+		ww_debug_fault("ww_acquire_flags", WAITS_BY_POLL);
+		return;
+	}
 	x->state = (x->state & ~(unsigned)FLAGS) | (flags & FLAGS);
 	if (!x->own)
 		return;
@@ -72,7 +74,7 @@ void ww_acquire_flags(struct ww_acquire_ctx *x, unsigned int flags)
 /* Whether the context holds a mutex for which the body hasn't asked yet, since it waited for that after a back-off. */
 static bool owes(const struct ww_acquire_ctx *x)
 {
-	const struct ww_mutex *m = is_loop(x) && x->prelocked ? x->newest : NULL;
+	const struct ww_mutex *m = x->state & IS_PRELOCKED ? x->newest : NULL;
 
 	while (m && m != x->prelocked)
 		m = m->older;
@@ -108,7 +110,6 @@ static inline void release_all(struct ww_acquire_ctx *x)
 		if (UNLIKELY(r) && ww_release_on(x->own, r))
 			end("ww_acquire_unlock_all", "nobody holds the mutex");
 	}
-	x->prelocked = NULL;
 }
 
 /* Outside ww_until_all_locked there is no list of what was acquired, so nothing is released. */
@@ -116,9 +117,9 @@ void ww_acquire_unlock_all(struct ww_acquire_ctx *x)
 {
 	if (LIKELY(is_loop(x))) {
 		release_all(x);
-		/* It doesn't wait for the contended mutex any more, since that may have been destroyed. */
-		if (UNLIKELY(x->state & WAITS_FIRST))
-			become(x, WAITS_FIRST, 0, NULL);
+		/* It doesn't wait for the contended mutex any more, since that may have been destroyed; and it owes none. */
+		if (UNLIKELY(x->state & (WAITS_FIRST | IS_PRELOCKED)))
+			become(x, WAITS_FIRST | IS_PRELOCKED, 0);
 	} else if (x->acquired) {
 		ww_debug_fault("ww_acquire_unlock_all", "outside ww_until_all_locked this call releases nothing");
 	}
@@ -126,48 +127,61 @@ void ww_acquire_unlock_all(struct ww_acquire_ctx *x)
 
 /* ---- its locks ---- */
 
-/* Whether the context has waited for this mutex before the body asked for it, as it does now; then that is the newest now. */
-bool ww_was_prelocked(struct ww_acquire_ctx *x, struct ww_mutex *m)
+static bool owes_it(const struct ww_acquire_ctx *x, const struct ww_mutex *m) { return x->state & IS_PRELOCKED && x->prelocked == m; }
+
+/*
+ * Only here does a lock call succeed without a step by which the proved library took the lock, so that is asked whether the
+ * context has it.  Either the context waited for the mutex before the body asked for it, as it does now: then that is the newest
+ * now, and is owed no more; or the body may ask for it twice.
+ */
+bool ww_has_for(struct ww_acquire_ctx *x, struct ww_mutex *m, bool twice)
 {
-	if (x->prelocked != m)
+	if (!is_loop(x) || ww_has_(&x->own->handle, m->number))
 		return false;
+	if (!owes_it(x, m))
+		return twice;
 	unlist(x, m);
 	enlist(x, m);
-	become(x, 0, 0, NULL);
+	become(x, IS_PRELOCKED, 0);
 	return true;
 }
 
 int ww_looped(struct ww_mutex *m, struct ww_acquire_ctx *x, int r)
 {
 	if (r == 0)
-		become(x, TRIES, 0, x->prelocked == m ? NULL : x->prelocked); /* That one may have been released meanwhile. */
+		become(x, owes_it(x, m) ? TRIES | IS_PRELOCKED : TRIES, 0); /* What was owed may have been released meanwhile. */
 	if (r == -EDEADLK)
-		become(x, 0, HAS_TO_BACK_OFF, x->prelocked);
-	return r == -EALREADY && (ww_was_prelocked(x, m) || x->state & WW_IGNORE_DUPLICATES) ? 0 : r;
+		become(x, 0, HAS_TO_BACK_OFF);
+	return r == -EALREADY && ww_has_for(x, m, x->state & WW_IGNORE_DUPLICATES) ? 0 : r;
 }
 
 /* Before anything else, waits for the mutex at which the context got -EDEADLK. */
-static int wait_first(struct ww_acquire_ctx *x, unsigned int way, const struct timespec *until)
+static int wait_first(struct ww_acquire_ctx *x, struct ww_wait how)
 {
 	struct ww_mutex *m = x->contending_lock;
-	int r = ww_lock_by(m, x, x->own, ww_debug_injected(m, x) ? way : way | SLOWLY, until);
+	int r;
 
-	if (!ww_debug_told(m, x, r, false))
-		become(x, TRIES, 0, m);
+	how.slowly = !ww_debug_injected(m, x);
+	r = ww_lock_by(m, x, x->own, &how);
+	if (!ww_debug_told(m, x, r, false)) {
+		x->prelocked = m;
+		become(x, TRIES, IS_PRELOCKED);
+	}
 	return r;
 }
 
-int ww_lock_in_loop(struct ww_mutex *m, struct ww_acquire_ctx *x, unsigned int way, const struct timespec *until)
+int ww_lock_in_loop(struct ww_mutex *m, struct ww_acquire_ctx *x, const struct ww_wait *of_call)
 {
-	if (x->state & WW_INTERRUPTIBLE)
-		way |= HEEDS;
-	if (x->state & WAITS_FIRST) {
-		int r = wait_first(x, way, until);
+	struct ww_wait how = *of_call;
 
-		if (r || ww_was_prelocked(x, m))
+	how.heeds |= !!(x->state & WW_INTERRUPTIBLE);
+	if (x->state & WAITS_FIRST) {
+		int r = wait_first(x, how);
+
+		if (r || ww_has_for(x, m, false))
 			return r;
 	}
-	return ww_looped(m, x, ww_lock_by(m, x, x->own, way, until));
+	return ww_looped(m, x, ww_lock_by(m, x, x->own, &how));
 }
 
 /* ---- loops ---- */
@@ -175,17 +189,16 @@ int ww_lock_in_loop(struct ww_mutex *m, struct ww_acquire_ctx *x, unsigned int w
 /* From now on a list has what the context acquired, and an unlock takes the mutex out of it. */
 static inline void begin_loop(struct ww_acquire_ctx *x)
 {
-	x->prelocked = NULL;
 	x->empty_[0] = x->empty_[1] = NULL;
 	x->gives = x->empty_;
 }
 
 COLD static void begin_loop_else(struct ww_acquire_ctx *x)
 {
-	if (!x->own || x->acquired)
-		end("ww_until_all_locked", "the context holds a mutex, or has ended");
+	if (!x->own || x->acquired || is_polled(x))
+		end("ww_until_all_locked", x->own && is_polled(x) ? WAITS_BY_POLL : "the context holds a mutex, or has ended");
 	may_be_older(x);
-	become(x, TRIES, 0, NULL);
+	become(x, TRIES | IS_PRELOCKED, 0);
 }
 
 struct ww_acquire_ctx *ww_tries_begin_(struct ww_acquire_ctx *x)
@@ -202,7 +215,7 @@ struct ww_acquire_ctx *ww_tries_begin_(struct ww_acquire_ctx *x)
 COLD static void back_off(struct ww_acquire_ctx *x)
 {
 	release_all(x);
-	become(x, HAS_TO_BACK_OFF, WAITS_FIRST, NULL);
+	become(x, HAS_TO_BACK_OFF | IS_PRELOCKED, WAITS_FIRST);
 }
 
 void ww_back_off_(struct ww_acquire_ctx *x)
@@ -252,7 +265,7 @@ COLD static int lock_all_on(struct ww_acquire_ctx *x, struct ww_mutex *const *lo
 	bool held = held_before(x);
 
 	begin_loop(x);
-	become(x, TRIES, 0, NULL);
+	become(x, TRIES, 0);
 	if (!r)
 		r = lock_each(x, locks, count);
 	while (r == -EDEADLK && !held) {
@@ -262,24 +275,38 @@ COLD static int lock_all_on(struct ww_acquire_ctx *x, struct ww_mutex *const *lo
 	if (r)
 		release_all(x);
 	x->gives = x->own;
-	become(x, TRIES, 0, NULL);
+	become(x, TRIES | IS_PRELOCKED, 0);
 	return r;
+}
+
+static inline void begin_list(struct ww_acquire_ctx *x, struct ww_mutex *const *locks, size_t count)
+{
+	x->newest = NULL;
+	may_be_older(x);
+	if (UNLIKELY(__atomic_load_n(&x->own->pool->is_large, __ATOMIC_RELAXED)))
+		fetch_ahead(x->own, locks, count);
+}
+
+/* With flags, or amid a poll. */
+COLD static int lock_all_else(struct ww_acquire_ctx *x, struct ww_mutex *const *locks, size_t count)
+{
+	if (is_polled(x))
+		return -EBUSY;
+	begin_list(x, locks, count);
+	return lock_all_on(x, locks, count, 0);
 }
 
 int ww_mutex_lock_all(struct ww_acquire_ctx *x, struct ww_mutex *const *locks, size_t count)
 {
 	int r;
 
-	if (UNLIKELY(!x || is_loop(x))) {
+	if (UNLIKELY(!x || !x->own || is_loop(x))) {
 		ww_debug_fault("ww_mutex_lock_all", "the context has ended, or is in or behind ww_until_all_locked");
 		return -EINVAL;
 	}
-	x->newest = NULL;
-	may_be_older(x);
-	if (UNLIKELY(__atomic_load_n(&x->own->pool->is_large, __ATOMIC_RELAXED)))
-		fetch_ahead(x->own, locks, count);
-	if (UNLIKELY(x->state & FLAGS) || ww_debug_lists())
-		return lock_all_on(x, locks, count, 0);
+	if (UNLIKELY(x->state & (FLAGS | IS_POLLED)) || ww_debug_lists())
+		return lock_all_else(x, locks, count);
+	begin_list(x, locks, count);
 	r = lock_each(x, locks, count);
 	return LIKELY(!r) ? 0 : lock_all_on(x, locks, count, r);
 }

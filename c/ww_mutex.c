@@ -62,35 +62,32 @@ bool ww_mutex_is_locked(struct ww_mutex *m) { return holder(m) || seat_of(m); }
  * Makes all steps of a call after the first one.  In a forked child, a call by a seat from before the fork would wait for
  * threads that don't exist; so it makes no step.  That call never ends, and any other by the seat changes nothing: -EBUSY.
  */
-COLD static int go_on(ww_seat *s, struct ww_stop *stop) { return LIKELY(!s->pool->gone) ? ww_go_on(s, stop) : -EBUSY; }
+COLD static int go_on(ww_seat *s, struct ww_wait *wait, bool sleeps)
+{
+	return LIKELY(!s->pool->gone) ? ww_go_on(s, wait, sleeps) : -EBUSY;
+}
 
 /* In a forked child nobody else uses the mutex, so it counts as released. */
 COLD int ww_release_on(ww_seat *s, int r)
 {
 	has_met(s);
 	if (r > 0)
-		r = go_on(s, NULL);
+		r = go_on(s, &(struct ww_wait){ 0 }, false);
 	return is_let_go(s, r) ? 0 : r;
 }
 
 /*
- * Whether the lock of a mutex is free: the spare seat takes it, if it can without waiting,
- * and releases it.  An unlock's last access to the mutex comes before the step that releases
- * its lock; so all former holders are through with it, and what they wrote is seen here.
+ * Whether the lock of a mutex is free, by a look of the spare seat, which no context has: so it can be made even if all contexts
+ * are in use.  An unlock's last access to the mutex comes before the step that releases its lock; so all former holders are
+ * through with it, and what they wrote is seen here.
  */
 bool ww_is_released(struct ww_pool *p, struct ww_mutex *m)
 {
-	ww_seat *s = borrow_spare(p);
-	int32_t woken = -1;
-	bool released = ww_try_(&s->handle, m->number) == 0;
+	bool released;
 
-	if (released && UNLIKELY(ww_unlock_(&s->handle, m->number))) {
-		(void)!ww_go_on_awake(s, NULL, &(struct ww_stay){ 0 });
-		woken = ww_next_wake_(&s->handle); /* a driver's move `names`: the first waiter, and nobody else */
-	}
-	put_spare(p);
-	if (UNLIKELY(woken >= 0)) /* `wakes`: a waker may be called, so nothing is locked now */
-		ww_unpark(&p->seats[woken]);
+	pthread_mutex_lock(&p->spare);
+	released = !ww_is_free_(&p->seats[seats_of(p)].handle, m->number);
+	pthread_mutex_unlock(&p->spare);
 	__tsan_acquire(m);
 	return released;
 }
@@ -101,7 +98,7 @@ bool ww_is_released(struct ww_pool *p, struct ww_mutex *m)
  *	one that waited (lock_on)	one that releases it		one that destroys it
  *	ctx or alone = its own		ctx or alone = NULL		waiters?
  *	waiters--			ww_unlock_, the last access	ctx, alone?
- *									ww_try_, ww_unlock_ (ww_is_released)
+ *									ww_is_free_ (ww_is_released)
  *
  * In a forked child nobody uses the mutex any more, and its number isn't given.
  */
@@ -138,20 +135,11 @@ int ww_mutex_destroy(struct ww_mutex *m)
 
 /* ---- waiting ---- */
 
-void ww_call_off(ww_seat *victim)
-{
-	struct ww_pool *p = victim->pool;
-	ww_seat *s = borrow_spare(p);
+void ww_may_stop(ww_seat *s) { (void)ww_cancel_(&s->handle, (uint16_t)(s - s->pool->seats)); }
 
-	/* If one is pending, that serves as well. This wakes only this thread, which is awake: so its next sleep ends immediately. */
-	(void)ww_cancel_(&s->handle, (uint16_t)(victim - p->seats));
-	ww_wake(s);
-	put_spare(p);
-}
-
-static inline int32_t first_turn(ww_seat *s, uint32_t number, unsigned int way)
+static inline int32_t first_turn(ww_seat *s, uint32_t number, bool slowly)
 {
-	return way & SLOWLY ? ww_lock_slow_(&s->handle, number, way & HEEDS) : ww_lock_(&s->handle, number, way & HEEDS);
+	return slowly ? ww_lock_slow_(&s->handle, number, false) : ww_lock_(&s->handle, number, false);
 }
 
 /* Makes this context the mutex's holder, or the seat, if there is no context. */
@@ -168,18 +156,18 @@ static inline void own(struct ww_mutex *m, struct ww_acquire_ctx *x, ww_seat *s)
 	}
 }
 
-void ww_begin_wait(struct ww_mutex *m, struct ww_acquire_ctx *x, ww_seat *s, const struct timespec *until)
+static void begin_wait(struct ww_mutex *m, struct ww_acquire_ctx *x, ww_seat *s, const struct ww_wait *wait)
 {
-	(void)until; /* without debugging */
+	(void)wait; /* without debugging */
 	count(&s->waits);
 	if (x)
 		has_met(s);
 	DTRACE_PROBE2(ww, contention_begin, m, x);
-	DEBUG(ww_debug_waits(s, m, until));
+	DEBUG(ww_debug_waits(s, m, wait));
 	__atomic_fetch_add(&m->waiters, 1, __ATOMIC_SEQ_CST);
 }
 
-void ww_end_wait(struct ww_mutex *m, struct ww_acquire_ctx *x, ww_seat *s, int r)
+static void end_wait(struct ww_mutex *m, struct ww_acquire_ctx *x, ww_seat *s, int r)
 {
 	(void)x, (void)s, (void)r; /* likewise */
 	DTRACE_PROBE3(ww, contention_end, m, x, r);
@@ -187,7 +175,8 @@ void ww_end_wait(struct ww_mutex *m, struct ww_acquire_ctx *x, ww_seat *s, int r
 	__atomic_fetch_sub(&m->waiters, 1, __ATOMIC_SEQ_CST);
 }
 
-int ww_lock_ends(struct ww_mutex *m, struct ww_acquire_ctx *x, ww_seat *s, int r)
+/* What a lock call returns whose last step returned r. */
+static int lock_ends(struct ww_mutex *m, struct ww_acquire_ctx *x, ww_seat *s, int r)
 {
 	if (r == 0)
 		own(m, x, s);
@@ -202,31 +191,35 @@ int ww_lock_ends(struct ww_mutex *m, struct ww_acquire_ctx *x, ww_seat *s, int r
 	return is_let_go(s, r) ? -EINVAL : r;
 }
 
-/* Makes a lock call from its second step to its end; r is what the first step returned. */
-COLD static int lock_on(struct ww_mutex *m, struct ww_acquire_ctx *x, ww_seat *s, int r, unsigned int way, const struct timespec *until)
+/* Once a poll's waker is left, another thread may use the context. */
+COLD int ww_lock_on(struct ww_mutex *m, struct ww_acquire_ctx *x, ww_seat *s, int r, const struct ww_wait *how)
 {
-	struct ww_stop stop = { .asked = x ? &x->cancelled : NULL, .until = until };
-	bool waits = r > 0;
+	struct ww_wait wait = *how;
+	bool sleeps = r == -EINPROGRESS, waits = sleeps || r > 0;
 
-	if (waits)
-		ww_begin_wait(m, x, s, until);
-	for (;;) {
-		if (r > 0)
-			r = go_on(s, way & HEEDS ? &stop : NULL);
-		if (r != -EINTR || stop.sent)
-			break;
-		/* A cancel that an earlier wait of the seat had left ended this one. */
-		r = first_turn(s, m->number, way);
+	if (x && how->heeds)
+		wait.asked = &x->cancelled;
+	if (r > 0)
+		begin_wait(m, x, s, how);
+	while (sleeps || r > 0) {
+		r = go_on(s, &wait, sleeps);
+		sleeps = false;
+		if (r == -EINTR)
+			ww_may_stop(s);
+		if (r == -EINTR && !wait.stops) /* its caller's first step heeded cancels, as those of earlier versions did */
+			r = first_turn(s, m->number, how->slowly);
 	}
-	r = ww_lock_ends(m, x, s, r);
+	if (r == -EINPROGRESS)
+		return r;
+	r = lock_ends(m, x, s, r);
 	if (waits)
-		ww_end_wait(m, x, s, r);
+		end_wait(m, x, s, r);
 	return r;
 }
 
-int ww_lock_by(struct ww_mutex *m, struct ww_acquire_ctx *x, ww_seat *s, unsigned int way, const struct timespec *until)
+int ww_lock_by(struct ww_mutex *m, struct ww_acquire_ctx *x, ww_seat *s, const struct ww_wait *how)
 {
-	return lock_on(m, x, s, first_turn(s, m->number, way), way, until);
+	return ww_lock_on(m, x, s, first_turn(s, m->number, how->slowly), how);
 }
 
 /* ---- locks by a context ---- */
@@ -287,21 +280,23 @@ int ww_may_lock(const char *call, struct ww_mutex *m, struct ww_acquire_ctx *x)
 	return r;
 }
 
-static int lock(struct ww_mutex *m, struct ww_acquire_ctx *x, unsigned int way, const struct timespec *until)
+static const struct ww_wait stays;
+
+static int lock(struct ww_mutex *m, struct ww_acquire_ctx *x, const struct ww_wait *how)
 {
 	int r = ww_may_lock("ww_mutex_lock", m, x);
 
 	if (r)
 		return r;
-	r = is_loop(x) ? ww_lock_in_loop(m, x, way, until) : ww_lock_by(m, x, x->own, way, until);
+	r = is_loop(x) ? ww_lock_in_loop(m, x, how) : ww_lock_by(m, x, x->own, how);
 	return ww_debug_told(m, x, r, true);
 }
 
-int ww_mutex_lock_else_(struct ww_mutex *m, struct ww_acquire_ctx *x) { return lock(m, x, STAYS, NULL); }
+int ww_mutex_lock_else_(struct ww_mutex *m, struct ww_acquire_ctx *x) { return lock(m, x, &stays); }
 
 int ww_mutex_lock_further_(struct ww_mutex *m, struct ww_acquire_ctx *x, int r)
 {
-	r = lock_on(m, x, x->own, r, STAYS, NULL);
+	r = ww_lock_on(m, x, x->own, r, &stays);
 	return ww_debug_told(m, x, is_loop(x) ? ww_looped(m, x, r) : r, true);
 }
 
@@ -309,21 +304,21 @@ int ww_mutex_lock_further_(struct ww_mutex *m, struct ww_acquire_ctx *x, int r)
  * In a loop this is the wait that the loop would begin with, or isn't due.  The proved library doesn't know of an -EDEADLK
  * that the debug library made up.
  */
-static int lock_slowly(struct ww_mutex *m, struct ww_acquire_ctx *x, unsigned int way, const struct timespec *until)
+static int lock_slowly(struct ww_mutex *m, struct ww_acquire_ctx *x, bool heeds, const struct timespec *until)
 {
 	int r;
 
 	if (!x || !fits(m, x))
 		return -EINVAL;
-	r = ww_lock_by(m, x, x->own, ww_debug_injected(m, x) ? way : way | SLOWLY, until);
+	r = ww_lock_by(m, x, x->own, &(struct ww_wait){ .slowly = !ww_debug_injected(m, x), .heeds = heeds, .until = until });
 	return ww_debug_told(m, x, is_loop(x) ? ww_looped(m, x, r) : r, false);
 }
 
-int ww_mutex_lock_slow_checked(struct ww_mutex *m, struct ww_acquire_ctx *x) { return lock_slowly(m, x, STAYS, NULL); }
+int ww_mutex_lock_slow_checked(struct ww_mutex *m, struct ww_acquire_ctx *x) { return lock_slowly(m, x, false, NULL); }
 
 void ww_mutex_lock_slow(struct ww_mutex *m, struct ww_acquire_ctx *x)
 {
-	if (UNLIKELY(lock_slowly(m, x, STAYS, NULL)))
+	if (UNLIKELY(lock_slowly(m, x, false, NULL)))
 		end_of(ww_class_of(m), "ww_mutex_lock_slow", not_due);
 }
 
@@ -333,7 +328,7 @@ int ww_mutex_lock_slow_until(struct ww_mutex *m, struct ww_acquire_ctx *x, const
 
 	if (!is_time(until))
 		return -EINVAL;
-	r = lock_slowly(m, x, HEEDS, until);
+	r = lock_slowly(m, x, true, until);
 	if (r == -EINVAL)
 		ww_debug_fault("ww_mutex_lock_slow", not_due);
 	return r;
@@ -343,14 +338,14 @@ int ww_mutex_lock_slow_interruptible(struct ww_mutex *m, struct ww_acquire_ctx *
 
 /* ---- locks without one: by a seat of its own, for which it may have to wait ---- */
 
-static inline int lock_by_seat(struct ww_mutex *m, ww_seat *s, unsigned int way, const struct timespec *until)
+static inline int lock_by_seat(struct ww_mutex *m, ww_seat *s, const struct ww_wait *how)
 {
 	int r;
 
 	stop_rest(s);
-	r = first_turn(s, m->number, way);
+	r = first_turn(s, m->number, how->slowly);
 	if (UNLIKELY(r)) {
-		r = lock_on(m, NULL, s, r, way, until);
+		r = ww_lock_on(m, NULL, s, r, how);
 		if (r)
 			give_seat(s);
 		return r;
@@ -360,7 +355,7 @@ static inline int lock_by_seat(struct ww_mutex *m, ww_seat *s, unsigned int way,
 }
 
 /* If no seat is at hand. A thread that waits for a seat counts as a waiter of the mutex, until it holds that. */
-COLD static int lock_by_any(struct ww_mutex *m, unsigned int way, const struct timespec *until)
+COLD static int lock_by_any(struct ww_mutex *m, const struct ww_wait *how)
 {
 	const char *why;
 	ww_seat *s;
@@ -371,30 +366,30 @@ COLD static int lock_by_any(struct ww_mutex *m, unsigned int way, const struct t
 	s = ww_other_seat(m->pool);
 	if (s) {
 		is_user(s);
-		return lock_by_seat(m, s, way, until);
+		return lock_by_seat(m, s, how);
 	}
 	__atomic_fetch_add(&m->waiters, 1, __ATOMIC_SEQ_CST);
-	r = ww_seek_seat(m->pool, until, &s);
+	r = ww_seek_seat(m->pool, how->until, &s);
 	if (!r)
-		r = lock_by_seat(m, s, way, until);
+		r = lock_by_seat(m, s, how);
 	__atomic_fetch_sub(&m->waiters, 1, __ATOMIC_SEQ_CST);
 	return r;
 }
 
-static inline int lock_alone(struct ww_mutex *m, unsigned int way, const struct timespec *until)
+static inline int lock_alone(struct ww_mutex *m, const struct ww_wait *how)
 {
 	struct ww_pool *p = pool_at(m);
 	ww_seat *s;
 
-	DEBUG(ww_debug_alone(m, until));
+	DEBUG(ww_debug_alone(m, how->until));
 	s = LIKELY(p) ? seat_at_hand(p) : NULL;
-	return LIKELY(s) ? lock_by_seat(m, s, way, until) : lock_by_any(m, way, until);
+	return LIKELY(s) ? lock_by_seat(m, s, how) : lock_by_any(m, how);
 }
 
 /* Its callers look at no error, so it ends the program. */
 int ww_mutex_lock_alone_(struct ww_mutex *m)
 {
-	int r = lock_alone(m, STAYS, NULL);
+	int r = lock_alone(m, &stays);
 
 	if (UNLIKELY(r))
 		end_of(ww_class_of(m), "ww_mutex_lock", told_of(m, r));
@@ -408,9 +403,11 @@ int ww_mutex_lock(struct ww_mutex *m, struct ww_acquire_ctx *x)
 
 int ww_mutex_lock_until(struct ww_mutex *m, struct ww_acquire_ctx *x, const struct timespec *until)
 {
+	const struct ww_wait how = { .heeds = true, .until = until };
+
 	if (UNLIKELY(!is_time(until)))
 		return -EINVAL;
-	return x ? lock(m, x, HEEDS, until) : lock_alone(m, HEEDS, until);
+	return x ? lock(m, x, &how) : lock_alone(m, &how);
 }
 
 int ww_mutex_lock_interruptible(struct ww_mutex *m, struct ww_acquire_ctx *x) { return ww_mutex_lock_until(m, x, NULL); }
@@ -442,7 +439,7 @@ static int try_by(struct ww_mutex *m, struct ww_acquire_ctx *x)
 	goes_by_hand(x);
 	r = ww_try_(&x->own->handle, m->number);
 	if (r)
-		return r == -EALREADY && ww_was_prelocked(x, m);
+		return r == -EALREADY && ww_has_for(x, m, false);
 	own(m, x, NULL);
 	(void)ww_debug_told(m, x, 0, false);
 	if (is_loop(x))
@@ -516,6 +513,8 @@ int ww_mutex_unlock_checked(struct ww_mutex *m)
 
 	if (!x)
 		return unlock_alone(m);
+	if (is_polled(x))
+		return -EBUSY;
 	DEBUG(ww_debug_released(m));
 	x->acquired--;
 	__atomic_store_n(&m->ctx, NULL, __ATOMIC_RELAXED);
@@ -524,18 +523,22 @@ int ww_mutex_unlock_checked(struct ww_mutex *m)
 	return unlock_by(m, x);
 }
 
-COLD static void end_unheld(void) { end("ww_mutex_unlock", "nobody holds the mutex"); }
+COLD static void end_unheld(int r) { end("ww_mutex_unlock", r == -EBUSY ? WAITS_BY_POLL : "nobody holds the mutex"); }
 
 void ww_mutex_unlock(struct ww_mutex *m)
 {
-	if (UNLIKELY(ww_mutex_unlock_checked(m)))
-		end_unheld();
+	int r = ww_mutex_unlock_checked(m);
+
+	if (UNLIKELY(r))
+		end_unheld(r);
 }
 
 void ww_mutex_unlock_else_(struct ww_mutex *m)
 {
-	if (UNLIKELY(unlock_alone(m)))
-		end_unheld();
+	int r = unlock_alone(m);
+
+	if (UNLIKELY(r))
+		end_unheld(r);
 }
 
 /* In a loop the first step did nothing, so the mutex is still held. */
@@ -548,7 +551,7 @@ void ww_mutex_unlock_further_(struct ww_mutex *m, struct ww_acquire_ctx *x, int 
 		r = ww_release_on(x->own, r);
 	}
 	if (UNLIKELY(r))
-		end_unheld();
+		end_unheld(r);
 }
 
 bool ww_is_contended(const struct ww_acquire_ctx *x) { return x->state & HAS_TO_BACK_OFF; }

@@ -70,12 +70,14 @@
  * contexts (-EINVAL) until ww_class_free has released it there, and a mutex that had its
  * number can't be locked until it is destroyed and initialized again.  A context from before
  * the fork may release what it holds, and end.  Once one of its lock calls would have to
- * wait, that call and all later ones return -EINVAL.
+ * wait, that call and all later ones return -EINVAL.  A program's own handlers of
+ * pthread_atfork may lock mutexes.
  *
  * Several copies.  Each copy of the library, such as a plugin that is linked with the archive
  * has, has classes of its own: the program ends with a message where a copy uses a class that
- * another one opened.  Each loaded copy of the shared library takes 224 bytes of static
- * thread-local storage: a process can load about seven.
+ * another one opened, also before it was closed and loaded again.  Each loaded copy of the
+ * shared library takes 232 bytes of static thread-local storage: a process can load about
+ * seven.
  *
  * The lock protocol underneath is formally verified; the code of this interface is tested.
  */
@@ -130,9 +132,9 @@ struct ww_mutex {
 	};
 	struct ww_pool *pool;		/* NULL: it has no number */
 	__extension__ union {
-		struct ww_class *class_; /* without a number; NULL: it isn't initialized */
-		struct ww_mutex *older;	/* what its context acquired before it, if that is listed */
-		void *alone;		/* the address of the seat by which it is held without a context, plus one: so it is odd */
+		struct ww_class *class_; /* `pool` is NULL: its class; NULL: it isn't initialized */
+		void *alone;		/* odd: the address of the seat by which it is held without a context, plus one */
+		struct ww_mutex *older;	/* else: what its context acquired before it, if that is listed */
 	};
 	uint32_t number;
 	uint32_t waiters;
@@ -146,9 +148,9 @@ struct ww_acquire_ctx {
 	unsigned int state;		/* with its flags */
 	struct ww_mutex *contending_lock; /* at which the last -EDEADLK came */
 	struct ww_mutex *newest;	/* what it acquired last, if that is listed; otherwise any mutex, or NULL */
-	__extension__ union {
-		struct ww_mutex *prelocked; /* in a loop, and after it */
-		struct ww_mutex *polled; /* by a call of ww_poll.h that waits */
+	__extension__ union {		/* `state` says which one it is, or none: */
+		struct ww_mutex *prelocked; /* IS_PRELOCKED: acquired before the body of a loop asked for it */
+		struct ww_mutex *polled; /* IS_POLLED: for which a call of ww_poll.h waits */
 	};
 	unsigned int cancelled;
 	unsigned int deadlock_inject_interval, deadlock_inject_countdown; /* of the debug library */
@@ -261,18 +263,18 @@ void ww_class_init(struct ww_class *ww_class, int is_wait_die, const char *name)
 /*
  * Sets how many mutexes and contexts there may be at a time, before the first use of the
  * class, which allocates memory for as many: 52 MiB for a million mutexes.  0: 65,536
- * mutexes; and 1,024 contexts for any thread, and another one for each of 256 threads, which
- * costs less to begin and end.
+ * mutexes; and 1,280 contexts, of which up to 256 threads keep one each, which costs less to
+ * begin and end.
  * -EINVAL: more than 16,777,216, or than 4,094 contexts; -EBUSY: the class is open.
  */
 WW_MUST_CHECK int ww_class_limit(struct ww_class *ww_class, uint32_t mutexes, uint32_t contexts);
 /*
  * Sets the permits of a crowd.  A crowd begins when at least twice as many threads sleep for mutexes of the class as it has
  * permits.  Then only threads with a permit begin contexts; the others wait in ww_acquire_init, in the order in which they
- * came.  A permit lasts 0.2 ms, so no wait for one is endless.  A crowd ends after 10 ms.  If contexts often back off, as many
- * sleepers begin the next one immediately, which lasts longer, up to 1.28 s; else only after a while.  0: as many permits as
- * the thread that opens the class may use processors, at most 64.  -EINVAL: more than 64, except WW_NO_CROWD, with which no
- * thread waits for one; -EBUSY: the class is open.
+ * came.  A permit lasts 0.2 ms, so no wait for one is endless.  A crowd ends after 10 ms, once fewer threads sleep; those that
+ * wait keep their turns.  If contexts often back off, as many sleepers begin the next one immediately, which lasts longer, up to
+ * 1.28 s; else only after a while.  0: as many permits as the thread that opens the class may use processors, at most 64.  -EINVAL: more than 64,
+ * except WW_NO_CROWD, with which no thread waits for one; -EBUSY: the class is open.
  */
 #define WW_NO_CROWD UINT32_MAX
 WW_MUST_CHECK int ww_class_crowd(struct ww_class *ww_class, uint32_t permits);

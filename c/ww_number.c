@@ -153,12 +153,17 @@ bool ww_number_is_held(uint32_t number, const struct ww_acquire_ctx *x)
 int ww_number_unlock(uint32_t number, struct ww_acquire_ctx *x)
 {
 	struct ww_mutex *m = ww_number_asked("ww_number_unlock", number, x, 0);
-	int r = m ? ww_has_(&x->own->handle, number) : 0;
+	int r;
 
-	if (r && !is_let_go(x->own, r))
-		ww_debug_fault("ww_number_unlock", "the context doesn't hold the mutex");
-	if (!m || (r && !is_let_go(x->own, r)))
+	if (!m)
 		return -EINVAL;
+	if (is_polled(x))
+		return -EBUSY;
+	r = ww_has_(&x->own->handle, number);
+	if (r && !is_let_go(x->own, r)) {
+		ww_debug_fault("ww_number_unlock", "the context doesn't hold the mutex");
+		return -EINVAL;
+	}
 	__atomic_store_n(&m->ctx, x, __ATOMIC_RELAXED);
 	return ww_mutex_unlock_checked(m);
 }
@@ -176,6 +181,8 @@ void ww_number_unlock_all(struct ww_acquire_ctx *x)
 {
 	ww_seat *s = x->own;
 
+	if (s && is_polled(x))
+		end_of(s->pool->class_, "ww_number_unlock_all", WAITS_BY_POLL);
 	if (s && is_loop(x)) {
 		ww_acquire_unlock_all(x);
 		return;

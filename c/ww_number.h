@@ -44,7 +44,7 @@ int ww_number_unlock(uint32_t number, struct ww_acquire_ctx *ctx);
 void ww_number_unlock_all(struct ww_acquire_ctx *ctx);
 /* Whether the context holds it. */
 bool ww_number_is_held(uint32_t number, const struct ww_acquire_ctx *ctx);
-/* Whether anybody does. It tries the mutex: while it does, a free mutex is taken, so that a trylock may fail. */
+/* Whether anybody holds it, or waits for it: that may be out of date when it returns. */
 bool ww_number_is_locked(uint32_t number, struct ww_class *ww_class);
 
 /*
@@ -87,10 +87,10 @@ WW_INLINE_ int ww_number_lock(uint32_t number, struct ww_acquire_ctx *ctx)
 
 WW_INLINE_ int ww_number_trylock(uint32_t number, struct ww_acquire_ctx *ctx)
 {
-	if (__builtin_expect(ctx->own != ctx->gives, 0))
-		return ww_number_trylock_else_(number, ctx);
-	if (ww_only_of_try_(ctx->gives, number))
-		return 0;
+	int r = __builtin_expect(!ctx->own, 0) ? -EINVAL : ww_only_of_try_(ctx->gives, number);
+
+	if (__builtin_expect(r != 0, 0))
+		return r == -EINVAL ? ww_number_trylock_else_(number, ctx) : 0;
 	ctx->acquired++;
 	return 1;
 }

@@ -7,10 +7,11 @@
  *
  * What a waker may do, and when it is called:
  *
- *	by whom		any thread: one that releases the mutex, ends a context, backs off, or cancels
+ *	by whom		any thread, in a call that locks or releases a mutex, begins or ends a context or a wait, or cancels
  *	when		as soon as the poll begins, also before it has returned; so a caller that got -EINPROGRESS accesses neither
  *			the context nor the task any more, unless it knows that no other thread goes on with it
- *	how often	at most once for each -EINPROGRESS; never for one that another poll or ww_poll_take_back (true) followed
+ *	how often	at most once for each -EINPROGRESS; maybe late, behind a poll that returned something else: only a
+ *			ww_poll_take_back that returned true excludes it, so the task stays until the one or the other
  *	with what	no lock of this library held, so it may use other contexts and mutexes
  *	what for	it makes a loop run the task, and doesn't block.  A poll without need does no harm: it waits again
  *	not		it may call nothing by the context that waits, nor by the one whose unlock or end calls it
@@ -37,7 +38,7 @@ struct ww_waker {
 /* One wait for a context: { 0 } before, and the library's while polls return -EINPROGRESS; it doesn't move then. */
 struct ww_seek {
 	struct ww_seek *next_;
-	struct ww_loose *of_;
+	struct ww_seats *of_;
 	struct ww_seat *seat_;
 	struct ww_waker waker_;
 	uint32_t served_;
@@ -46,9 +47,10 @@ struct ww_seek {
 /*
  * Begins a context, as ww_acquire_init_checked, but waits for one.  Tasks have contexts of their own, two for each processor
  * but at most 64, besides those of threads.  When one ends, the task that has waited longest is called, but others may begin
- * first: if the called one finds none free then, the next one that ends is its own.  If ww_class_limit set how many contexts the
- * class has, tasks and threads share these, and wait in one queue, in which nobody is passed.  Without a waker (NULL) it ends
- * the wait, or doesn't wait, and then seek may be NULL: it returns 0 if a context was begun, else -ETIMEDOUT.
+ * first: if the called one finds none free then, the next one that ends is its own, and nobody begins meanwhile.  If
+ * ww_class_limit set how many contexts the class has, tasks and threads share these, and wait in one queue, in which nobody is
+ * passed.  Without a waker (NULL) it ends the wait, or doesn't wait, and then seek may be NULL: it returns 0 if a context was
+ * begun, else -ETIMEDOUT.
  */
 WW_MUST_CHECK int ww_acquire_init_poll(struct ww_acquire_ctx *ctx, struct ww_class *ww_class, struct ww_seek *seek,
 				       const struct ww_waker *waker);
@@ -69,7 +71,9 @@ bool ww_poll_take_back(struct ww_acquire_ctx *ctx, struct ww_seek *seek);
 /*
  * For loops that watch a descriptor of eventfd(2): ww_event_wake is the function of such a waker, its `loop` the event, and
  * its `task` a struct ww_woken that only this wait uses, and that doesn't move until it is taken, or the waker was taken back.
- * ww_event_take returns all that were woken since, the last one first; the loop reads the descriptor before.
+ * ww_event_take returns all that were woken since, the last one first.  Each such batch comes with one write to the descriptor,
+ * which may come later than the batch: so the loop takes only after a read of the descriptor that succeeded.  Before it closes
+ * the descriptor, or frees the event, it waits for the descriptor as long as first_ isn't NULL, reads, and takes.
  */
 struct ww_woken {
 	struct ww_woken *next;
@@ -87,7 +91,7 @@ struct ww_woken *ww_event_take(struct ww_event *event);
 #define ww_number_lock_poll(...) (WW_HERE_, ww_number_lock_poll(__VA_ARGS__))
 #endif
 
-/* A first poll whose first step by the proved library, one that heeds cancels, was made already and returned r, not 0. */
+/* A first poll whose first step by the proved library, one that heeds no cancel, was made already and returned r, not 0. */
 int ww_number_lock_poll_further_(uint32_t number, struct ww_acquire_ctx *ctx, const struct ww_waker *waker, int r);
 
 #ifdef __cplusplus

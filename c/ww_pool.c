@@ -1,38 +1,62 @@
 /*
- * ww_pool.c - classes of mutexes: their opening and freeing, numbers that are handed out and put back, and seats.
+ * ww_pool.c - classes of mutexes: their opening and freeing, numbers that are handed out and put back, and seats: those that
+ * threads keep, those that anybody may use, and the queue for them.
  *
- * A seat is either *kept*, by one thread after another, or *loose*; the first seats of a class are kept ones.  The values of
- * its `busy`, and what comes next:
+ * A seat is its user's while it is BUSY, and a thread may keep it (IS_KEPT): then nobody else comes to use it, and its keeper
+ * does so without a read-modify-write.  These are two bits of its `busy`, and what comes next:
  *
- *	seat	busy	whose			what comes next, and by what
- *	kept	IDLE	its keeper's		BUSY: the keeper uses it, by a store
- *						ORPHAN: the keeper ends, by an exchange that finds IDLE, so it puts it back
- *	kept	BUSY	its user's		IDLE: the user is through, by a store if it is the keeper, and else by an exchange
- *						ORPHAN: the keeper ends, by an exchange that finds BUSY
- *	kept	ORPHAN	its user's		IDLE: the user is through, by an exchange that finds ORPHAN, so it puts it back
- *	unkept	IDLE	nobody's		BUSY: a thread comes to keep it, under the lock of opening, as it was put back
- *	loose	IDLE	nobody's		BUSY: any thread uses it, by an exchange that finds IDLE
- *	loose	BUSY	its user's		IDLE: the user is through, by a store, which counts it as given (GIVEN_ONCE)
+ *	busy		whose		what comes next, and by what
+ *	0		nobody's	BUSY: any thread uses it, by an exchange that finds it so
+ *	BUSY		its user's	0: the user is through, by an exchange; then it looks whether somebody waits for a seat
+ *					BUSY, IS_KEPT: the user comes to keep it, by a store, under the lock `opening`
+ *	IS_KEPT		its keeper's	BUSY, IS_KEPT: the keeper uses it, by a store
+ *					0: the keeper stops keeping it (let_go), by a store, after it used it
+ *	BUSY, IS_KEPT	its user's	IS_KEPT: the user is through, by a store if it is the keeper, and else by an exchange
+ *					BUSY: the keeper stops keeping it, by an exchange
  *
- * So two threads never use one seat.  A kept seat: only its keeper sets BUSY, and only its user IDLE, so nothing changes
- * between the keeper's load that finds IDLE and its store.  If its keeper ends: keeper and user both exchange, so one of the
- * two comes second, and only that one puts it back.  A loose seat: of the exchanges that find IDLE one is the first; it may be
- * made for another thread, which is taken out of the queue for it (serve).
+ * So two threads never use one seat.  One that is kept: only its keeper sets BUSY, and only its user clears it, so nothing
+ * changes between the keeper's load that finds IS_KEPT alone and its store.  One that isn't: of the exchanges that find it free
+ * one is the first; it may be made for another thread, which is taken out of the queue for it (serve).  No seat is lost: where
+ * two threads may clear a bit each, both do so by exchanges, so whoever clears the second one knows it, and looks who waits.
  *
- * The next user sees what a user wrote in the seat.  Kept: IDLE is stored or exchanged with release.  The keeper's load
- * (seat_at_hand), the exchange for ORPHAN, and the load by the thread that frees the class acquire.  The lock `opening` orders
- * putting a seat back before coming to keep it.  Loose: all is sequentially consistent, so one of these two sees the other:
+ * Whoever finds no seat free waits in a queue.  Threads get seats in turn: while somebody waits nobody else begins, and a seat
+ * that is given is handed to whoever has waited longest.  Tasks have seats of their own, unless the class says how many contexts
+ * it has, and handing each of these on would make each context a change of tasks.  So others may begin by it first.  A task that
+ * waits is one of these:
  *
- *	a user that is through (ww_give_seat)	a thread that seeks a seat (ww_queue_up)
- *	busy = IDLE				seekers++
- *	seekers?				busy of each seat?
+ *	WAITS	and its waker is there
+ *	CALLED	a seat was given, and its waker called for that; it hasn't looked since.  If it finds none free, it WAITS again, or is
+ *	DUE	if it is the first in the queue: then the next seat that is given is handed to it, and nobody begins meanwhile
+ *	SERVED	it has a seat, and isn't in the queue any more; as a thread is, behind WAITS
+ *
+ * IS_CALLED in the `busy` of a seat of tasks says that somebody is CALLED for it; it changes under the lock `queue` alone:
+ *
+ *	busy			what comes next
+ *	0			BUSY: anybody uses it
+ *	BUSY			0: given; then it is offered: handed to the first if that is DUE, else the first that WAITS is CALLED for it
+ *	IS_CALLED		BUSY, IS_CALLED: anybody uses it
+ *				BUSY: whoever was called looks, and uses it
+ *				0: whoever was called leaves; then it is offered
+ *	BUSY, IS_CALLED		IS_CALLED: given; then it is offered only if somebody is DUE
+ *				BUSY: whoever was called looks, and uses any other seat that is free, or waits on; or it leaves
+ *
+ * So wherever nobody is amid a call, no seat is free while somebody is DUE, and none for which nobody is CALLED while somebody
+ * WAITS.  tests/seats.py tries all that tasks may do by these tables, and the search of schedules asks that of the sources.
+ *
+ * The next user sees what a user wrote in the seat.  Kept: the store or exchange for IS_KEPT releases; the keeper's load
+ * (use_kept), and the load by the thread that frees the class, acquire.  Else all is sequentially consistent, so one of these
+ * two sees the other:
+ *
+ *	a user that is through (ww_give_seat)	one that seeks a seat (ww_queue_up, look)
+ *	busy = 0				seekers++, or due++
+ *	seekers, due?				busy of each seat?
  */
 #define _GNU_SOURCE
 #include "ww_pool.h"
 #include <pthread.h>
 #include <stdlib.h>
 #include <string.h>
-#include <unistd.h>
+#include <sys/random.h>
 
 /*
  * How many mutexes a class has if it says no number; how many locks have their words in one cache line; and how many mutexes
@@ -46,31 +70,42 @@ enum { MANY_MUTEXES = 65536, IN_A_LINE = 4, APART = 1024 };
 /* How many lines are enough for 65 locks, which a world has at least. */
 enum { LEAST_LINES = 17 };
 /*
- * If a class says no number of contexts: how many it has, how many threads keep a seat besides, and how many seats tasks have
- * for each processor, and at most (see ww_poll.h).  In the search of schedules there are few.
+ * If a class says no number of contexts: how many it has that no thread keeps, how many that threads may keep, and how many
+ * seats tasks have for each processor, and at most (see ww_poll.h).  In the search of schedules there are few.
  */
 #ifndef WW_FEW
 enum { MANY_CONTEXTS = 1024, MANY_KEPT = 256, EACH_TASKS = 2, MANY_TASKS = 64 };
 #else
 enum { MANY_CONTEXTS = WW_FEW, MANY_KEPT = WW_FEW, EACH_TASKS = WW_FEW, MANY_TASKS = WW_FEW };
 #endif
-/* One more seat, which no context has: see borrow_spare. */
+/* One more seat, which no context has: see ww_is_released. */
 enum { SPARE = 1 };
 
 __thread struct ww_mine ww_mine __attribute__((tls_model("initial-exec")));
+/*
+ * A process may have several copies of the library, and load one where another one lay before.  So each counts from a number
+ * that it draws as it is loaded (see `load`): no two have the same ids, and none is NO_ID, CROWDED or 0.
+ */
+static uint64_t this_copy = (uint64_t)1 << 62;
+static uint64_t last_id; /* of a class */
 
-static uint64_t last_id; /* of a class; its address identifies this copy of the library: a process may have several */
+static uint64_t of_this_copy(uint64_t n) { return this_copy + n; }
 
-/* Each copy counts in a range of its own. */
-static uint64_t of_this_copy(uint64_t n) { return ((uint64_t)(uintptr_t)&last_id << 16) + n; }
+/* Only the copy that opened a class has the lock `opening` for it, and knows which threads keep its seats. */
+static struct ww_pool *of_this_copy_alone(struct ww_pool *p)
+{
+	if (UNLIKELY(p && p->copy != this_copy))
+		end_of(p->class_, "ww_class", "another copy of the library opened it, and a class is of one copy alone");
+	return p;
+}
 
 /* Relaxed: it is a count. */
 static uint64_t my_thread(void)
 {
-	static uint64_t threads;
+	static uint64_t last_thread;
 
 	if (UNLIKELY(!ww_mine.thread))
-		ww_mine.thread = of_this_copy(__atomic_add_fetch(&threads, 1, __ATOMIC_RELAXED));
+		ww_mine.thread = of_this_copy(__atomic_add_fetch(&last_thread, 1, __ATOMIC_RELAXED));
 	return ww_mine.thread;
 }
 
@@ -114,14 +149,6 @@ static struct ww_pool *freed; /* the memory of classes that were freed */
 static pthread_key_t ending;
 static bool is_prepared;
 
-/* Only the copy that opened a class has the lock `opening` for it, and knows which threads keep its seats. */
-static struct ww_pool *of_this_copy_alone(struct ww_pool *p)
-{
-	if (UNLIKELY(p && p->copy != &last_id))
-		end_of(p->class_, "ww_class", "another copy of the library opened it, and a class is of one copy alone");
-	return p;
-}
-
 /* The class that has this number, if it is open. Opening is locked. */
 static struct ww_pool *open_pool(uint64_t id)
 {
@@ -132,39 +159,52 @@ static struct ww_pool *open_pool(uint64_t id)
 	return p;
 }
 
-/* Neither keeper nor user need the seat any more. Opening is locked; others read `unkept` without that, as a hint. */
-static void put_back(struct ww_pool *p, ww_seat *s)
+static void serve(struct ww_seats *of, uint64_t id, ww_seat *s);
+
+/* So many more seats are kept. Opening is locked; others read this without that, as a hint, and to see that it changed. */
+static void keeps_more(struct ww_pool *p, uint32_t more)
 {
-	s->next = p->unkept;
-	__atomic_store_n(&p->unkept, s, __ATOMIC_RELAXED);
+	__atomic_store_n(&p->kept, p->kept + more, __ATOMIC_RELAXED);
+	__atomic_fetch_add(&p->changed, 1, __ATOMIC_SEQ_CST);
 }
 
-/* This thread stops keeping the seat, even if it still uses it. Opening is locked. */
-static void let_go(struct ww_known *kept)
+/*
+ * This thread stops keeping the seat, even if that is in use.  Opening is locked.  If nobody uses it, its class is returned:
+ * once nothing is locked it is handed to whoever waits for one (serve).
+ */
+static struct ww_pool *let_go(struct ww_known kept)
 {
-	struct ww_pool *p = open_pool(kept->id);
-	ww_seat *s = kept->seat;
+	struct ww_pool *p = open_pool(kept.id);
+	uint32_t was = IS_KEPT | BUSY;
+	ww_seat *s = kept.seat;
 
-	*kept = (struct ww_known){ 0 };
 	if (!p)
-		return;
+		return NULL;
+	keeps_more(p, -1u);
 	__atomic_store_n(&s->keeper, NO_THREAD, __ATOMIC_RELAXED);
-	if (__atomic_exchange_n(&s->busy, ORPHAN, __ATOMIC_ACQ_REL) == IDLE) {
-		stop_rest(s);
-		__atomic_store_n(&s->busy, IDLE, __ATOMIC_RELAXED);
-		put_back(p, s);
-	}
+	if (!use_kept(s) && __atomic_compare_exchange_n(&s->busy, &was, BUSY, false, __ATOMIC_ACQ_REL, __ATOMIC_ACQUIRE))
+		return NULL;
+	stop_rest(s);
+	__atomic_store_n(&s->busy, 0, __ATOMIC_SEQ_CST);
+	return p;
 }
 
 /* The thread ends. */
 static void forget(void *mine)
 {
 	(void)mine;
-	pthread_mutex_lock(&opening);
-	for (uint32_t k = 0; k < KEPT; k++)
-		let_go(&ww_mine.seats[k]);
-	ww_mine.ends = true;
-	pthread_mutex_unlock(&opening);
+	for (uint32_t k = 0; k < KEPT; k++) {
+		struct ww_known kept = ww_mine.seats[k];
+		struct ww_pool *p;
+
+		pthread_mutex_lock(&opening);
+		ww_mine.ends = true;
+		ww_mine.seats[k] = (struct ww_known){ 0 };
+		p = let_go(kept);
+		pthread_mutex_unlock(&opening);
+		if (p)
+			serve(&p->threads, kept.id, kept.seat);
+	}
 }
 
 /* The next context of this thread tries this seat first; the others that come before its place move on by one. */
@@ -175,121 +215,108 @@ static void put_first(struct ww_known first, uint32_t others)
 }
 
 /*
- * The thread comes to keep a seat, if the library will learn when the thread ends.  If it keeps as many as it may, it stops
- * keeping the one that it hasn't used for the longest.
+ * The thread comes to keep the seat that it uses, if not so many are kept as may be, and the library will learn when the thread
+ * ends.  If it keeps as many as it may, it stops keeping the one that it hasn't used for the longest.
  */
-static ww_seat *keep(struct ww_pool *p)
+static void keep(struct ww_pool *p, ww_seat *s)
 {
-	ww_seat *s = NULL;
+	struct ww_known last = ww_mine.seats[KEPT - 1];
+	struct ww_pool *left = NULL;
 
 	pthread_mutex_lock(&opening);
-	if (p->unkept && is_prepared && !ww_mine.ends && !pthread_setspecific(ending, &ww_mine)) {
-		s = p->unkept;
-		__atomic_store_n(&p->unkept, s->next, __ATOMIC_RELAXED);
+	if (p->kept < p->may_keep && is_prepared && !ww_mine.ends && !pthread_setspecific(ending, &ww_mine)) {
+		keeps_more(p, 1);
 		__atomic_store_n(&s->keeper, ww_mine.thread, __ATOMIC_RELAXED);
-		__atomic_store_n(&s->busy, BUSY, __ATOMIC_RELAXED);
+		__atomic_store_n(&s->busy, IS_KEPT | BUSY, __ATOMIC_SEQ_CST);
 		is_user(s);
-		let_go(&ww_mine.seats[KEPT - 1]);
+		left = let_go(last);
 		put_first((struct ww_known){ .id = p->id, .seat = s }, KEPT - 1);
 	}
 	pthread_mutex_unlock(&opening);
-	return s;
+	if (left)
+		serve(&left->threads, last.id, last.seat);
 }
 
-/* The seat of the class that this thread keeps, or comes to keep, if nobody uses it. */
-static ww_seat *kept_seat(struct ww_pool *p)
-{
-	uint32_t k = 0;
-
-	while (k < KEPT && ww_mine.seats[k].id != p->id)
-		k++;
-	if (k == KEPT)
-		return __atomic_load_n(&p->unkept, __ATOMIC_RELAXED) ? keep(p) : NULL;
-	put_first(ww_mine.seats[k], k);
-	return use_kept(ww_mine.seats[0].seat);
-}
-
-/* ---- loose seats ---- */
+/* ---- seats that anybody may use ---- */
 
 /*
  * Any seat that is free.  The search begins at the one that this thread used last, or, where threads keep seats, at one where
- * others don't begin.  NULL only if at some moment during the call none was free: each was in use in two passes, and wasn't
- * given in between.
+ * others don't begin.  NULL only if at some moment during the call none was free: each was in use or kept in two passes, and
+ * none was given, kept or let go in between.
  */
-static ww_seat *claim_any(const struct ww_loose *of)
+static ww_seat *claim_any(const struct ww_seats *of)
 {
-	ww_seat *s = ww_mine.last.id == of->id ? ww_mine.last.seat : &of->seats[of->pool->kept ? ww_mine.thread % of->count : 0];
-	uint64_t before, seen = 0;
+	ww_seat *s = ww_mine.last.id == of->id ? ww_mine.last.seat : &of->seats[of->pool->may_keep ? ww_mine.thread % of->count : 0];
+	uint64_t before, seen = UINT64_MAX;
 
 	do {
 		before = seen;
-		seen = 0;
+		seen = (uint64_t)__atomic_load_n(&of->pool->changed, __ATOMIC_SEQ_CST) << 48;
 		for (uint32_t k = 0; k < of->count; k++) {
-			if (claim(s, &seen)) {
+			uint32_t was;
+
+			if (claim(s, &was)) {
 				if (of->id != NO_ID)
 					ww_mine.last = (struct ww_known){ .id = of->id, .seat = s };
 				return s;
 			}
+			seen += was & IS_KEPT ? 0 : was / GIVEN_ONCE;
 			s = s + 1 < &of->seats[of->count] ? s + 1 : of->seats;
 		}
 	} while (seen != before);
 	return NULL;
 }
 
-/* Tasks keep no seat. */
-COLD static ww_seat *any_seat(struct ww_pool *p, const struct ww_loose *of)
+/* The seat of the class that this thread keeps is put first, and is its own if nobody uses it; `keeps` says if there is one. */
+static ww_seat *kept_seat(const struct ww_pool *p, bool *keeps)
 {
-	ww_seat *s = NULL;
+	uint32_t k = 0;
+
+	while (k < KEPT && ww_mine.seats[k].id != p->id)
+		k++;
+	*keeps = k < KEPT;
+	if (!*keeps)
+		return NULL;
+	put_first(ww_mine.seats[k], k);
+	return use_kept(ww_mine.seats[0].seat);
+}
+
+/* Tasks keep no seat. */
+COLD static ww_seat *any_seat(struct ww_pool *p, const struct ww_seats *of)
+{
+	bool may_keep = p->may_keep && of == &p->threads, keeps = false;
+	ww_seat *s;
 
 	of_this_copy_alone(p);
 	my_thread();
 	if (p->gone)
 		return NULL;
-	if (p->kept && of == &p->loose)
-		s = kept_seat(p);
-	return s || is_barred(of, p) ? s : claim_any(of);
+	s = may_keep ? kept_seat(p, &keeps) : NULL;
+	if (s || is_barred(of, p))
+		return s;
+	s = claim_any(of);
+	if (s && may_keep && !keeps && __atomic_load_n(&p->kept, __ATOMIC_RELAXED) < p->may_keep)
+		keep(p, s);
+	return s;
 }
 
 ww_seat *ww_other_seat(struct ww_pool *p)
 {
-	ww_seat *s = claim_last(&p->loose, p, __atomic_load_n(&p->at_hand, __ATOMIC_RELAXED));
+	ww_seat *s = claim_last(&p->threads, p, __atomic_load_n(&p->at_hand, __ATOMIC_RELAXED));
 
-	return LIKELY(s) ? s : any_seat(p, &p->loose);
+	return LIKELY(s) ? s : any_seat(p, &p->threads);
 }
 
 ww_seat *ww_seat_to_begin(struct ww_pool *p)
 {
-	ww_seat *s = claim_last(&p->loose, p, __atomic_load_n(&p->at_hand, __ATOMIC_RELAXED));
+	ww_seat *s = claim_last(&p->threads, p, __atomic_load_n(&p->at_hand, __ATOMIC_RELAXED));
 
-	return LIKELY(s) ? s : is_crowded(p) ? NULL : any_seat(p, &p->loose);
+	return LIKELY(s) ? s : is_crowded(p) ? NULL : any_seat(p, &p->threads);
 }
 
 ww_seat *ww_task_seat(struct ww_pool *p) { return any_seat(p, of_tasks(p)); }
 
-/* The values of `served_`. From CALLED on: the waiter was called for the seat with this place, and hasn't looked since. */
-enum { WAITS, SERVED, CALLED };
-static uint64_t bit(uint32_t place) { return (uint64_t)1 << place; }
-
-/* It looks now, or has stopped waiting. The queue is locked. Threads read `served_` without that lock, and are never called. */
-static void is_not_called(struct ww_loose *of, struct ww_seek *it)
-{
-	if (it->served_ < CALLED)
-		return;
-	__atomic_store_n(&of->called, of->called & ~bit(it->served_ - CALLED), __ATOMIC_SEQ_CST);
-	it->served_ = WAITS;
-}
-
-/* Takes the waiter at this place out. The queue is locked. */
-static void take_out(struct ww_loose *of, struct ww_seek **at)
-{
-	is_not_called(of, *at);
-	if (at == &of->first)
-		__atomic_store_n(&of->owed, false, __ATOMIC_SEQ_CST);
-	*at = (*at)->next_;
-	if (!*at)
-		of->end = at;
-	__atomic_fetch_sub(&of->seekers, 1, __ATOMIC_SEQ_CST);
-}
+/* ---- the queue ---- */
 
 /* The waker of a thread that waits. */
 static void wake_thread(void *nothing, void *served)
@@ -307,94 +334,70 @@ static struct ww_waker waker_of(struct ww_seek *it)
 	return waker;
 }
 
-static void wake(struct ww_waker waker)
+/* The waiter changes from one of these to another. The queue is locked; a thread that waits looks without that. */
+static void move_to(struct ww_seats *of, struct ww_seek *it, uint32_t now)
 {
-	if (waker.wake)
-		waker.wake(waker.loop, waker.task);
+	if ((it->served_ == DUE) != (now == DUE))
+		__atomic_fetch_add(&of->due, now == DUE ? 1 : -1u, __ATOMIC_SEQ_CST);
+	__atomic_store_n(&it->served_, now, __ATOMIC_RELEASE);
 }
 
-/* The seat is free, so the waiter that has waited longest, and wasn't called yet, is called. The queue is locked. */
-static struct ww_waker call_for(struct ww_loose *of, const ww_seat *s)
+/* Takes the waiter at this place out. The queue is locked. */
+static void take_out(struct ww_seats *of, struct ww_seek **at)
 {
-	struct ww_seek *it = of->first;
-
-	while (it && !it->waker_.wake)
-		it = it->next_;
-	if (!it)
-		return (struct ww_waker){ 0 };
-	__atomic_store_n(&of->called, of->called | bit(s->place), __ATOMIC_SEQ_CST);
-	it->served_ = CALLED + s->place;
-	return waker_of(it);
+	*at = (*at)->next_;
+	if (!*at)
+		of->end = at;
+	__atomic_fetch_sub(&of->seekers, 1, __ATOMIC_SEQ_CST);
 }
 
-/* A waiter that was called has looked, or left: if a seat is still free, another one is called. The queue is locked. */
-static struct ww_waker call_another(struct ww_loose *of)
+/* The waiter at this place gets the seat, and may not exist any more afterwards. The queue is locked. */
+static struct ww_waker hand_to(struct ww_seats *of, struct ww_seek **at, ww_seat *s)
 {
-	for (uint32_t k = 0; k < of->count && of != &of->pool->loose; k++)
-		if (!(__atomic_load_n(&of->seats[k].busy, __ATOMIC_SEQ_CST) & BUSY) && !(of->called & bit(k)))
-			return call_for(of, &of->seats[k]);
-	return (struct ww_waker){ 0 };
-}
+	struct ww_seek *it = *at;
+	struct ww_waker waker = waker_of(it);
 
-/* The queue is locked. */
-struct ww_waker ww_look_again(struct ww_seek *me)
-{
-	struct ww_loose *of = me->of_;
-	struct ww_seek **at = &of->first;
-
-	if (of == &of->pool->loose || (me != of->first && me->served_ < CALLED))
-		return (struct ww_waker){ 0 };
-	is_not_called(of, me);
-	if (me == of->first)
-		__atomic_store_n(&of->owed, true, __ATOMIC_SEQ_CST);
-	me->seat_ = claim_any(of);
-	if (!me->seat_)
-		return (struct ww_waker){ 0 };
-	while (*at != me)
-		at = &(*at)->next_;
 	take_out(of, at);
-	return call_another(of);
+	count(&of->served);
+	it->seat_ = s;
+	move_to(of, it, SERVED);
+	return waker;
 }
 
 /*
- * The waiter that has waited longest gets the seat, or is called for it; it is woken with nothing locked.  Others may have
- * freed the class since the seat was given, and in a forked child nobody waits.
+ * A seat was given: it is handed to the first in the queue, if that is a thread, or a task that is due one; else the first task
+ * that waits is called for it, unless one was.  The queue is locked; what is returned is called with nothing locked.
  */
-COLD static void serve(struct ww_loose *of, uint64_t id, ww_seat *s)
+static struct ww_waker offer(struct ww_seats *of, ww_seat *s)
+{
+	struct ww_seek *it = of->first;
+	uint32_t was;
+
+	if (it && (of == &of->pool->threads || it->served_ == DUE))
+		return claim(s, &was) ? hand_to(of, &of->first, s) : (struct ww_waker){ 0 };
+	while (it && it->served_ != WAITS)
+		it = it->next_;
+	if (!it || __atomic_load_n(&s->busy, __ATOMIC_SEQ_CST) & IS_CALLED)
+		return (struct ww_waker){ 0 };
+	__atomic_fetch_add(&s->busy, IS_CALLED, __ATOMIC_SEQ_CST);
+	it->seat_ = s;
+	move_to(of, it, CALLED);
+	return waker_of(it);
+}
+
+/* Others may have freed the class since the seat was given, and in a forked child nobody waits. */
+COLD static void serve(struct ww_seats *of, uint64_t id, ww_seat *s)
 {
 	struct ww_pool *p = of->pool;
 	struct ww_waker waker = { 0 };
-	struct ww_seek *first;
-	uint64_t seen = 0;
 
-	if (p->gone)
+	if (p->gone || !has_seekers(of))
 		return;
 	pthread_mutex_lock(&p->queue);
-	first = __atomic_load_n(&p->id, __ATOMIC_RELAXED) == id ? of->first : NULL;
-	if (first && !is_barred(of, p)) {
-		waker = call_for(of, s);
-	} else if (first && claim(s, &seen)) {
-		take_out(of, &of->first);
-		waker = waker_of(first);
-		first->seat_ = s;
-		__atomic_store_n(&first->served_, SERVED, __ATOMIC_RELEASE); /* from here on `first` may not exist any more */
-	}
+	if (__atomic_load_n(&p->id, __ATOMIC_RELAXED) == id)
+		waker = offer(of, s);
 	pthread_mutex_unlock(&p->queue);
-	wake(waker);
-}
-
-/* Releases a seat whose keeper isn't this thread, and may have ended. */
-COLD static void give_kept(uint64_t id, ww_seat *s)
-{
-	struct ww_pool *p;
-
-	if (__atomic_exchange_n(&s->busy, IDLE, __ATOMIC_ACQ_REL) != ORPHAN)
-		return;
-	pthread_mutex_lock(&opening);
-	p = open_pool(id);
-	if (p)
-		put_back(p, s);
-	pthread_mutex_unlock(&opening);
+	call_waker(waker);
 }
 
 /* A seat may rest only for its keeper. */
@@ -404,67 +407,119 @@ COLD static void give_rested(ww_seat *s)
 	ww_give_seat(s);
 }
 
+/* Its keeper may stop keeping it meanwhile: then it is given as any other. */
+COLD static void give_kept(ww_seat *s)
+{
+	uint32_t was = IS_KEPT | BUSY;
+
+	if (!__atomic_compare_exchange_n(&s->busy, &was, IS_KEPT, false, __ATOMIC_SEQ_CST, __ATOMIC_SEQ_CST))
+		ww_give_seat(s);
+}
+
 void ww_give_seat(ww_seat *s)
 {
-	struct ww_loose *of = s->of;
+	struct ww_seats *of = s->of;
 	uint64_t id = s->pool->id;
-	uint32_t place = s->place;
+	uint32_t was;
 
 	if (UNLIKELY(s->ages)) {
 		give_rested(s);
 		return;
 	}
-	if (UNLIKELY(!of)) {
-		give_kept(id, s);
+	if (UNLIKELY(__atomic_load_n(&s->busy, __ATOMIC_RELAXED) & IS_KEPT)) {
+		give_kept(s);
 		return;
 	}
-	__atomic_store_n(&s->busy, __atomic_load_n(&s->busy, __ATOMIC_RELAXED) + GIVEN_ONCE - BUSY, __ATOMIC_SEQ_CST);
-	if (UNLIKELY(has_seekers(of)) && !(__atomic_load_n(&of->called, __ATOMIC_SEQ_CST) & bit(place)))
+	was = __atomic_fetch_add(&s->busy, GIVEN_ONCE - BUSY, __ATOMIC_SEQ_CST);
+	if (UNLIKELY(has_seekers(of)) && (!(was & IS_CALLED) || has_due(of)))
 		serve(of, id, s);
+}
+
+/* Where it stands in the queue, or the end. The queue is locked. */
+static struct ww_seek **place_of(struct ww_seats *of, const struct ww_seek *it)
+{
+	struct ww_seek **at = &of->first;
+
+	while (*at && *at != it)
+		at = &(*at)->next_;
+	return at;
+}
+
+/* Whoever was called looks, for the seat for which it was, or any other; it may find one for who is due. The queue is locked. */
+static struct ww_waker look(struct ww_seats *of, struct ww_seek *me)
+{
+	ww_seat *s = me->seat_;
+	uint32_t was;
+
+	__atomic_fetch_sub(&s->busy, IS_CALLED, __ATOMIC_SEQ_CST);
+	move_to(of, me, of->first == me ? DUE : WAITS);
+	if (!claim(s, &was))
+		s = claim_any(of);
+	return s ? hand_to(of, of->due ? &of->first : place_of(of, me), s) : (struct ww_waker){ 0 };
+}
+
+bool ww_is_served(struct ww_seek *me, const struct ww_waker *otherwise)
+{
+	struct ww_pool *p = me->of_->pool;
+	struct ww_waker waker = { 0 };
+	bool served;
+
+	pthread_mutex_lock(&p->queue);
+	if (me->served_ == CALLED)
+		waker = look(me->of_, me);
+	served = me->served_ == SERVED;
+	if (!served)
+		me->waker_ = *otherwise;
+	pthread_mutex_unlock(&p->queue);
+	call_waker(waker);
+	return served;
 }
 
 bool ww_leave_queue(struct ww_seek *me)
 {
-	struct ww_loose *of = me->of_;
+	struct ww_seats *of = me->of_;
 	struct ww_pool *p = of->pool;
-	struct ww_seek **at = &of->first;
 	struct ww_waker waker = { 0 };
+	struct ww_seek **at;
+	bool waits;
 
 	pthread_mutex_lock(&p->queue);
-	while (*at && *at != me)
-		at = &(*at)->next_;
-	if (*at) {
+	at = place_of(of, me);
+	waits = *at;
+	if (waits)
 		take_out(of, at);
-		waker = call_another(of);
-	}
+	if (waits && me->served_ == CALLED && !(__atomic_sub_fetch(&me->seat_->busy, IS_CALLED, __ATOMIC_SEQ_CST) & BUSY))
+		waker = offer(of, me->seat_);
+	if (waits)
+		move_to(of, me, WAITS);
 	pthread_mutex_unlock(&p->queue);
-	wake(waker);
-	return !me->seat_;
+	call_waker(waker);
+	return waits;
 }
 
-/* If others wait already, none is free, except seats whose last user is about to serve the first waiter. */
+/* Where it is barred no seat is free, except one whose last user is about to serve another. */
 bool ww_queue_up(struct ww_seek *me)
 {
-	struct ww_loose *of = me->of_;
+	struct ww_seats *of = me->of_;
 	struct ww_pool *p = of->pool;
-	bool served;
+	struct ww_seek **at;
+	ww_seat *s = NULL;
 
 	pthread_mutex_lock(&p->queue);
+	at = of->end;
 	__atomic_fetch_add(&of->seekers, 1, __ATOMIC_SEQ_CST);
-	*of->end = me;
+	*at = me;
 	of->end = &me->next_;
-	if (of->first == me)
-		me->seat_ = claim_any(of);
-	served = me->seat_;
-	if (served) {
-		take_out(of, &of->first);
-		me->served_ = SERVED;
+	if (of->first == me || (of == &p->tasks && !of->due))
+		s = claim_any(of);
+	if (s) {
+		(void)hand_to(of, at, s);
 	} else {
 		count(&of->sought);
 		DTRACE_PROBE1(ww, context_wait, p->class_);
 	}
 	pthread_mutex_unlock(&p->queue);
-	return served;
+	return s;
 }
 
 /*
@@ -476,45 +531,41 @@ bool ww_queue_up(struct ww_seek *me)
 #endif
 
 /* A context that is left without ww_acquire_fini keeps its seat.  The thread is in the queue, so it must not end here. */
-static void tell_leak(const struct ww_loose *of)
+static void tell_leak(const struct ww_seats *of)
 {
 	char why[128];
 	int may_end;
 
 	pthread_setcancelstate(PTHREAD_CANCEL_DISABLE, &may_end);
 	snprintf(why, sizeof why, "all %u contexts have been in use for %d seconds; one that isn't ended by ww_acquire_fini stays in use",
-		 of->count, WW_PATIENCE);
+		 of->count - __atomic_load_n(&of->pool->kept, __ATOMIC_RELAXED), WW_PATIENCE);
 	ww_debug_leak(of, why);
 	pthread_setcancelstate(may_end, NULL);
 }
 
-/* When a thread that waits checks next, and what it saw last. */
-struct look {
-	struct timespec next;
-	uint64_t seen;
-};
-
-/* Until when it may sleep.  The sum grows whenever a seat is claimed or given; that it doesn't is reported once. */
-static const struct timespec *next_look(const struct ww_loose *of, struct look *look)
+/*
+ * Until when a thread that waits may sleep; by then, if nobody was handed a seat since it looked last, that is reported once.
+ * Each seat that is given is handed to somebody who waits.
+ */
+static void look_again(struct ww_seats *of, struct timespec *next, uint64_t *seen)
 {
-	uint64_t sum = 0;
+	uint64_t served = __atomic_load_n(&of->served, __ATOMIC_RELAXED);
 
-	if (look->next.tv_sec && !ww_has_come(&look->next))
-		return &look->next;
-	for (uint32_t k = 0; k < of->count; k++)
-		sum += __atomic_load_n(&of->seats[k].busy, __ATOMIC_RELAXED);
-	if (sum == look->seen && !__atomic_exchange_n(&of->pool->is_told, true, __ATOMIC_RELAXED))
+	if (next->tv_sec && !ww_has_come(next))
+		return;
+	if (next->tv_sec && served == *seen && !__atomic_exchange_n(&of->pool->is_told, true, __ATOMIC_RELAXED))
 		tell_leak(of);
-	look->seen = sum;
-	clock_gettime(CLOCK_MONOTONIC, &look->next);
-	look->next.tv_sec += WW_PATIENCE;
-	return &look->next;
+	*seen = served;
+	clock_gettime(CLOCK_MONOTONIC, next);
+	next->tv_sec += WW_PATIENCE;
 }
 
 COLD int ww_seek_seat(struct ww_pool *p, const struct timespec *until, ww_seat **s)
 {
-	struct ww_seek me = { .of_ = &p->loose, .waker_ = { .wake = wake_thread, .task = &me.served_ } };
-	struct look look = { 0 };
+	struct ww_seek me = { .of_ = &p->threads, .waker_ = { .wake = wake_thread, .task = &me.served_ } };
+	const struct timespec *end = until;
+	struct timespec next = { 0 };
+	uint64_t seen = 0;
 
 	if (p->gone)
 		return -EINVAL;
@@ -523,26 +574,30 @@ COLD int ww_seek_seat(struct ww_pool *p, const struct timespec *until, ww_seat *
 	while (!__atomic_load_n(&me.served_, __ATOMIC_ACQUIRE)) {
 		if (until && ww_has_come(until) && ww_leave_queue(&me))
 			break;
-		ww_futex_wait(&me.served_, 0, until || !WW_PATIENCE ? until : next_look(&p->loose, &look));
+		if (WW_PATIENCE > 0 && !until) {
+			look_again(&p->threads, &next, &seen);
+			end = &next;
+		}
+		ww_futex_wait(&me.served_, 0, end);
 	}
-	*s = me.seat_;
 	if (!me.seat_)
 		return -ETIMEDOUT;
 	is_user(me.seat_);
+	*s = me.seat_;
 	return 0;
 }
 
 /* ---- classes ---- */
 
 /*
- * Where threads keep seats they don't come back to a loose one.  Relaxed: a thread that gave a seat of a class which was freed
+ * Where threads keep seats they come back to no other one.  Relaxed: a thread that gave a seat of a class which was freed
  * since may still read this (serve), and a waiter that it finds in the queue has seen this number, and then locked the queue.
  */
 static void set_id(struct ww_pool *p, uint64_t id)
 {
 	__atomic_store_n(&p->id, id, __ATOMIC_RELAXED);
 	__atomic_store_n(&p->at_hand, id, __ATOMIC_RELAXED);
-	p->loose.id = p->kept ? NO_ID : id;
+	p->threads.id = p->may_keep ? NO_ID : id;
 	p->tasks.id = ~id;
 }
 
@@ -561,12 +616,12 @@ static void in_child(void)
 	}
 	for (struct ww_pool *p = freed; p; p = p->next) {
 		p->queue = p->numbers = p->spare = p->crowd.lock = (pthread_mutex_t)PTHREAD_MUTEX_INITIALIZER;
-		p->crowd.asleep = 0;
+		p->crowd.asleep = p->crowd.waiting = 0;
 	}
 	pthread_mutex_unlock(&opening);
 }
 
-/* Once in a program. */
+/* Once in a program; opening is locked, or nobody else uses the library yet. */
 static int prepare(void)
 {
 	if (is_prepared)
@@ -579,6 +634,24 @@ static int prepare(void)
 	}
 	is_prepared = true;
 	return 0;
+}
+
+/*
+ * Handlers that are registered first are called last before a fork, and first behind it.  So the lock `opening` isn't held while a
+ * handler of the program runs, which may lock mutexes.  If that fails here, whoever opens a class first tries it again.
+ */
+__attribute__((constructor(101))) static void load(void)
+{
+	uint64_t drawn;
+
+	if (getrandom(&drawn, sizeof drawn, GRND_NONBLOCK) != sizeof drawn) {
+		struct timespec now;
+
+		clock_gettime(CLOCK_MONOTONIC, &now);
+		drawn = ((uint64_t)now.tv_sec * 1000000000 + (uint64_t)now.tv_nsec) * 0x9e3779b97f4a7c15 + (uintptr_t)&this_copy;
+	}
+	this_copy |= drawn >> 2;
+	(void)prepare();
 }
 
 /*
@@ -608,9 +681,9 @@ static struct ww_pool *memory_of_pool(void)
 		return NULL;
 	memset(p, 0, sizeof *p);
 	p->queue = p->numbers = p->spare = p->crowd.lock = (pthread_mutex_t)PTHREAD_MUTEX_INITIALIZER;
-	p->loose.end = &p->loose.first;
+	p->threads.end = &p->threads.first;
 	p->tasks.end = &p->tasks.first;
-	p->loose.pool = p->tasks.pool = p;
+	p->threads.pool = p->tasks.pool = p;
 	return p;
 }
 
@@ -630,34 +703,33 @@ static uint32_t tasks_of(const struct ww_class *c)
 	return c->contexts ? 0 : tasks < MANY_TASKS ? tasks : MANY_TASKS;
 }
 
-/* Opens a new world, whose handles are moved into the seats. */
-static int open_world(struct ww_pool *p, bool is_wait_die, ww_handle *handles)
+/* The handles of a new world are moved into the seats. */
+static void fill_seats(struct ww_pool *p, ww_handle *handles)
 {
-	struct ww_blocks blocks;
-	int r;
-
-	ww_heap_opens(&blocks);
-	r = ww_open_(is_wait_die, p->locks, ((uint64_t)1 << 52) - 1, handles, seats_of(p) + SPARE);
-	ww_heap_opened();
-	if (r)
-		return r;
 	memset(p->seats, 0, (seats_of(p) + SPARE) * sizeof *p->seats);
-	p->loose.seats = &p->seats[p->kept];
-	p->tasks.seats = &p->loose.seats[p->loose.count];
-	p->unkept = NULL;
+	p->threads.seats = p->seats;
+	p->tasks.seats = &p->seats[p->threads.count];
 	for (uint32_t k = seats_of(p) + SPARE; k--;) {
 		ww_seat *s = &p->seats[k];
 
 		ww_swap_(&s->handle, &handles[k]);
 		s->pool = p;
+		ww_may_stop(s);
 		s->keeper = NO_THREAD;
-		if (k < p->kept)
-			put_back(p, s);
-		else
-			s->of = s < p->tasks.seats ? &p->loose : &p->tasks;
-		s->place = s->of == &p->tasks ? (uint8_t)(s - p->tasks.seats) : 0;
+		s->of = s < p->tasks.seats ? &p->threads : &p->tasks;
 	}
-	return 0;
+}
+
+static int open_world(struct ww_pool *p, bool is_wait_die, ww_handle *handles)
+{
+	int r;
+
+	ww_heap_opens();
+	r = ww_open_(is_wait_die, p->locks, ((uint64_t)1 << 52) - 1, handles, seats_of(p) + SPARE);
+	if (!r)
+		fill_seats(p, handles);
+	ww_heap_opened();
+	return r;
 }
 
 /* A quarter of the numbers, or more if these are few. */
@@ -670,7 +742,7 @@ static uint32_t lines_for(uint32_t mutexes)
 	return quarter > apart ? quarter : apart;
 }
 
-static int make_pool(struct ww_class *c, uint32_t kept, struct ww_pool **made)
+static int make_pool(struct ww_class *c, uint32_t may_keep, struct ww_pool **made)
 {
 	struct ww_pool *p = memory_of_pool();
 	ww_handle *handles;
@@ -679,17 +751,18 @@ static int make_pool(struct ww_class *c, uint32_t kept, struct ww_pool **made)
 	if (!p)
 		return -ENOMEM;
 	p->class_ = c;
-	p->kept = kept;
+	p->kept = 0;
+	p->may_keep = may_keep;
 	set_id(p, of_this_copy(++last_id));
-	p->copy = &last_id;
+	p->copy = this_copy;
 	p->mutexes = c->mutexes ? c->mutexes : MANY_MUTEXES;
 	p->lines = lines_for(p->mutexes);
 	p->locks = p->lines * IN_A_LINE;
-	p->loose.count = c->contexts ? c->contexts : MANY_CONTEXTS;
+	p->threads.count = (c->contexts ? c->contexts : MANY_CONTEXTS) + may_keep;
 	p->tasks.count = tasks_of(c);
 	p->fresh = p->free = 0;
 	__atomic_store_n(&p->is_large, false, __ATOMIC_RELAXED);
-	__atomic_store_n(&p->loose.sought, 0, __ATOMIC_RELAXED);
+	__atomic_store_n(&p->threads.sought, 0, __ATOMIC_RELAXED);
 	__atomic_store_n(&p->tasks.sought, 0, __ATOMIC_RELAXED);
 	__atomic_store_n(&p->is_told, false, __ATOMIC_RELAXED);
 	ww_crowd_open(p);
@@ -804,10 +877,10 @@ int ww_class_crowd(struct ww_class *c, uint32_t permits)
 /* Whether nobody uses a seat. Opening is locked. */
 static bool is_idle(struct ww_pool *p)
 {
-	bool idle = !has_seekers(&p->loose) && !has_seekers(&p->tasks) && !ww_permit_seekers(p);
+	bool idle = !has_seekers(&p->threads) && !has_seekers(&p->tasks) && !permit_seekers(p);
 
 	for (uint32_t k = 0; k < seats_of(p) && idle; k++)
-		idle = __atomic_load_n(&p->seats[k].busy, __ATOMIC_ACQUIRE) % GIVEN_ONCE == IDLE;
+		idle = !(__atomic_load_n(&p->seats[k].busy, __ATOMIC_ACQUIRE) & BUSY);
 	return idle;
 }
 
@@ -859,7 +932,7 @@ void ww_class_stats(struct ww_class *c, struct ww_class_counts *counts)
 	p = of_this_copy_alone(c->pool);
 	if (p)
 		*counts = (struct ww_class_counts){
-			.context_waits = __atomic_load_n(&p->loose.sought, __ATOMIC_RELAXED) +
+			.context_waits = __atomic_load_n(&p->threads.sought, __ATOMIC_RELAXED) +
 				__atomic_load_n(&p->tasks.sought, __ATOMIC_RELAXED),
 			.permit_waits = __atomic_load_n(&p->crowd.awaited, __ATOMIC_RELAXED),
 		};

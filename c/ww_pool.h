@@ -1,4 +1,40 @@
-/* ww_pool.h - what an open class consists of, and what the library's sources share. It isn't installed. */
+/*
+ * ww_pool.h - what an open class consists of, and what the library's sources share.  It isn't installed.
+ *
+ * The words that several threads write, whose each is, who writes it, and where two of its writers meet: a program of the search
+ * of schedules (tests/interleave), or a test.  tests/memory_order.py holds this to the sources, with the order of each access.
+ *
+ *	word		of		written by						where they meet
+ *	busy		seat		see ww_pool.c						kept-on
+ *	token		seat		its user arms it and takes it away; anybody leaves TOKEN	destroy-waiter
+ *	wake loop task	seat		its user, before it arms the token			poll-again
+ *	waits back_offs	seat		its user						contexts-counts
+ *	keeper		seat		its keeper						kept-end
+ *	user		seat		who locks by it without a context			alone
+ *	ctx older	mutex		its holder						lock
+ *	alone		mutex		its holder						alone
+ *	waiters		mutex		each that waits, by one up and down; of a number, who takes and puts it	number-puts
+ *	pool number	mutex		who locks it first, under `opening`; who makes or destroys it	static
+ *	own cancelled	context		its user; anybody cancels				cancel-once
+ *	pool		class		who opens and frees it, under `opening`			free-and-use
+ *	id at_hand	pool		who opens the class; a crowd's begin and end, under its lock	crowd-over
+ *	numbered	pool		who takes the first number, under `numbers`		number-again
+ *	is_large	pool		who takes one, likewise					numbers
+ *	taken fresh free below	pool	who takes and gives one, likewise			numbers-4
+ *	kept changed	pool		who comes to keep a seat or lets one go, under `opening`	kept-end-3
+ *	is_told		pool		who waits for long					mutex_leaks
+ *	next		pool		who opens and frees a class, under `opening`		free-3
+ *	seekers due	seats		who waits, or hands a seat over, under `queue`		tasks-late-held
+ *	sought served	seats		likewise						contexts-3
+ *	first end	seats		likewise						contexts-in-turn
+ *	served_ seat_ waker_	seek	likewise						poll-contexts-end
+ *	asleep		crowd		who goes to sleep, and who wakes it			crowd-free
+ *	backed_off	crowd		who backs off						mutex_crowd
+ *	waiting		crowd		who waits for a permit					crowd-free
+ *	harmless awaited ends term over off resting since slow	crowd	who looks at it, under its lock	crowd-slow-4
+ *	first_		event		who wakes a task, and the loop that takes them		poll_wakers
+ *	last_thread	copy		each thread, once					contexts
+ */
 #ifndef WW_POOL_H
 #define WW_POOL_H
 #include "ww_inside.h"
@@ -30,9 +66,10 @@ struct ww_crowd {
 	uint32_t permits;
 	uint32_t backed_off; /* how many contexts did, while enough threads slept for a crowd */
 	uint64_t harmless; /* until then sleeping threads alone make no crowd */
+	uint32_t waiting;  /* how many wait for a permit: each on the word of that, which is always 0 */
+	uint32_t turns[MANY_PERMITS];
 	pthread_mutex_t lock; /* for what follows */
-	struct ww_permit_seeker *first, *last; /* of the threads that wait for a permit */
-	uint64_t ends[MANY_PERMITS];  /* when each permit ends */
+	uint64_t ends[MANY_PERMITS]; /* when each permit ends, as far as it was promised */
 	uint64_t term, over; /* how long the last crowd lasts, and until when */
 	uint64_t off;	     /* for how long after it sleeping threads alone make none */
 	uint64_t resting;    /* until then there is no crowd at all, since permits were no help */
@@ -42,23 +79,22 @@ struct ww_crowd {
 };
 
 /*
- * Seats that no thread keeps, and the queue of those that found none of them free.  A class has two of these: `loose` for
- * threads, and `tasks` for polls.  If it says how many contexts it has, `tasks` is empty, and all are in the one queue.
+ * Seats, and the queue of those that found none of them free.  A class has two of these: `threads`, and `tasks` for polls.  If it
+ * says how many contexts it has, `tasks` is empty, and all are in the one queue.
  */
-struct ww_loose {
+struct ww_seats {
 	struct ww_pool *pool;
 	uint64_t id; /* by which a thread knows that it used one of them last; NO_ID if threads don't come back to them */
 	ww_seat *seats;
 	uint32_t count;
-	uint32_t seekers;	       /* how many wait; meanwhile others take none */
-	uint32_t owed;		       /* of tasks: see is_barred */
-	uint64_t called;	       /* a bit for each seat: a waiter was called for it, and hasn't looked yet */
+	uint32_t seekers, due;	       /* how many wait; and whether the first, a task, is to have the next seat that is given */
 	struct ww_seek *first, **end; /* the queue, in the order in which they came, and its last link */
 	uint64_t sought;	       /* how many have waited in all */
+	uint64_t served;	       /* and how many of these were handed a seat */
 } __attribute__((aligned(64)));
 
 /*
- * The memory outlives its class, and serves one that is opened later.  For a thread that has given a loose seat then reads
+ * The memory outlives its class, and serves one that is opened later.  For a thread that has given a seat then reads
  * `seekers`, and may lock the queue, though others may have freed the class meanwhile.
  */
 struct ww_pool {
@@ -66,15 +102,15 @@ struct ww_pool {
 	struct ww_class *class_;
 	uint64_t id;	  /* no other class has the same, open or freed, nor one of another copy of the library */
 	uint64_t at_hand; /* the same; or CROWDED, so that no thread finds its seat at hand */
-	const void *copy; /* the copy of the library that opened it */
-	uint32_t kept; /* how many of its seats are kept: see ww_pool.c */
+	uint64_t copy;	  /* of the copy of the library that opened it: see ww_pool.c */
+	uint32_t kept, may_keep; /* how many of its seats threads keep, and may: see ww_pool.c; changed under the lock `opening` */
+	uint32_t changed;	 /* how often that changed */
 	bool gone; /* it was opened before a fork, and this is the child */
 	bool is_large; /* it has had so many mutexes that they, and what they guard, don't stay in a processor's own cache */
 	struct ww_pool *next;
 	struct debug *debug;
 	struct ww_mutex *numbered; /* of ww_number.h: one for each number, once the first number was taken */
-	ww_seat *unkept; /* the kept seats without a keeper; changed under the lock `opening` */
-	struct ww_loose loose, tasks;
+	struct ww_seats threads, tasks;
 	pthread_mutex_t queue; /* the lock of both queues */
 	bool is_told;	       /* it was reported that all contexts of threads have been in use for long */
 	/*
@@ -85,7 +121,7 @@ struct ww_pool {
 	 */
 	pthread_mutex_t numbers __attribute__((aligned(64)));
 	uint32_t mutexes, lines, locks, fresh, free, taken, *below;
-	/* The thread that holds it uses the seat after those of contexts, and waits for nobody. */
+	/* The thread that holds it looks by the seat after those of contexts. */
 	pthread_mutex_t spare __attribute__((aligned(64)));
 	struct ww_crowd crowd;
 };
@@ -93,11 +129,17 @@ struct ww_pool {
 /* No class has this number. */
 #define CROWDED ((uint64_t)1)
 
-/* The values of a seat's `busy`: see ww_pool.c; and of its `keeper`, if it is loose or its keeper ended (NO_THREAD). */
-enum { IDLE, BUSY, ORPHAN };
-#define GIVEN_ONCE 4u /* added to `busy` each time that a loose seat is given */
+/* The bits of a seat's `busy`: see ww_pool.c; above them is how often it was given since a thread kept it. */
+#define BUSY 1u
+#define IS_KEPT 2u
+#define IS_CALLED 4u
+#define GIVEN_ONCE 8u
+/* The value of `keeper`, if it has none. */
 #define NO_THREAD UINT64_MAX
 #define NO_ID UINT64_MAX
+
+/* The values of `served_` of one that seeks a seat: see ww_pool.c.  CALLED: for `seat_`; SERVED: it has that. */
+enum { WAITS, CALLED, DUE, SERVED };
 
 /* What each thread has for itself. */
 enum { KEPT = 10 };
@@ -106,12 +148,13 @@ struct ww_mine {
 		uint64_t id;
 		ww_seat *seat;
 	} seats[KEPT],	 /* the seats that it keeps, one in each class; the one that it used last is first */
-	  last;		 /* the loose seat that it used last, if it comes back to these */
+	  last;		 /* one that it doesn't keep and used last, if it comes back to these */
 	uint64_t thread; /* a number that no other thread has, in any copy of the library; 0 until it takes a seat */
 	bool ends;	 /* it is about to end, and keeps no seat any more */
 	struct {
 		uint64_t id;		/* of the class whose permit it had last */
 		uint64_t ends;		/* when that permit ends; 0: it went on without one */
+		uint32_t place;		/* its index among the permits */
 		uint32_t contexts;	/* how many it began with that */
 		uint32_t waits, had_waited; /* how often it has waited for a lock, and had when the permit began */
 	} permit;
@@ -137,21 +180,16 @@ WW_HIDDEN void ww_give_seat(ww_seat *s);
 WW_HIDDEN int ww_seek_seat(struct ww_pool *p, const struct timespec *until, ww_seat **s);
 /* For polls: any seat that is free, unless it is another's turn; or NULL. */
 WW_HIDDEN ww_seat *ww_task_seat(struct ww_pool *p);
-/* If its turn has come it gets a seat, and waits no more.  The queue is locked; the caller calls the waker once it isn't. */
-WW_HIDDEN struct ww_waker ww_look_again(struct ww_seek *me);
 /* Gets a seat immediately (true), or waits from now on, after all that wait already. */
 WW_HIDDEN bool ww_queue_up(struct ww_seek *me);
+/* For polls: whether it has got a seat.  One that was called looks for it; if there is none, this is its waker from now on. */
+WW_HIDDEN bool ww_is_served(struct ww_seek *me, const struct ww_waker *otherwise);
 /* Stops waiting; false if it has got a seat. */
 WW_HIDDEN bool ww_leave_queue(struct ww_seek *me);
 /* Begins a context by a seat, if r is 0; else the context has ended, and r is returned. */
 WW_HIDDEN int ww_begin_by(struct ww_acquire_ctx *x, ww_seat *s, int r);
 /* Whether a context may lock the mutex: 0, or the error that its call returns. */
 WW_HIDDEN int ww_may_lock(const char *call, struct ww_mutex *m, struct ww_acquire_ctx *x);
-/* A lock call has to wait; and its wait is over. */
-WW_HIDDEN void ww_begin_wait(struct ww_mutex *m, struct ww_acquire_ctx *x, ww_seat *s, const struct timespec *until);
-WW_HIDDEN void ww_end_wait(struct ww_mutex *m, struct ww_acquire_ctx *x, ww_seat *s, int r);
-/* What a lock call returns whose last step returned r. */
-WW_HIDDEN int ww_lock_ends(struct ww_mutex *m, struct ww_acquire_ctx *x, ww_seat *s, int r);
 /* The mutex of a number, and what its lock call returns: see ww_number.c. */
 WW_HIDDEN struct ww_mutex *ww_number_asked(const char *call, uint32_t number, const struct ww_acquire_ctx *x, int r);
 WW_HIDDEN int ww_number_told(struct ww_mutex *m, const struct ww_acquire_ctx *x, int r);
@@ -161,7 +199,7 @@ WW_HIDDEN void ww_crowd_open(struct ww_pool *p);
 /* Called in a crowd before a context begins: waits for a permit, until a time if that isn't NULL. */
 WW_HIDDEN void ww_await_permit(struct ww_pool *p, const struct timespec *until);
 /* How many threads wait for one. */
-WW_HIDDEN uint32_t ww_permit_seekers(struct ww_pool *p);
+static inline uint32_t permit_seekers(const struct ww_pool *p) { return __atomic_load_n(&p->crowd.waiting, __ATOMIC_RELAXED); }
 static inline bool is_crowded(const struct ww_pool *p) { return __atomic_load_n(&p->at_hand, __ATOMIC_RELAXED) == CROWDED; }
 /* Whether the mutex could be acquired. It may be out of date when it returns, unless nobody else uses the mutex. */
 WW_HIDDEN bool ww_is_released(struct ww_pool *p, struct ww_mutex *m);
@@ -184,10 +222,10 @@ static inline void count(uint64_t *counted)
 static inline uint32_t taken_numbers(const struct ww_pool *p) { return __atomic_load_n(&p->taken, __ATOMIC_ACQUIRE); }
 
 /* The number of seats that contexts may have. */
-static inline uint32_t seats_of(const struct ww_pool *p) { return p->kept + p->loose.count + p->tasks.count; }
+static inline uint32_t seats_of(const struct ww_pool *p) { return p->threads.count + p->tasks.count; }
 
 /* The seats that polls use. */
-static inline struct ww_loose *of_tasks(struct ww_pool *p) { return p->tasks.count ? &p->tasks : &p->loose; }
+static inline struct ww_seats *of_tasks(struct ww_pool *p) { return p->tasks.count ? &p->tasks : &p->threads; }
 
 /* NULL if it has no number.  Otherwise the caller sees its number too, whichever thread gave it. */
 static inline struct ww_pool *pool_at(const struct ww_mutex *m) { return __atomic_load_n(&m->pool, __ATOMIC_ACQUIRE); }
@@ -220,9 +258,9 @@ static inline void is_user(ww_seat *s) { __atomic_store_n(&s->user, ww_mine.thre
  */
 static inline ww_seat *use_kept(ww_seat *s)
 {
-	if (UNLIKELY(__atomic_load_n(&s->busy, __ATOMIC_ACQUIRE)))
+	if (UNLIKELY(__atomic_load_n(&s->busy, __ATOMIC_ACQUIRE) != IS_KEPT))
 		return NULL;
-	__atomic_store_n(&s->busy, BUSY, __ATOMIC_RELAXED);
+	__atomic_store_n(&s->busy, IS_KEPT | BUSY, __ATOMIC_RELAXED);
 	NEVER(!s);
 	return s;
 }
@@ -241,39 +279,31 @@ static inline ww_seat *seat_at_once(struct ww_pool *p)
 	return LIKELY(s) ? s : ww_other_seat(p);
 }
 
-static inline bool has_seekers(const struct ww_loose *of) { return __atomic_load_n(&of->seekers, __ATOMIC_SEQ_CST); }
+static inline bool has_seekers(const struct ww_seats *of) { return __atomic_load_n(&of->seekers, __ATOMIC_SEQ_CST); }
 
-/* If it is in use, its `busy` is added to `seen`. */
-static inline bool claim(ww_seat *s, uint64_t *seen)
+/* If it is neither in use nor kept.  `was` is its `busy` before. */
+static inline bool claim(ww_seat *s, uint32_t *was)
 {
-	uint32_t was = __atomic_load_n(&s->busy, __ATOMIC_SEQ_CST);
-
 	NEVER(!s);
-	while (!(was & BUSY))
-		if (__atomic_compare_exchange_n(&s->busy, &was, was | BUSY, false, __ATOMIC_SEQ_CST, __ATOMIC_SEQ_CST))
+	*was = __atomic_load_n(&s->busy, __ATOMIC_SEQ_CST);
+	while (!(*was & (BUSY | IS_KEPT)))
+		if (__atomic_compare_exchange_n(&s->busy, was, *was | BUSY, false, __ATOMIC_SEQ_CST, __ATOMIC_SEQ_CST))
 			return true;
-	*seen += was;
 	return false;
 }
 
-/*
- * Whether a begin has to wait for others, even if a seat is free.  Where tasks have seats of their own, handing each to the
- * task that waits longest would make each context a change of tasks.  So the task that gives a seat calls one that waits,
- * unless one that was called for this seat hasn't looked yet, and others begin meanwhile.  If the first in the queue finds no
- * seat free, it is owed the next one: that is handed to it, and until then nobody else begins.
- */
-static inline bool is_barred(const struct ww_loose *of, const struct ww_pool *p)
-{
-	return of == &p->loose ? has_seekers(of) : __atomic_load_n(&of->owed, __ATOMIC_SEQ_CST);
-}
+static inline bool has_due(const struct ww_seats *of) { return __atomic_load_n(&of->due, __ATOMIC_SEQ_CST); }
 
-/* The loose seat that this thread used last, if it belongs to the class, or the tasks, with this number, and is free. */
-static inline ww_seat *claim_last(const struct ww_loose *of, const struct ww_pool *p, uint64_t id)
+/* Whether one that comes has to wait for others, even if a seat is free. */
+static inline bool is_barred(const struct ww_seats *of, const struct ww_pool *p) { return of == &p->threads ? has_seekers(of) : has_due(of); }
+
+/* The seat that this thread used last, if it belongs to the class, or the tasks, with this number, and is free. */
+static inline ww_seat *claim_last(const struct ww_seats *of, const struct ww_pool *p, uint64_t id)
 {
 	ww_seat *s = ww_mine.last.seat;
-	uint64_t seen = 0;
+	uint32_t was;
 
-	return LIKELY(ww_mine.last.id == id) && LIKELY(!is_barred(of, p)) && LIKELY(claim(s, &seen)) ? s : NULL;
+	return LIKELY(ww_mine.last.id == id) && LIKELY(!is_barred(of, p)) && LIKELY(claim(s, &was)) ? s : NULL;
 }
 
 /*
@@ -284,7 +314,7 @@ static inline ww_seat *claim_last(const struct ww_loose *of, const struct ww_poo
  *
  * `ages` is how many contexts may still have this age, the present one included, plus MET.  It is MET if the present one met
  * somebody; and 0 if that one acquires by hand, or neither the seat nor the proved library has a context.  Only its keeper lets
- * a seat rest, so a loose seat never does.
+ * a seat rest, so one without a keeper never does.
  */
 enum { MET = 1, SHARE_AGE = 16 };
 
@@ -319,21 +349,10 @@ static inline void may_be_older(struct ww_acquire_ctx *x)
 static inline void give_seat(ww_seat *s)
 {
 	if (LIKELY(__atomic_load_n(&s->keeper, __ATOMIC_RELAXED) == ww_mine.thread))
-		__atomic_store_n(&s->busy, IDLE, __ATOMIC_RELEASE);
+		__atomic_store_n(&s->busy, IS_KEPT, __ATOMIC_RELEASE);
 	else
 		ww_give_seat(s);
 }
-
-/*
- * The spare seat, which no context has.  It cancels waits, and finds out whether a lock is free, which is to be done
- * immediately, even if all contexts are in use.
- */
-static inline ww_seat *borrow_spare(struct ww_pool *p)
-{
-	pthread_mutex_lock(&p->spare);
-	return &p->seats[seats_of(p)];
-}
-static inline void put_spare(struct ww_pool *p) { pthread_mutex_unlock(&p->spare); }
 
 /* The pool of a context that has ended, or whose lock calls take the long way: no mutex has this pool. */
 #define NO_POOL ((struct ww_pool *)1)
@@ -347,8 +366,13 @@ enum {
 	IS_DONE = 16, /* which no call but ww_acquire_done itself refuses */
 	WAS_TOLD = 32,
 	WAS_INJECTED = 64,
-	IS_POLLED = 128, /* a lock call of ww_poll.h waits */
+	IS_POLLED = 128, /* a lock call of ww_poll.h waits, for `polled` */
+	IS_PRELOCKED = 256, /* the context has waited for `prelocked` before the body asked for that, as it has yet to do */
 };
+
+/* From the -EINPROGRESS of a lock call to its end: any other call returns -EBUSY, or ends the program, and changes nothing. */
+static inline bool is_polled(const struct ww_acquire_ctx *x) { return UNLIKELY(x->state & IS_POLLED); }
+#define WAITS_BY_POLL "the context waits by a poll"
 
 /* In a forked child a call by the seat never ends (go_on of ww_mutex.c), so each further one returns -EBUSY. */
 static inline bool is_let_go(const ww_seat *s, int r) { return r == -EBUSY && s->pool->gone; }
@@ -369,17 +393,18 @@ static inline bool fits(const struct ww_mutex *m, const struct ww_acquire_ctx *x
 	return x ? x->own && pool_at(m) == x->own->pool : pool_at(m) != NULL;
 }
 
-/* How to lock a mutex. HEEDS: a cancel may end the wait. SLOWLY: it is the first lock after -EDEADLK. */
-enum { STAYS = 0, HEEDS = 1, SLOWLY = 2 };
 /* Makes all steps of a lock by this seat, which is the context's, if that isn't NULL. */
-WW_HIDDEN int ww_lock_by(struct ww_mutex *m, struct ww_acquire_ctx *x, ww_seat *s, unsigned int way, const struct timespec *until);
+WW_HIDDEN int ww_lock_by(struct ww_mutex *m, struct ww_acquire_ctx *x, ww_seat *s, const struct ww_wait *how);
+/* Makes all steps after the first one, which returned r; or after a sleep of a poll, with r -EINPROGRESS. */
+WW_HIDDEN int ww_lock_on(struct ww_mutex *m, struct ww_acquire_ctx *x, ww_seat *s, int r, const struct ww_wait *how);
 /* Makes all steps of a release after the first one, which returned r, not 0. */
 WW_HIDDEN int ww_release_on(ww_seat *s, int r);
 /* Locks in a loop. */
-WW_HIDDEN int ww_lock_in_loop(struct ww_mutex *m, struct ww_acquire_ctx *x, unsigned int way, const struct timespec *until);
+WW_HIDDEN int ww_lock_in_loop(struct ww_mutex *m, struct ww_acquire_ctx *x, const struct ww_wait *how);
 /* What a lock call in a loop returns, if the proved library returned r. */
 WW_HIDDEN int ww_looped(struct ww_mutex *m, struct ww_acquire_ctx *x, int r);
-WW_HIDDEN bool ww_was_prelocked(struct ww_acquire_ctx *x, struct ww_mutex *m);
+/* Whether a lock call of a mutex that its context holds already succeeds: see ww_loop.c. */
+WW_HIDDEN bool ww_has_for(struct ww_acquire_ctx *x, struct ww_mutex *m, bool twice);
 /* Removes the mutex from the list of what the context acquired. */
 static inline void unlist(struct ww_acquire_ctx *x, const struct ww_mutex *m)
 {

@@ -116,6 +116,14 @@ static void any(struct mine *m, unsigned op, unsigned n, bool heeds)
 		MUST(r == (m->pending ? -EBUSY : n < LOCKS && m->own[n] ? 0 : -EINVAL));
 		break;
 	case 10: r = idle(m); break;
+	case 11:
+		r = ww_heed_(h);
+		MUST(m->pending ? !r || r == -EBUSY : r == -EINVAL);
+		break;
+	case 12:
+		r = ww_is_free_(h, (uint8_t)n);
+		MUST(r == -EBUSY || (!m->pending && (r == -EINVAL ? n >= LOCKS : n >= LOCKS || !m->own[n])));
+		break;
 	default:
 		r = turn(h);
 		ends(m, r);
@@ -150,7 +158,7 @@ static void empty_handles(ww_handle *h)
 {
 	MUST(ww_begin_(h) == -EINVAL && ww_end_(h) == -EINVAL && ww_done_(h) == -EINVAL);
 	MUST(ww_lock_(h, 0, true) == -EINVAL && ww_lock_slow_(h, 0, false) == -EINVAL && ww_try_(h, 0) == -EINVAL);
-	MUST(ww_unlock_(h, 0) == -EINVAL && ww_has_(h, 0) == -EINVAL);
+	MUST(ww_unlock_(h, 0) == -EINVAL && ww_has_(h, 0) == -EINVAL && ww_is_free_(h, 0) == -EINVAL && ww_heed_(h) == -EINVAL);
 	MUST(turn(h) == -EINVAL && ww_cancel_(h, 0) == -EINVAL && ww_next_wake_(h) == -EINVAL && !ww_idle_(h) && !ww_close_(h));
 }
 

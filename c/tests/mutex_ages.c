@@ -5,6 +5,7 @@
  */
 #include "mutex_test.h"
 #include "../ww_number.h"
+#include "../ww_poll.h"
 #include <semaphore.h>
 #include <sys/wait.h>
 
@@ -130,15 +131,25 @@ static void context_checked(void (*lock)(void))
 	MUST(!ww_acquire_fini_checked(&x));
 }
 
-/* y, which has begun, holds nothing, and x holds the first mutex or the number: whether x is the older one. */
+static void never(void *loop, void *task) { MUST(loop == task && !loop); }
+
+static int asks(const struct ww_waker *waker)
+{
+	return ww_number_is_held(number, &x) ? ww_number_lock_poll(number, &y, waker) : ww_mutex_lock_poll(&m[0], &y, waker);
+}
+
+/*
+ * y, which has begun, holds nothing, and x holds the first mutex or the number: whether x is the older one.  A poll says so
+ * immediately; if y would wait, that wait ends.
+ */
 static bool is_older(void)
 {
-	struct timespec soon = in_ms(5);
+	const struct ww_waker waker = { never, &x, NULL };
 	int r;
 
 	MUST(!ww_mutex_lock(&m[1], &y));
-	r = ww_number_is_held(number, &x) ? ww_number_lock_until(number, &y, &soon) : ww_mutex_lock_until(&m[0], &y, &soon);
-	MUST(r == -EDEADLK || r == -ETIMEDOUT);
+	r = asks(&waker);
+	MUST(r == -EDEADLK || (r == -EINPROGRESS && asks(NULL) == -ETIMEDOUT));
 	ww_mutex_unlock(&m[1]);
 	return r == -EDEADLK;
 }
@@ -277,10 +288,10 @@ static void y_lets_0_go(void)
 /* The thread that runs this context sleeps, so it stands in the list of a mutex. */
 static void awaits_sleeper(struct ww_acquire_ctx *of)
 {
-	enum { ASLEEP = 2 };
+	enum { LEAST_ASLEEP = 2 };
 	ww_seat *s;
 
-	while (!(s = __atomic_load_n(&of->own, __ATOMIC_ACQUIRE)) || __atomic_load_n(&s->token, __ATOMIC_SEQ_CST) != ASLEEP)
+	while (!(s = __atomic_load_n(&of->own, __ATOMIC_ACQUIRE)) || __atomic_load_n(&s->token, __ATOMIC_SEQ_CST) < LEAST_ASLEEP)
 		usleep(100);
 }
 static void y_lets_0_go_late(void)
@@ -573,17 +584,24 @@ static void *of_few_behind_it(void *other)
 	x_is_younger(other);
 	return NULL;
 }
+int ww_class_open_kept(struct ww_class *c, uint32_t kept); /* ww_pool.h */
 static void no_age_is_left_behind(void)
 {
 	struct ww_mutex other;
 
-	ww_mutex_init(&its, &few);
-	ww_mutex_init(&other, &few);
-	end_thread(begin_thread(of_few_elsewhere, NULL));
-	there(y_of_few);
-	end_thread(begin_thread(of_few_behind_it, &other));
-	there(y_ends);
-	MUST(!ww_mutex_destroy(&its) && !ww_mutex_destroy(&other) && !ww_class_free(&few));
+	/* Of two seats y has one, and the thread behind it the other: each of these is once the one that was left. */
+	for (unsigned k = 0; k < 4; k++) {
+		MUST(!ww_class_limit(&few, 4, 1) && !ww_class_open_kept(&few, 1));
+		ww_mutex_init(&its, &few);
+		ww_mutex_init(&other, &few);
+		for (unsigned left = 0; left <= k % 2; left++)
+			end_thread(begin_thread(of_few_elsewhere, NULL));
+		there(y_of_few);
+		end_thread(begin_thread(of_few_behind_it, &other));
+		there(y_ends);
+		MUST(!ww_mutex_destroy(&its) && !ww_mutex_destroy(&other) && !ww_class_free(&few));
+	}
+	MUST(!ww_class_limit(&few, 0, 0));
 }
 
 /* The class goes though seats rest, in a child as well. */

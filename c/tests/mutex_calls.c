@@ -53,6 +53,107 @@ static void answers(struct ww_class *c)
 	MUST(!ww_mutex_destroy(&a));
 }
 
+static void is_no_context(struct ww_acquire_ctx *x, struct ww_mutex *a, struct ww_mutex *b)
+{
+	struct ww_mutex *const list[] = { a, b, a };
+
+	for (size_t count = 0; count <= 3; count++)
+		MUST(ww_mutex_lock_all(x, list, count) == -EINVAL);
+	MUST(ww_mutex_lock(a, x) == -EINVAL && ww_mutex_lock_interruptible(a, x) == -EINVAL);
+	MUST(ww_mutex_trylock_checked(a, x) == -EINVAL && ww_mutex_lock_slow_checked(a, x) == -EINVAL);
+	MUST(ww_acquire_fini_checked(x) == -EINVAL && ww_acquire_done_checked(x) == -EINVAL);
+	MUST(ww_acquire_cancel(x) == -EINVAL && !ww_mutex_is_held_by(a, x) && !ww_mutex_is_locked(a));
+}
+
+/* Memory that is all zero is no context, nor is one that couldn't be begun there, or has ended. */
+static void no_context(struct ww_class *c)
+{
+	struct ww_class one;
+	struct ww_mutex a, b;
+	struct ww_acquire_ctx x, y;
+
+	ww_class_init(&one, c->is_wait_die, "one");
+	MUST(!ww_class_limit(&one, 4, 1));
+	ww_mutex_init(&a, &one);
+	ww_mutex_init(&b, &one);
+	memset(&x, 0, sizeof x);
+	is_no_context(&x, &a, &b);
+	ww_acquire_init(&y, &one);
+	for (unsigned k = 0; k < 3; k++) { /* what was there before is no matter */
+		memset(&x, k % 2 ? 0xff : 0, sizeof x);
+		MUST(ww_acquire_init_checked(&x, &one) == -EAGAIN);
+		is_no_context(&x, &a, &b);
+	}
+	ww_acquire_fini(&y);
+	is_no_context(&y, &a, &b);
+	MUST(!ww_mutex_destroy(&a) && !ww_mutex_destroy(&b) && !ww_class_free(&one));
+}
+
+/*
+ * After a back-off the next lock waits for the contended mutex first; a mark doesn't count that one until the body asks for it.
+ * If the body releases it before, it is owed no more.
+ */
+static void owed_and_released(void)
+{
+	struct ww_mutex a, b, d;
+	struct ww_acquire_ctx x, y;
+	unsigned rounds = 0;
+
+	ww_mutex_init(&a, &other);
+	ww_mutex_init(&b, &other);
+	ww_mutex_init(&d, &other);
+	ww_acquire_init(&x, &other); /* the older one */
+	MUST(!ww_mutex_lock(&a, &x));
+	ww_acquire_init(&y, &other);
+	ww_until_all_locked(&y) {
+		MUST(!ww_mutex_lock(rounds ? &d : &b, &y));
+		if (!rounds++) {
+			MUST(ww_acquire_mark(&y) == 1 && ww_mutex_lock(&a, &y) == -EDEADLK && ww_is_contended(&y));
+			ww_mutex_unlock(&a);
+			ww_retry_on_contention(&y);
+		}
+		MUST(ww_mutex_is_held_by(&a, &y) && y.acquired == 2 && ww_acquire_mark(&y) == 1);
+		ww_mutex_unlock(&a);
+		MUST(y.acquired == 1 && ww_acquire_mark(&y) == 1);
+		MUST(!ww_mutex_lock(&b, &y) && ww_acquire_mark(&y) == 2);
+		ww_acquire_unlock_to(&y, 2);
+		MUST(!ww_mutex_lock(&a, &y) && ww_acquire_mark(&y) == 3);
+		ww_acquire_unlock_to(&y, 1);
+		MUST(y.acquired == 1 && ww_mutex_is_held_by(&d, &y));
+	}
+	MUST(rounds == 2);
+	ww_acquire_unlock_all(&y);
+	ww_acquire_fini(&y);
+	ww_acquire_fini(&x);
+	MUST(!ww_mutex_destroy(&a) && !ww_mutex_destroy(&b) && !ww_mutex_destroy(&d));
+}
+
+/* A list for which the context gives way, since it held something before, leaves it as it was, and in no loop. */
+static void list_gives_way(unsigned flags)
+{
+	struct ww_mutex a, b, d;
+	struct ww_mutex *const list[] = { &d, &a };
+	struct ww_acquire_ctx x, y;
+
+	ww_mutex_init(&a, &other);
+	ww_mutex_init(&b, &other);
+	ww_mutex_init(&d, &other);
+	ww_acquire_init(&x, &other);
+	MUST(!ww_mutex_lock(&a, &x));
+	ww_acquire_init(&y, &other);
+	ww_acquire_flags(&y, flags);
+	MUST(!ww_mutex_lock(&b, &y) && ww_mutex_lock_all(&y, list, 2) == -EDEADLK);
+	MUST(!ww_is_contended(&y) && y.acquired == 1 && ww_mutex_is_held_by(&b, &y) && !ww_mutex_is_locked(&d));
+	ww_mutex_unlock(&b);
+	ww_mutex_unlock(&a);
+	MUST(!ww_is_contended(&y) && !ww_mutex_lock_all(&y, list, 2) && !ww_is_contended(&y));
+	ww_mutex_unlock(&a);
+	ww_mutex_unlock(&d);
+	ww_acquire_fini(&y);
+	ww_acquire_fini(&x);
+	MUST(!ww_mutex_destroy(&a) && !ww_mutex_destroy(&b) && !ww_mutex_destroy(&d));
+}
+
 /* Without a context a thread holds several at once, also while it has a context. */
 static void without_context(struct ww_class *c)
 {
@@ -255,6 +356,7 @@ int main(void)
 		MUST(!!c->is_wait_die == (kind == 1) && !c->pool);
 		for (unsigned again = 0; again < 2; again++) {
 			answers(c);
+			no_context(c);
 			without_context(c);
 			two_contexts(c, again);
 			another_class(c);
@@ -264,6 +366,9 @@ int main(void)
 		numbers(c);
 		in_memory((int)kind);
 	}
+	owed_and_released();
+	list_gives_way(0);
+	list_gives_way(WW_IGNORE_DUPLICATES);
 	MUST(!ww_class_free(&other));
 	puts("mutex_calls: each answer as due");
 	return 0;

@@ -1,7 +1,8 @@
 /*
  * Two copies of the library in one program, as two plugins that are linked with the archive have.  Each has classes of its
  * own, whose contexts work.  For a class that the other copy opened, each call that takes a seat, or is about the whole class,
- * ends the program with a message.  mutex_copies LIBRARY LIBRARY
+ * ends the program with a message.  A plugin that was closed and is loaded again, wherever it lies then, is another copy.
+ * mutex_copies LIBRARY LIBRARY, of which the first one is gone once it is closed.
  */
 #include "mutex_test.h"
 #include <dlfcn.h>
@@ -32,7 +33,7 @@ static void *named(void *handle, const char *name)
 	return it;
 }
 
-static void load(struct copy *it, const char *library)
+static void *load(struct copy *it, const char *library)
 {
 	void *handle = dlopen(library, RTLD_NOW | RTLD_LOCAL);
 
@@ -46,6 +47,7 @@ static void load(struct copy *it, const char *library)
 	*(void **)&it->open = named(handle, "ww_class_open");
 	*(void **)&it->free = named(handle, "ww_class_free");
 	*(void **)&it->stats = named(handle, "ww_class_stats");
+	return handle;
 }
 
 /* Each call by the second copy of what is the first one's: where it isn't refused it may find the mutex free, which is held. */
@@ -68,7 +70,49 @@ static void does(unsigned what)
 	}
 }
 
-static void is_refused(unsigned what)
+/* Each copy has a class, and the thread keeps a seat of it. */
+static void uses(unsigned k)
+{
+	struct ww_acquire_ctx x;
+
+	owns[k].c = (struct ww_class){ .name = "one" };
+	copies[k].make(&owns[k].m, &owns[k].c);
+	copies[k].begin(&x, &owns[k].c);
+	copies[k].end(&x);
+}
+
+static void by_two_copies(unsigned what)
+{
+	struct ww_acquire_ctx x;
+
+	uses(0);
+	uses(1);
+	copies[0].begin(&x, &owns[0].c);
+	MUST(!copies[0].lock(&owns[0].m, &x));
+	does(what);
+}
+
+static const char *plugin;
+
+/* The second copy is the first one, loaded again, which has opened no class or as many. */
+static void by_one_loaded_again(unsigned what)
+{
+	void *first = load(&copies[0], plugin);
+	struct ww_acquire_ctx x;
+
+	uses(0);
+	copies[0].begin(&x, &owns[0].c);
+	MUST(!copies[0].lock(&owns[0].m, &x));
+	copies[0].unlock(&owns[0].m);
+	copies[0].end(&x);
+	MUST(!dlclose(first));
+	load(&copies[1], plugin);
+	if (what >= 5)
+		uses(1);
+	does(what % 5);
+}
+
+static void is_refused(void (*by)(unsigned what), unsigned what)
 {
 	char told[200] = "";
 	int ends[2], status;
@@ -77,18 +121,9 @@ static void is_refused(unsigned what)
 	MUST(!pipe(ends));
 	child = fork();
 	if (!child) {
-		struct ww_acquire_ctx x;
-
+		alarm(60);
 		dup2(ends[1], 2);
-		for (unsigned k = 0; k < 2; k++) {
-			owns[k].c = (struct ww_class){ .name = "one" };
-			copies[k].make(&owns[k].m, &owns[k].c);
-			copies[k].begin(&x, &owns[k].c); /* so the thread keeps a seat of each */
-			copies[k].end(&x);
-		}
-		copies[0].begin(&x, &owns[0].c);
-		MUST(!copies[0].lock(&owns[0].m, &x));
-		does(what);
+		by(what);
 		_exit(0);
 	}
 	close(ends[1]);
@@ -100,11 +135,14 @@ static void is_refused(unsigned what)
 int main(int count, char **words)
 {
 	MUST(count == 3);
+	plugin = words[1];
+	for (unsigned what = 0; what < 10; what++)
+		is_refused(by_one_loaded_again, what);
 	for (unsigned k = 0; k < 2; k++)
 		load(&copies[k], words[1 + k]);
 	MUST(copies[0].begin != copies[1].begin);
 	for (unsigned what = 0; what < 5; what++)
-		is_refused(what);
+		is_refused(by_two_copies, what);
 	/* A context that one copy began may be used, and ended, by the other. */
 	for (unsigned k = 0; k < 2; k++) {
 		struct own *own = &owns[k];

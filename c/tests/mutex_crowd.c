@@ -149,6 +149,26 @@ static void *begins_late(void *arg)
 	return NULL;
 }
 
+/* ---- who can't wait until a permit begins is promised none, so that others don't wait for what nobody uses ---- */
+
+static void *begins_soon(void *arg)
+{
+	pthread_barrier_wait(&meet);
+	for (unsigned k = 0; in_crowd() && k < 50 * TIMES; k++) {
+		struct timespec soon;
+		struct ww_acquire_ctx x;
+
+		MUST(!clock_gettime(CLOCK_MONOTONIC, &soon));
+		soon.tv_nsec += soon.tv_nsec < 999999000 ? 1000 : 0;
+		if (!ww_acquire_init_until(&x, c, &soon))
+			ww_acquire_fini(&x);
+	}
+	pthread_barrier_wait(&meet);
+	for (unsigned k = 0; !arg && k < permits; k++)
+		MUST((double)c->pool->crowd.ends[k] * 1e-9 < seconds() + 0.01);
+	return NULL;
+}
+
 /* ---- hot mutexes ---- */
 
 static unsigned long made[MOST];
@@ -230,7 +250,7 @@ static void calms_down(void)
 		ww_acquire_init(&x, c);
 		ww_acquire_fini(&x);
 	}
-	MUST(!c->pool->crowd.first && !c->pool->crowd.asleep);
+	MUST(!c->pool->crowd.waiting && !c->pool->crowd.asleep);
 }
 
 /* ---- a child ---- */
@@ -296,6 +316,7 @@ static void crowds(void)
 	begin_crowd();
 	in_many(many, begins_two);
 	in_many(many, begins_late);
+	in_many(many, begins_soon);
 	end_crowd();
 	calms_down();
 	forks();

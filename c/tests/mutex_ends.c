@@ -3,6 +3,8 @@
  * the call: each such end is that of a child.  And what a forked child may do.
  */
 #include "mutex_test.h"
+#include "../ww_number.h"
+#include "../ww_poll.h"
 #include <signal.h>
 #include <sys/wait.h>
 
@@ -70,6 +72,49 @@ static void loop_while_it_holds(void)
 {
 	ww_until_all_locked(&x) {}
 }
+
+/* Amid a wait by a poll, in a class of the child's own. */
+static void never(void *loop, void *task) { MUST(loop == task && !loop); }
+static void amid_a_wait(void (*what)(struct ww_acquire_ctx *waits, struct ww_mutex *holds), bool it_holds)
+{
+	static DEFINE_WW_CLASS(own);
+	const struct ww_waker waker = { never, &x, NULL };
+	struct ww_acquire_ctx waits, holds;
+	struct ww_mutex m, n;
+
+	ww_mutex_init(&m, &own);
+	ww_mutex_init(&n, &own);
+	ww_acquire_init(&waits, &own);
+	ww_acquire_init(&holds, &own);
+	if (it_holds)
+		MUST(!ww_mutex_lock(&m, &waits));
+	MUST(!ww_mutex_lock(&n, &holds) && ww_mutex_lock_poll(&n, &waits, &waker) == -EINPROGRESS);
+	what(&waits, it_holds ? &m : NULL);
+}
+static void loops(struct ww_acquire_ctx *waits, struct ww_mutex *holds)
+{
+	MUST(!holds);
+	ww_until_all_locked(waits) {}
+}
+static void unlocks(struct ww_acquire_ctx *waits, struct ww_mutex *holds)
+{
+	(void)waits;
+	ww_mutex_unlock(holds);
+}
+static void finishes(struct ww_acquire_ctx *waits, struct ww_mutex *holds)
+{
+	(void)holds;
+	ww_acquire_fini(waits);
+}
+static void unlocks_all(struct ww_acquire_ctx *waits, struct ww_mutex *holds)
+{
+	(void)holds;
+	ww_number_unlock_all(waits);
+}
+static void loop_amid_a_wait(void) { amid_a_wait(loops, false); }
+static void unlock_amid_a_wait(void) { amid_a_wait(unlocks, true); }
+static void unlock_all_amid_a_wait(void) { amid_a_wait(unlocks_all, true); }
+static void fini_amid_a_wait(void) { amid_a_wait(finishes, false); }
 
 /* Of a class that was opened before the fork a child gets nothing. */
 static void inits_in_a_child(void)
@@ -214,6 +259,10 @@ int main(void)
 	ends(locks_in_a_child, "ww_mutex_lock: class \"other\": it was opened before a fork");
 	MUST(!ww_mutex_lock(&b, &y) && ww_mutex_lock(&a, &y) == -EDEADLK);
 	ends(slow_while_it_holds, "ww_mutex_lock_slow: class \"c\": no -EDEADLK of this mutex came before");
+	ends(loop_amid_a_wait, "ww_until_all_locked: the context");
+	ends(unlock_amid_a_wait, "ww_mutex_unlock: ");
+	ends(unlock_all_amid_a_wait, "ww_number_unlock_all: class \"own\": the context waits by a poll");
+	ends(fini_amid_a_wait, "ww_acquire_fini: ");
 	forks();
 	ww_mutex_unlock(&a);
 	ww_mutex_unlock(&b);

@@ -7,7 +7,7 @@
 #include "../ww_pool.h"
 
 enum state { EASE, OWES, TOLD, TOLD_OWES, TOLD_BARE, FIRST, EASE_BARE };
-enum call { LOCK, HEED, UNTIL, SLOW, TRY, UNLOCK, UNLOCK_ALL, BACK_OFF, ALL };
+enum call { LOCK, HEED, UNTIL, SLOW, TRY, UNLOCK, UNLOCK_ALL, BACK_OFF, ALL, AGAIN, TWICE };
 /* `it` is where -EDEADLK came last, or what is owed; `held` is another that the context holds, where it holds one. */
 enum which { IT, HELD, FREE, TAKEN, OWED };
 static const char *const states[] = { "ease", "owes", "told", "told, owes", "told, bare", "first", "ease, bare" };
@@ -51,6 +51,8 @@ static const struct row rows[] = {
 	{ OWES, HEED, TAKEN, true, -EINTR, OWES, 0 },
 	{ OWES, SLOW, IT, true, -EINVAL, OWES, 0 },
 	{ OWES, UNLOCK, IT, true, 0, OWES, 0 },
+	{ OWES, AGAIN, IT, true, 0, EASE, 0 },
+	{ OWES, TWICE, IT, true, -EALREADY, EASE, 0 },
 	{ OWES, UNLOCK_ALL, IT, true, 0, EASE_BARE, 0 },
 	{ OWES, ALL, FREE, true, -EINVAL, OWES, 0 },
 	{ OWES, ALL, IT, true, -EINVAL, OWES, 0 },
@@ -163,7 +165,7 @@ static void comes_to(enum state state)
 
 static enum state state_of(void)
 {
-	bool told = x.state & HAS_TO_BACK_OFF, first = x.state & WAITS_FIRST, owes = x.prelocked;
+	bool told = x.state & HAS_TO_BACK_OFF, first = x.state & WAITS_FIRST, owes = x.state & IS_PRELOCKED;
 
 	MUST(told + first < 2 && told == ww_is_contended(&x) && !(first && (owes || x.acquired)));
 	if (told)
@@ -183,6 +185,8 @@ static int makes(const struct row *row, struct ww_mutex *m)
 	case TRY: return ww_mutex_trylock(m, &x);
 	case UNLOCK: return ww_mutex_unlock_checked(m);
 	case UNLOCK_ALL: ww_acquire_unlock_all(&x); return 0;
+	case AGAIN: ww_mutex_unlock(m); return ww_mutex_lock(m, &x);
+	case TWICE: MUST(!ww_mutex_lock(m, &x)); return ww_mutex_lock(m, &x);
 	case BACK_OFF: backs_off(); return 0;
 	default: return ww_mutex_lock_all(&x, &m, 1);
 	}
@@ -221,6 +225,8 @@ static void walks(const struct row *row)
 		MUST((m->ctx == &x) == (got || was_held));
 		MUST(x.acquired == before + (got && !was_held) + (row->from == FIRST && it.ctx == &x && m != &it));
 	}
+	/* What it owes isn't counted, as long as it holds that. */
+	MUST(ww_acquire_mark(&x) == x.acquired - (x.state & IS_PRELOCKED && x.prelocked->ctx == &x));
 	/* Behind it all that it had to do can be done, and the loop ends. */
 	if (row->then == FIRST || row->then == TOLD_BARE || row->then == TOLD || row->then == TOLD_OWES) {
 		ww_acquire_flags(&x, 0);
@@ -265,6 +271,23 @@ static void is_told_once(void)
 	ww_acquire_fini(&older);
 }
 
+/* No call succeeds by what a context keeps of loops alone: the library has to have the lock for it, and it has to be in one. */
+static void asks_the_library(void)
+{
+	ww_acquire_init(&x, &wait_die);
+	x.state |= IS_PRELOCKED;
+	x.prelocked = &held;
+	MUST(!ww_mutex_lock(&held, &x) && !ww_has_for(&x, &held, true) && ww_mutex_trylock(&held, &x) == 0);
+	ww_mutex_unlock(&held);
+	ww_until_all_locked(&x) {
+		x.state |= IS_PRELOCKED;
+		x.prelocked = &held;
+		MUST(!ww_has_for(&x, &held, true) && !ww_mutex_lock(&unheld, &x) && ww_mutex_lock(&unheld, &x) == -EALREADY);
+	}
+	ww_acquire_unlock_all(&x);
+	ww_acquire_fini(&x);
+}
+
 int main(void)
 {
 	struct ww_mutex *all[] = { &it, &held, &owed, &unheld, &taken };
@@ -275,6 +298,7 @@ int main(void)
 	for (unsigned k = 0; k < sizeof rows / sizeof *rows; k++)
 		walks(&rows[k]);
 	is_told_once();
+	asks_the_library();
 	for (unsigned k = 0; k < 5; k++)
 		MUST(!ww_mutex_destroy(all[k]));
 	MUST(!ww_class_free(&wait_die));

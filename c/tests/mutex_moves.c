@@ -109,11 +109,9 @@ static void *works(void *arg)
 static void nothing_is_lost(uint32_t contexts, uint32_t kept)
 {
 	struct ww_acquire_ctx all[64];
-	uint32_t at_once = contexts + !!kept, may_be_kept = 0;
+	uint32_t at_once = contexts + kept;
 
-	for (const ww_seat *s = c.pool->unkept; s; s = s->next)
-		may_be_kept++;
-	MUST(may_be_kept == kept);
+	MUST(!c.pool->kept && c.pool->may_keep == kept);
 	for (uint32_t k = 0; k < at_once; k++)
 		MUST(!ww_acquire_init_checked(&all[k], &c));
 	MUST(ww_acquire_init_checked(&all[at_once], &c) == -EAGAIN);

@@ -12,7 +12,7 @@ struct tried {
 	void *p;
 };
 
-static long made, live, keys, refused = -1;
+static long made, live, keys, refused; /* as the program is loaded, the first */
 static char nothing[16];
 
 static struct tried told(void *p) { return (struct tried){ p != NULL, p ? p : nothing }; }
@@ -53,7 +53,7 @@ struct tried rattle_realloc(void *p, size_t kept, size_t size, size_t align)
 void rattle_dealloc(void *p) { free(p); }
 
 /* It returns nothing to the system. */
-void ww_heap_opens(struct ww_blocks *its) { (void)its; }
+void ww_heap_opens(void) { }
 void ww_heap_opened(void) { }
 
 void *__wrap_aligned_alloc(size_t align, size_t size)

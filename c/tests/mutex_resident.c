@@ -8,7 +8,7 @@
 #include <sys/mman.h>
 
 /* Of so many mutexes so many are used, whose words lie all over the class; and of these one in so many is waited for. */
-enum { MUTEXES = 1 << 20, NUMBERS = MUTEXES / 4, WAITS = 16, APART = NUMBERS / WAITS, MiB = 1 << 20 };
+enum { MUTEXES = 1 << 20, NUMBERS = MUTEXES / 4, WAITERS = 16, APART = NUMBERS / WAITERS, MiB = 1 << 20 };
 
 static DEFINE_WW_CLASS(wound_wait);
 static DEFINE_WD_CLASS(wait_die);
@@ -136,9 +136,9 @@ static void opens(bool told)
 		MUST(counters[k] == 1 + 2 * (k % APART == 0) && !ww_number_put(numbers[k], c));
 	memset(counters, 0, sizeof counters);
 	MUST(!ww_class_free(c));
-	if (!told || (opened < 16 * MiB && large < WAITS / 2))
+	if (!told || (opened < 16 * MiB && large < WAITERS / 2))
 		return;
-	printf("%ld KiB resident with all mutexes unused; %u of %d waits made more than a MiB so\n", opened / 1024, large, WAITS);
+	printf("%ld KiB resident with all mutexes unused; %u of %d waits made more than a MiB so\n", opened / 1024, large, WAITERS);
 	exit(1);
 }
 

@@ -21,6 +21,8 @@ static __thread struct {
 } at;
 static __thread struct ww_acquire_ctx *cancelled_amid; /* behind each step that answers WW_AGAIN, as by another thread */
 static void (*behind_a_stay)(void); /* as another thread would, once */
+static __thread unsigned yielded; /* how often, */
+static __thread bool yields_long; /* and whether that takes a millisecond */
 static __thread unsigned shut_out, slept; /* so many tries to go inside a guard are in vain; and how often it slept behind one */
 
 static bool has_to_ask(int32_t answer) { return answer <= 0 || answer == WW_SLEEPS; }
@@ -86,6 +88,9 @@ int __wrap_sched_yield(void);
 int __wrap_sched_yield(void)
 {
 	does_anything_else();
+	yielded++;
+	if (yields_long)
+		usleep(1000);
 	return __real_sched_yield();
 }
 
@@ -143,6 +148,25 @@ static void is_shut_out(void)
 	shut_out = 40;
 	slept = 0;
 	MUST(ww_mutex_lock_until(&m, &x, &soon) == -ETIMEDOUT && !shut_out && slept > 20);
+	ww_mutex_unlock(&m);
+	ww_acquire_fini(&x);
+	ww_acquire_fini(&older);
+}
+
+/* Once a yield has taken long, somebody else wants the processor: the call yields no more. */
+static void yields_once(void)
+{
+	struct ww_acquire_ctx older, x;
+	struct timespec soon = in_ms(1);
+
+	ww_acquire_init(&older, c);
+	ww_acquire_init(&x, c);
+	MUST(!ww_mutex_lock(&m, &older));
+	shut_out = 40;
+	yielded = 0;
+	yields_long = true;
+	MUST(ww_mutex_lock_until(&m, &x, &soon) == -ETIMEDOUT && !shut_out && yielded == 1);
+	yields_long = false;
 	ww_mutex_unlock(&m);
 	ww_acquire_fini(&x);
 	ww_acquire_fini(&older);
@@ -238,6 +262,7 @@ int main(void)
 		ww_mutex_init(&m, c);
 		waits_in_vain();
 		is_shut_out();
+		yields_once();
 		is_awaited();
 		in_a_storm();
 		MUST(!ww_mutex_destroy(&m) && !ww_class_free(c));

@@ -127,7 +127,7 @@ static bool makes(struct one *o)
 {
 	unsigned k = draw(o, MUTEXES);
 	struct ww_mutex *m = &mutexes[k];
-	bool had, owed = o->x.prelocked == m;
+	bool had, owed = o->x.state & IS_PRELOCKED && o->x.prelocked == m;
 	struct timespec soon = in_ms(0);
 
 	looks(o);

@@ -21,7 +21,7 @@ static unsigned pairs = 20000;
 /* So many wait, or went. */
 static void awaits_seekers(uint32_t count)
 {
-	while (__atomic_load_n(&c->pool->loose.seekers, __ATOMIC_SEQ_CST) + __atomic_load_n(&gone, __ATOMIC_SEQ_CST) != count)
+	while (__atomic_load_n(&c->pool->threads.seekers, __ATOMIC_SEQ_CST) + __atomic_load_n(&gone, __ATOMIC_SEQ_CST) != count)
 		usleep(100);
 }
 
@@ -75,7 +75,7 @@ static void in_order(void)
 	for (unsigned k = 0; k < WAITERS; k++)
 		if (!is_late(k))
 			end_thread(threads[k]);
-	MUST(come == WAITERS - 2 && !c->pool->loose.seekers);
+	MUST(come == WAITERS - 2 && !c->pool->threads.seekers);
 	for (unsigned k = 0; k < come; k++)
 		MUST(order[k] == (k < LATE ? k : k + 2));
 	for (unsigned k = 0; k < WAITERS; k++)
@@ -121,9 +121,9 @@ static void nobody_barges(void)
 		MUST(ww_mutex_trylock(&alone[0], NULL));
 		ww_mutex_unlock(&alone[0]);
 		/* As if somebody waited whom no seat was handed to yet. */
-		c->pool->loose.seekers++;
+		c->pool->threads.seekers++;
 		MUST(ww_acquire_init_checked(&y, c) == -EAGAIN && !ww_mutex_trylock(&alone[0], NULL));
-		c->pool->loose.seekers--;
+		c->pool->threads.seekers--;
 		ww_acquire_fini(&x);
 	}
 	MUST(!ww_mutex_destroy(&alone[0]) && !ww_class_free(c));
@@ -133,6 +133,8 @@ int __real_pthread_mutex_lock(pthread_mutex_t *m);
 int __wrap_pthread_mutex_lock(pthread_mutex_t *m);
 static struct ww_acquire_ctx *ends_then;
 static unsigned before_that; /* so often the queue is locked */
+static void (*called_then)(void); /* before the queue is locked next, */
+static bool before_any;	    /* or any lock */
 
 /* This thread stops before it locks this, and before it unlocks it. */
 static __thread unsigned stops;
@@ -164,7 +166,12 @@ static void asks_while_unlocked(void)
 int __wrap_pthread_mutex_lock(pthread_mutex_t *m)
 {
 	struct ww_acquire_ctx *x = ends_then;
+	void (*call)(void) = called_then;
 
+	if (call && (before_any || m == &c->pool->queue)) {
+		called_then = NULL;
+		call();
+	}
 	if (x && m == &c->pool->queue && !before_that--) {
 		ends_then = NULL;
 		ww_acquire_fini(x);
@@ -180,6 +187,7 @@ int __wrap_pthread_mutex_unlock(pthread_mutex_t *m);
 
 /* The program forks just before the queue is unlocked: in the child this context ends then, which waits for nobody. */
 static __thread struct ww_acquire_ctx *ends_in_child;
+static struct ww_seek polled; /* a task that waits then: its waker is taken back in the child */
 
 static void fork_amid(pthread_mutex_t *m)
 {
@@ -190,7 +198,8 @@ static void fork_amid(pthread_mutex_t *m)
 		return;
 	ends_in_child = NULL;
 	if (!fork()) {
-		alarm(60);
+		alarm(20);
+		MUST(!polled.of_ || ww_poll_take_back(x, &polled));
 		ww_acquire_fini(x);
 		_exit(0);
 	}
@@ -221,7 +230,7 @@ static void ends_just_then(void)
 		ends_then = &x;
 		before_that = 0;
 		ww_acquire_init(&y, c);
-		MUST(!ends_then && !c->pool->loose.seekers && ww_acquire_init_checked(&x, c) == -EAGAIN);
+		MUST(!ends_then && !c->pool->threads.seekers && ww_acquire_init_checked(&x, c) == -EAGAIN);
 		ww_acquire_fini(&y);
 	}
 	ww_class_stats(c, &counts);
@@ -241,10 +250,10 @@ static void gives_up_just_then(void)
 	MUST(!ww_class_limit(c, 1, 1));
 	ww_acquire_init(&x, c);
 	for (unsigned k = 0; k < 3; k++) {
-		MUST(ww_acquire_init_until(&y, c, &past) == -ETIMEDOUT && !c->pool->loose.seekers);
+		MUST(ww_acquire_init_until(&y, c, &past) == -ETIMEDOUT && !c->pool->threads.seekers);
 		ends_then = &x;
 		before_that = 1;
-		MUST(!ww_acquire_init_until(&y, c, &past) && !ends_then && !c->pool->loose.seekers);
+		MUST(!ww_acquire_init_until(&y, c, &past) && !ends_then && !c->pool->threads.seekers);
 		MUST(ww_acquire_init_checked(&x, c) == -EAGAIN);
 		ww_acquire_fini(&y);
 		MUST(!ww_acquire_init_until(&x, c, &past));
@@ -353,9 +362,12 @@ static void *begins_and_ends(void *arg)
 	return arg;
 }
 
+static void is_called(void *nothing, void *task) { MUST(!nothing && !task); }
+
 static void forked_amid(void)
 {
-	struct ww_acquire_ctx x, y;
+	struct ww_acquire_ctx x, y, z;
+	const struct ww_waker waker = { .wake = is_called };
 	pthread_t threads[2];
 
 	MUST(!ww_class_limit(c, 1, 2));
@@ -365,11 +377,14 @@ static void forked_amid(void)
 		threads[k] = begin_thread(begins_and_ends, NULL);
 	gone = 0;
 	awaits_seekers(2);
+	MUST(ww_acquire_init_poll(&z, c, &polled, &waker) == -EINPROGRESS);
 	ends_in_child = &x;
 	ww_acquire_fini(&y);
 	ww_acquire_fini(&x);
 	for (unsigned k = 0; k < 2; k++)
 		end_thread(threads[k]);
+	MUST(!ww_poll_take_back(&z, &polled) && !ww_acquire_init_poll(&z, c, &polled, &waker));
+	ww_acquire_fini(&z);
 	MUST(!ends_in_child && !ww_class_free(c));
 }
 
@@ -377,16 +392,9 @@ static void forked_amid(void)
 
 static void opens(uint32_t contexts, uint32_t kept) { MUST(!ww_class_limit(c, 1, contexts) && !ww_class_open_kept(c, kept)); }
 
-static bool is_kept(const struct ww_acquire_ctx *x) { return x->own - c->pool->seats < c->pool->kept; }
+static bool is_kept(const struct ww_acquire_ctx *x) { return x->own->busy & IS_KEPT; }
 
-static uint32_t may_be_kept(void)
-{
-	uint32_t count = 0;
-
-	for (const ww_seat *s = c->pool->unkept; s; s = s->next)
-		count++;
-	return count;
-}
+static uint32_t may_be_kept(void) { return c->pool->may_keep - c->pool->kept; }
 
 static void *ends(void *x)
 {
@@ -465,7 +473,7 @@ static void outlive_their_keepers(bool thread_first)
 	sem_post(&goes_on);
 	end_thread(thread);
 	if (thread_first) {
-		MUST(!may_be_kept() && x.own->busy == ORPHAN && ww_class_free(c) == -EBUSY);
+		MUST(may_be_kept() == 1 && !is_kept(&x) && ww_class_free(c) == -EBUSY);
 		end_thread(begin_thread(ends, &x));
 	}
 	MUST(may_be_kept() == 1 && !ww_acquire_init_checked(&x, c) && is_kept(&x));
@@ -506,7 +514,7 @@ static void *keeps_of_many(void *classes)
 		MUST(!may_be_kept());
 	}
 	c = &all[0];
-	MUST(x.own->busy == ORPHAN);
+	MUST(!is_kept(&x));
 	ww_acquire_fini(&x);
 	MUST(may_be_kept() == 1);
 	return NULL;
@@ -557,17 +565,19 @@ static void are_used_to_the_end(void)
 	MUST(!pthread_key_delete(last_words) && !ww_class_free(c));
 }
 
-/* A class that says how many contexts it has has as many; one that says nothing has 1,024, and seats that threads keep besides. */
+/* A class that says how many contexts it has has as many; one that says nothing has 1,280, of which threads keep up to 256. */
 static void as_is_said(void)
 {
-	struct ww_acquire_ctx all[1025], more;
+	static struct ww_acquire_ctx all[1280], more;
 
 	for (unsigned said = 0; said < 2; said++) {
+		unsigned most = said ? 1024 : 1280;
+
 		MUST(!ww_class_limit(c, 1, said ? 1024 : 0));
-		for (unsigned k = 0; k < 1025 - said; k++)
+		for (unsigned k = 0; k < most; k++)
 			MUST(!ww_acquire_init_checked(&all[k], c));
-		MUST(c->pool->kept == (said ? 0 : 256) && ww_acquire_init_checked(&more, c) == -EAGAIN);
-		for (unsigned k = 0; k < 1025 - said; k++)
+		MUST(c->pool->may_keep == (said ? 0 : 256) && ww_acquire_init_checked(&more, c) == -EAGAIN);
+		for (unsigned k = 0; k < most; k++)
 			ww_acquire_fini(&all[k]);
 		MUST(!ww_class_free(c));
 	}
@@ -630,7 +640,7 @@ static void each_end_wakes(void)
 			sched_yield();
 	}
 	end_thread(thread);
-	MUST(!c->pool->loose.seekers && !ww_class_free(c));
+	MUST(!c->pool->threads.seekers && !ww_class_free(c));
 }
 
 /* So many contexts at once, of a class that may have so many: each but the one beyond is there. */
@@ -656,6 +666,161 @@ static void at_once(uint32_t count)
 	MUST(!ww_class_free(c));
 	free(all);
 	free(mutexes);
+}
+
+/* ---- a seat that its keeper stops keeping, while one waits ---- */
+
+static void uses(struct ww_class *of)
+{
+	struct ww_acquire_ctx x;
+
+	ww_acquire_init(&x, of);
+	ww_acquire_fini(&x);
+}
+
+/* It comes to keep a seat of the class, and ends; or before that it comes to keep those of so many others that it lets that one go. */
+static void *keeps(void *others)
+{
+	struct ww_class *of = others;
+
+	uses(c);
+	sem_post(&stopped);
+	sem_wait(&goes_on);
+	for (unsigned k = 0; of && k < KEPT; k++)
+		uses(&of[k]);
+	if (of)
+		sem_wait(&goes_on);
+	return NULL;
+}
+
+static void *begins_within_20s(void *arg)
+{
+	struct timespec until = in_ms(20000);
+	struct ww_acquire_ctx x;
+
+	MUST(!ww_acquire_init_until(&x, c, &until));
+	ww_acquire_fini(&x);
+	return arg;
+}
+
+static void goes_to_who_waits(bool is_let_go)
+{
+	static struct ww_class others[KEPT];
+	struct ww_acquire_ctx x;
+	pthread_t keeper, waiter;
+
+	MUST(!ww_class_limit(c, 1, 1) && !ww_class_open_kept(c, 1));
+	for (unsigned k = 0; k < KEPT; k++)
+		ww_class_init(&others[k], 0, "other");
+	keeper = begin_thread(keeps, is_let_go ? others : NULL);
+	sem_wait(&stopped);
+	ww_acquire_init(&x, c);
+	MUST(c->pool->kept == 1 && ww_acquire_init_checked(&(struct ww_acquire_ctx){ 0 }, c) == -EAGAIN);
+	waiter = begin_thread(begins_within_20s, NULL);
+	while (!__atomic_load_n(&c->pool->threads.seekers, __ATOMIC_SEQ_CST))
+		usleep(100);
+	sem_post(&goes_on);
+	end_thread(waiter);
+	sem_post(&goes_on);
+	end_thread(keeper);
+	if (!is_let_go)
+		sem_wait(&goes_on);
+	ww_acquire_fini(&x);
+	for (unsigned k = 0; k < KEPT; k++)
+		MUST(!ww_class_free(&others[k]));
+	MUST(!ww_class_free(c));
+}
+
+static pthread_t other_keeper;
+
+static void another_keeps(void)
+{
+	other_keeper = begin_thread(keeps, NULL);
+	sem_wait(&stopped);
+}
+
+/* Just before this thread comes to keep the only one that may be kept. */
+static void one_alone_is_kept(void)
+{
+	struct ww_acquire_ctx x;
+
+	MUST(!ww_class_limit(c, 1, 1) && !ww_class_open_kept(c, 1));
+	before_any = true;
+	called_then = another_keeps;
+	ww_acquire_init(&x, c);
+	before_any = false;
+	MUST(!called_then && c->pool->kept == 1 && c->pool->may_keep == 1);
+	ww_acquire_fini(&x);
+	sem_post(&goes_on);
+	end_thread(other_keeper);
+	MUST(!c->pool->kept && !ww_class_free(c));
+}
+
+/* ---- tasks, amid the end of another one's context: it is free already, and nobody was served by it yet ---- */
+
+static struct task {
+	struct ww_acquire_ctx x;
+	struct ww_seek seek;
+	int calls;
+} due, called, late;
+
+static void counts_calls(void *nothing, void *calls)
+{
+	MUST(!nothing);
+	++*(int *)calls;
+}
+
+static int polls(struct task *it)
+{
+	return ww_acquire_init_poll(&it->x, c, &it->seek, &(struct ww_waker){ .wake = counts_calls, .task = &it->calls });
+}
+
+static void called_looks(void) { MUST(polls(&called) == -EINPROGRESS); }
+
+static void others_come(void)
+{
+	struct ww_acquire_ctx x;
+
+	MUST(ww_acquire_init_poll(&x, c, NULL, NULL) == -ETIMEDOUT && polls(&late) == -EINPROGRESS);
+}
+
+/* Who was called and looks finds it for who is due one before, and calls that; and nobody passes who is due. */
+static void as_it_is_given(void)
+{
+	struct ww_acquire_ctx *all;
+	uint32_t count;
+
+	due = called = late = (struct task){ 0 };
+	MUST(!ww_class_limit(c, 1, 0) && !ww_class_open(c));
+	count = c->pool->tasks.count;
+	all = calloc(count, sizeof *all);
+	MUST(all && count >= 2);
+	for (uint32_t k = 0; k < count; k++)
+		MUST(!ww_acquire_init_poll(&all[k], c, NULL, NULL));
+	MUST(polls(&due) == -EINPROGRESS && polls(&called) == -EINPROGRESS);
+	ww_acquire_fini(&all[0]);
+	MUST(due.calls == 1 && !called.calls);
+	ww_acquire_fini(&all[1]);
+	MUST(due.calls == 1 && called.calls == 1);
+	for (uint32_t k = 0; k < 2; k++)
+		MUST(!ww_acquire_init_poll(&all[k], c, NULL, NULL));
+	MUST(polls(&due) == -EINPROGRESS);
+	called_then = called_looks;
+	ww_acquire_fini(&all[0]);
+	MUST(!called_then && due.calls == 2 && !polls(&due) && polls(&called) == -EINPROGRESS);
+	called.calls = 0;
+	called_then = others_come;
+	ww_acquire_fini(&all[1]);
+	MUST(!called_then && called.calls == 1 && !late.calls && !polls(&called));
+	for (uint32_t k = 2; k < count; k++)
+		ww_acquire_fini(&all[k]);
+	ww_acquire_fini(&called.x);
+	ww_acquire_fini(&due.x);
+	/* No context is in use, but one waits for one. */
+	MUST(late.calls == 1 && ww_class_free(c) == -EBUSY && !polls(&late));
+	ww_acquire_fini(&late.x);
+	MUST(!ww_class_free(c));
+	free(all);
 }
 
 int main(int count, char **words)
@@ -687,6 +852,10 @@ int main(int count, char **words)
 		as_is_said();
 		by_its_thread_alone();
 		each_end_wakes();
+		goes_to_who_waits(false);
+		goes_to_who_waits(true);
+		one_alone_is_kept();
+		as_it_is_given();
 		for (unsigned k = 0; k < 4; k++)
 			at_once(counts[k]);
 	}

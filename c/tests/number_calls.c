@@ -104,6 +104,21 @@ static void refuses(void)
 }
 
 /* In a loop they are listed with the others: duplicates, trylocks, releases one by one, marks, and what is left behind it. */
+/* Memory that is all zero is no context, nor is one that has ended. */
+static void no_context(void)
+{
+	struct ww_acquire_ctx z;
+
+	memset(&z, 0, sizeof z);
+	for (unsigned k = 0; k < 2; k++) {
+		MUST(!ww_number_trylock(n[0], &z) && ww_number_lock(n[0], &z) == -EINVAL && ww_number_unlock(n[0], &z) == -EINVAL);
+		MUST(ww_number_lock_until(n[0], &z, &past) == -EINVAL && !ww_number_is_held(n[0], &z) && !ww_number_is_locked(n[0], c));
+		ww_number_unlock_all(&z);
+		begins(&z);
+		ww_acquire_fini(&z);
+	}
+}
+
 static void in_a_loop(void)
 {
 	struct ww_mutex m;
@@ -500,6 +515,7 @@ static void all_of(struct ww_class *class_)
 	takes();
 	tells(by_a_context, 0);
 	tells(refuses, 8);
+	no_context();
 	tells(in_a_loop, 1);
 	tells(backs_off_in_a_loop, c == &wait_die);
 	tells(goes_with_addresses, 0);

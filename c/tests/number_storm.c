@@ -130,7 +130,7 @@ static void meet(uint32_t one, uint32_t other)
 	ww_acquire_init(&x, c);
 	MUST(!ww_number_lock(one, &older.x) && !ww_number_lock(other, &x));
 	thread = begin_thread(waits, &older);
-	while (__atomic_load_n(&older.x.own->token, __ATOMIC_SEQ_CST) != 2) /* it sleeps */
+	while (__atomic_load_n(&older.x.own->token, __ATOMIC_SEQ_CST) < 2) /* it sleeps */
 		usleep(50);
 	MUST(ww_number_lock(one, &x) == -EDEADLK && ww_number_lock(one, &x) == -EINVAL && !ww_number_trylock(one, &x));
 	MUST(!ww_number_unlock(other, &x));

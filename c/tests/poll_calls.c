@@ -5,6 +5,8 @@
 #include "mutex_test.h"
 #include "../ww_number.h"
 #include "../ww_poll.h"
+#include "../ww_steps.h"
+#include <sys/wait.h>
 
 static DEFINE_WW_CLASS(wound_wait);
 static DEFINE_WD_CLASS(wait_die);
@@ -174,69 +176,330 @@ static bool begins_at_once(struct ww_acquire_ctx *ctx)
 	return !r;
 }
 
-/* Two were called, one takes the seat for which the other one was, and ends; a task that comes then leaves a seat, and calls a third. */
-static void called_for_another_seat(struct ww_acquire_ctx all[2])
-{
-	struct ww_seek seeks[3] = { { 0 } };
-	struct ww_waker wakers[3];
-	int calls[3];
+/* ---- contexts of tasks: others may begin by one for which somebody was called, who gets the next one that ends then ---- */
 
-	for (unsigned k = 0; k < 3; k++) {
-		wakers[k] = counts_in(&calls[k]);
-		MUST(ww_acquire_init_poll(&y, c, &seeks[k], &wakers[k]) == -EINPROGRESS);
+enum { SEEKERS = 3 };
+static struct ww_seek seeks[SEEKERS];
+static struct ww_waker wakers[SEEKERS];
+static int called[SEEKERS];
+
+static int looks(unsigned k, struct ww_acquire_ctx *ctx) { return ww_acquire_init_poll(ctx, c, &seeks[k], &wakers[k]); }
+
+/* Both contexts are in use, and so many tasks wait. */
+static void all_in_use(struct ww_acquire_ctx both[2], unsigned waiting)
+{
+	for (unsigned k = 0; k < 2; k++)
+		MUST(begins_at_once(&both[k]));
+	MUST(!begins_at_once(&y));
+	for (unsigned k = 0; k < waiting; k++) {
+		seeks[k] = (struct ww_seek){ 0 };
+		wakers[k] = counts_in(&called[k]);
+		MUST(looks(k, &y) == -EINPROGRESS && !called[k]);
 	}
-	ww_acquire_fini(&all[0]);
-	ww_acquire_fini(&all[1]);
-	MUST(calls[0] == 1 && calls[1] == 1 && !calls[2]);
-	MUST(!ww_acquire_init_poll(&all[0], c, &seeks[1], &wakers[1]));
-	ww_acquire_fini(&all[0]);
-	MUST(!ww_acquire_init_poll(&all[0], c, &seeks[0], &wakers[0]) && calls[2] == 1);
-	MUST(!ww_acquire_init_poll(&all[1], c, &seeks[2], &wakers[2]));
 }
 
-/* A task that ends one calls the first that wasn't called yet, once for each seat; one that looks and finds none is owed the next. */
+/* Whoever ends one calls the first that wasn't called yet, once for each context; who comes in time has it. */
 static void called_in_turn(void)
 {
-	struct ww_acquire_ctx all[65];
-	struct ww_seek seeks[3] = { { 0 } };
-	struct ww_waker wakers[3];
-	unsigned count = 0;
-	int calls[3];
+	struct ww_acquire_ctx both[2];
+
+	all_in_use(both, 3);
+	ww_acquire_fini(&both[0]);
+	MUST(called[0] == 1 && !called[1] && begins_at_once(&both[0]));
+	ww_acquire_fini(&both[0]);
+	MUST(called[0] == 1 && !called[1] && begins_at_once(&both[0]));
+	/* By the other seat; so the second is before the first, which doesn't look. */
+	ww_acquire_fini(&both[1]);
+	MUST(called[0] == 1 && called[1] == 1 && !called[2] && !ww_poll_take_back(&y, &seeks[1]));
+	MUST(!looks(1, &both[1]));
+	/* The first comes too late. When that context ends it has it, and others have none. */
+	MUST(looks(0, &x) == -EINPROGRESS && called[0] == 1 && looks(0, &x) == -EINPROGRESS);
+	ww_acquire_fini(&both[0]);
+	MUST(called[0] == 2 && !called[2] && !begins_at_once(&y));
+	MUST(looks(2, &y) == -EINPROGRESS && !looks(0, &both[0]));
+	/* Who was called, and ends its wait, calls another. */
+	wakers[0] = counts_in(&called[0]);
+	MUST(looks(0, &x) == -EINPROGRESS && !called[0]);
+	ww_acquire_fini(&both[0]);
+	MUST(called[2] == 1 && !called[0]);
+	if (!ww_acquire_init_poll(&y, c, &seeks[2], NULL))
+		ww_acquire_fini(&y);
+	MUST(called[0] == 1 && called[2] == 1 && !looks(0, &both[0]) && !begins_at_once(&y));
+	ww_acquire_fini(&both[0]);
+	ww_acquire_fini(&both[1]);
+}
+
+/* Two were called. If the second takes one and ends, one is free for which nobody was called: so the third is. */
+static void called_for_another_seat(void)
+{
+	struct ww_acquire_ctx both[2];
+
+	all_in_use(both, 3);
+	ww_acquire_fini(&both[0]);
+	ww_acquire_fini(&both[1]);
+	MUST(called[0] == 1 && called[1] == 1 && !called[2]);
+	MUST(!looks(1, &both[1]));
+	ww_acquire_fini(&both[1]);
+	MUST(called[0] == 1 && called[1] == 1 && called[2] == 1);
+	MUST(!looks(0, &both[0]) && !looks(2, &both[1]));
+	ww_acquire_fini(&both[0]);
+	ww_acquire_fini(&both[1]);
+}
+
+/* Who came too late gets the next one that ends, whichever that is, and nobody begins meanwhile. */
+static void late_ones_get_the_next(void)
+{
+	struct ww_acquire_ctx both[2];
+
+	all_in_use(both, 2);
+	ww_acquire_fini(&both[0]);
+	ww_acquire_fini(&both[1]);
+	MUST(called[0] == 1 && called[1] == 1 && begins_at_once(&both[0]) && begins_at_once(&both[1]));
+	MUST(looks(0, &x) == -EINPROGRESS);
+	ww_acquire_fini(&both[1]);
+	MUST(called[0] == 2 && called[1] == 1 && !begins_at_once(&y));
+	MUST(looks(1, &y) == -EINPROGRESS && called[1] == 1 && !looks(0, &both[1]));
+	ww_acquire_fini(&both[0]);
+	MUST(called[1] == 2 && !begins_at_once(&y) && !looks(1, &both[0]));
+	ww_acquire_fini(&both[0]);
+	ww_acquire_fini(&both[1]);
+}
+
+/* One is called for a context, and leaves once that is another's: when that one ends, a third is called. */
+static void free_ones_are_offered(void)
+{
+	struct ww_acquire_ctx both[2];
+
+	all_in_use(both, 3);
+	ww_acquire_fini(&both[0]);
+	ww_acquire_fini(&both[1]);
+	MUST(begins_at_once(&both[0]) && begins_at_once(&both[1]));
+	MUST(looks(0, &x) == -EINPROGRESS && !called[2]);
+	ww_acquire_fini(&both[1]);
+	MUST(called[0] == 2 && ww_acquire_init_poll(&y, c, &seeks[1], NULL) == -ETIMEDOUT && !called[2]);
+	ww_acquire_fini(&both[0]);
+	MUST(called[0] == 2 && called[1] == 1 && called[2] == 1);
+	MUST(!looks(0, &both[0]) && !looks(2, &both[1]));
+	ww_acquire_fini(&both[0]);
+	ww_acquire_fini(&both[1]);
+}
+
+/* A class isn't freed while a task waits for a context, also if it was called, and none is in use. */
+static void stays_while_one_waits(void)
+{
+	struct ww_acquire_ctx both[2];
+
+	all_in_use(both, 1);
+	ww_acquire_fini(&both[0]);
+	ww_acquire_fini(&both[1]);
+	MUST(called[0] == 1 && ww_class_free(c) == -EBUSY && !looks(0, &x));
+	MUST(ww_class_free(c) == -EBUSY);
+	ww_acquire_fini(&x);
+}
+
+/* On one processor tasks have two contexts. */
+static void by_contexts_of_their_own(void)
+{
+	cpu_set_t all, one;
 
 	c = &unsaid;
-	while (count < 64 && begins_at_once(&all[count]))
-		count++;
-	MUST(count >= 2 && !begins_at_once(&all[64]));
-	for (unsigned k = 0; k < 3; k++) {
-		wakers[k] = counts_in(&calls[k]);
-		MUST(ww_acquire_init_poll(&y, c, &seeks[k], &wakers[k]) == -EINPROGRESS);
-	}
-	ww_acquire_fini(&all[0]);
-	MUST(calls[0] == 1 && !calls[1] && begins_at_once(&all[0]));
-	ww_acquire_fini(&all[0]);
-	MUST(calls[0] == 1 && !calls[1] && begins_at_once(&all[0]));
-	/* By another seat; so the second is before the first, which doesn't look. */
-	ww_acquire_fini(&all[1]);
-	MUST(calls[0] == 1 && calls[1] == 1 && !calls[2] && !ww_poll_take_back(&y, &seeks[1]));
-	MUST(!ww_acquire_init_poll(&all[1], c, &seeks[1], &wakers[1]));
-	MUST(ww_acquire_init_poll(&x, c, &seeks[0], &wakers[0]) == -EINPROGRESS);
-	ww_acquire_fini(&all[0]);
-	MUST(calls[0] == 2 && !calls[2] && !begins_at_once(&all[0]));
-	MUST(!ww_acquire_init_poll(&all[0], c, &seeks[0], &wakers[0]));
-	/* Who was called, and ends its wait, calls another. */
-	MUST(ww_acquire_init_poll(&x, c, &seeks[0], &wakers[0]) == -EINPROGRESS && calls[0] == 2);
-	ww_acquire_fini(&all[0]);
-	MUST(calls[2] == 1 && ww_acquire_init_poll(&y, c, &seeks[2], NULL) == -ETIMEDOUT && calls[0] == 3);
-	MUST(!ww_acquire_init_poll(&all[0], c, &seeks[0], &wakers[0]) && !begins_at_once(&all[64]));
-	called_for_another_seat(all);
-	while (count)
-		ww_acquire_fini(&all[--count]);
+	CPU_ZERO(&one);
+	CPU_SET((size_t)sched_getcpu(), &one);
+	MUST(!sched_getaffinity(0, sizeof all, &all) && !sched_setaffinity(0, sizeof one, &one) && !ww_class_open(c));
+	MUST(!sched_setaffinity(0, sizeof all, &all));
+	called_in_turn();
+	called_for_another_seat();
+	late_ones_get_the_next();
+	free_ones_are_offered();
+	stays_while_one_waits();
 	MUST(!ww_class_free(c));
+}
+
+/* ---- amid a wait, and behind it ---- */
+
+/* How many misused calls were reported. What else these tests report is no matter. */
+static unsigned long faults(void)
+{
+#ifdef WW_DEBUG
+	return ww_debug_faults();
+#else
+	return 0;
+#endif
+}
+static unsigned long besides;
+
+/* As they are called where nothing is compiled into callers. */
+static __typeof__(ww_mutex_lock) *volatile lock_of = ww_mutex_lock;
+static __typeof__(ww_mutex_trylock) *volatile trylock_of = ww_mutex_trylock;
+static __typeof__(ww_number_trylock) *volatile number_trylock_of = ww_number_trylock;
+
+/* Each is refused. */
+static void refused_call(unsigned which)
+{
+	struct ww_mutex *list[] = { &m[2], &m[1] };
+	struct timespec past = { 0, 0 };
+
+	switch (which) {
+	case 0: MUST(ww_mutex_lock_all(&y, list, 1) == -EBUSY && ww_mutex_lock_all(&y, list, 0) == -EBUSY); break;
+	case 1: MUST(ww_mutex_lock_all(&y, list, 2) == -EBUSY); break;
+	case 2: MUST(ww_mutex_unlock_checked(&m[1]) == -EBUSY); break;
+	case 3: MUST(ww_number_unlock(number, &y) == -EBUSY); break;
+	case 4: MUST(ww_acquire_done_checked(&y) == -EBUSY); break;
+	case 5: MUST(ww_acquire_fini_checked(&y) == -EBUSY); break;
+	case 6: MUST(ww_mutex_lock(&m[2], &y) == -EBUSY && lock_of(&m[2], &y) == -EBUSY); break;
+	case 7: MUST(ww_mutex_lock_until(&m[1], &y, &past) == -EBUSY); break;
+	case 8: MUST(!ww_mutex_trylock(&m[2], &y) && !trylock_of(&m[2], &y) && !trylock_of(&m[1], &y)); break;
+	case 9: MUST(!ww_number_trylock(number, &y) && !number_trylock_of(number, &y)); break;
+	case 10: MUST(ww_mutex_lock_slow_checked(&m[2], &y) == -EBUSY); break;
+	case 11: ww_acquire_flags(&y, WW_IGNORE_DUPLICATES | WW_INTERRUPTIBLE); break;
+	default: MUST(ww_number_lock_poll(number, &y, &wakers[2]) == -EBUSY && ww_mutex_lock_poll(&m[2], &y, NULL) == -EBUSY);
+	}
+}
+
+/* The wait goes on and ends, and all can be released. */
+static void refused_amid_a_wait(void)
+{
+	enum { CALLS = 13 };
+	unsigned long before = faults();
+
+	for (unsigned which = 0; which <= CALLS; which++) { /* the last time all of them */
+		int calls, nobodys;
+		struct ww_waker w = counts_in(&calls);
+
+		wakers[2] = counts_in(&nobodys);
+		begins(&y); /* so it is the older one */
+		begins(&x);
+		MUST(!ww_mutex_lock(&m[0], &x) && !ww_mutex_lock(&m[1], &y) && !ww_number_lock(number, &y));
+		MUST(ww_mutex_lock_poll(&m[0], &y, &w) == -EINPROGRESS);
+		for (unsigned k = 0; k < CALLS; k++)
+			if (k == which || which == CALLS)
+				refused_call(k);
+		MUST(!calls && y.acquired == 2 && ww_mutex_is_held_by(&m[1], &y) && m[0].waiters == 1);
+		MUST(ww_mutex_lock_poll(&m[0], &y, &w) == -EINPROGRESS);
+		ww_mutex_unlock(&m[0]);
+		MUST(calls == 1 && !nobodys);
+		if (which == CALLS)
+			for (unsigned k = 0; k < CALLS; k++)
+				refused_call(k);
+		MUST(!ww_mutex_lock_poll(&m[0], &y, &w) && y.acquired == 3 && ww_number_is_held(number, &y));
+		MUST(!ww_mutex_unlock_checked(&m[1]) && !ww_number_unlock(number, &y) && !ww_mutex_unlock_checked(&m[0]));
+		MUST(!y.acquired && !ww_mutex_lock_all(&y, (struct ww_mutex *const[]){ &m[1], &m[2] }, 2));
+		ww_mutex_unlock(&m[2]);
+		ww_mutex_unlock(&m[1]);
+		MUST(ww_mutex_lock_all(&y, (struct ww_mutex *const[]){ &m[1], &m[1] }, 2) == -EALREADY);
+		MUST(!ww_acquire_done_checked(&y) && !ww_acquire_fini_checked(&y));
+		ends(&x);
+	}
+	besides += faults() - before;
+}
+
+/* Behind a wait, what it acquired is like all that the context holds; also if what it held between was freed. */
+static void held_after_a_wait(bool frees)
+{
+	struct ww_mutex *other = malloc(sizeof *other);
+	unsigned long before = faults();
+	int calls;
+	struct ww_waker w = counts_in(&calls);
+
+	MUST(other);
+	begins(&x);
+	begins(&y);
+	MUST(!ww_mutex_lock(&m[0], &x) && ww_mutex_lock_poll(&m[0], &y, &w) == -EINPROGRESS);
+	ww_mutex_unlock(&m[0]);
+	MUST(calls == 1 && !ww_mutex_lock_poll(&m[0], &y, &w));
+	ww_mutex_init(other, c);
+	if (frees) {
+		MUST(!ww_mutex_lock(other, &y));
+		ww_mutex_unlock(other);
+	}
+	MUST(!ww_mutex_destroy(other));
+	memset(other, 0x55, sizeof *other);
+	free(other);
+	for (unsigned k = 0; k < 2; k++) {
+		MUST(!ww_mutex_trylock(&m[0], &y) && !trylock_of(&m[0], &y) && !ww_mutex_trylock_checked(&m[0], &y) && y.acquired == 1);
+		MUST(ww_mutex_lock(&m[0], &y) == -EALREADY && lock_of(&m[0], &y) == -EALREADY && y.acquired == 1);
+		MUST(ww_mutex_lock_interruptible(&m[0], &y) == -EALREADY && ww_mutex_lock_poll(&m[0], &y, &w) == -EALREADY);
+	}
+	ww_mutex_unlock(&m[0]);
+	MUST(ww_mutex_unlock_checked(&m[0]) == -EINVAL && !y.acquired);
+	MUST(!ww_number_lock(number, &x) && ww_number_lock_poll(number, &y, &w) == -EINPROGRESS && !ww_number_unlock(number, &x));
+	MUST(!ww_number_lock_poll(number, &y, &w) && !ww_number_trylock(number, &y) && !number_trylock_of(number, &y));
+	MUST(ww_number_lock(number, &y) == -EALREADY && y.acquired == 1 && !ww_number_unlock(number, &y));
+	ends(&y);
+	ends(&x);
+	besides += faults() - before;
+}
+
+/* All contexts are amid calls, and whether a number is free can be asked nevertheless. No two waits of a context leave one token. */
+static void while_all_wait(void)
+{
+	enum { ALL = 3, WAITS_OF_ONE = 8 };
+	struct ww_acquire_ctx all[ALL];
+	uint32_t tokens[WAITS_OF_ONE];
+	int calls;
+	struct ww_waker w = counts_in(&calls);
+
+	for (unsigned k = 0; k < ALL; k++)
+		begins(&all[k]);
+	for (unsigned holder = 0; holder < ALL; holder++) {
+		struct ww_acquire_ctx *by = &all[(holder + 1) % ALL];
+
+		MUST(!ww_mutex_lock(&m[0], &all[holder]));
+		for (unsigned k = 0; k < ALL; k++)
+			if (k != holder)
+				MUST(ww_mutex_lock_poll(&m[0], &all[k], &w) == -EINPROGRESS);
+		MUST(!ww_number_is_locked(number, c));
+		for (unsigned k = 0; k < WAITS_OF_ONE; k++) {
+			MUST(ww_mutex_lock_poll(&m[0], by, &w) == -EINPROGRESS);
+			tokens[k] = by->own->token;
+			for (unsigned j = 0; j < k; j++)
+				MUST(tokens[j] != tokens[k]);
+		}
+		for (unsigned k = 0; k < ALL; k++)
+			if (k != holder)
+				MUST(ww_mutex_lock_poll(&m[0], &all[k], NULL) == -ETIMEDOUT);
+		ww_mutex_unlock(&m[0]);
+	}
+	for (unsigned k = 0; k < ALL; k++)
+		ends(&all[k]);
+}
+
+/* In a forked child a poll that would have to wait never ends: so it returns an error, as any lock call does. */
+static void in_a_child(void)
+{
+	struct ww_acquire_ctx z, none;
+	int calls, status;
+	struct ww_waker w = counts_in(&calls);
+	pid_t child;
+
+	begins(&x);
+	begins(&y);
+	begins(&z);
+	seek = (struct ww_seek){ 0 };
+	MUST(!ww_mutex_lock(&m[0], &x) && ww_acquire_init_poll(&none, c, &seek, &w) == -EINPROGRESS);
+	MUST(ww_mutex_lock_poll(&m[0], &z, &w) == -EINPROGRESS);
+	child = fork();
+	if (!child) {
+		struct ww_seek its = { 0 };
+
+		alarm(60);
+		MUST(ww_mutex_lock_poll(&m[0], &y, &w) == -EINVAL && ww_mutex_lock_poll(&m[1], &y, &w) == -EINVAL);
+		MUST(ww_number_lock_poll(number, &y, &w) == -EINVAL && ww_mutex_lock_poll(&m[0], &z, &w) == -EINVAL);
+		MUST(ww_poll_take_back(&none, &seek) && ww_acquire_init_poll(&none, c, &seek, &w) == -EINVAL);
+		MUST(ww_acquire_init_poll(&none, c, &its, &w) == -EINVAL && ww_acquire_init_poll(&none, c, NULL, NULL) == -EINVAL);
+		_exit(calls);
+	}
+	MUST(child > 0 && waitpid(child, &status, 0) == child && WIFEXITED(status) && !WEXITSTATUS(status) && !calls);
+	MUST(ww_mutex_lock_poll(&m[0], &z, NULL) == -ETIMEDOUT && ww_acquire_init_poll(&none, c, &seek, NULL) == -ETIMEDOUT);
+	ww_mutex_unlock(&m[0]);
+	ends(&z);
+	ends(&y);
+	ends(&x);
 }
 
 static void by_numbers_and_not_in_loops(void)
 {
-	int calls;
+	int calls, r;
 	struct ww_waker w = counts_in(&calls);
 
 	begins(&x);
@@ -246,6 +509,10 @@ static void by_numbers_and_not_in_loops(void)
 	MUST(ww_number_lock_poll(number, &y, &w) == -EINPROGRESS);
 	MUST(!ww_number_unlock(number, &x) && calls == 1 && !ww_number_lock_poll(number, &y, &w));
 	MUST(ww_number_is_held(number, &y) && !ww_number_unlock(number, &y) && !x.acquired && !y.acquired);
+	/* A program of before made the first step by itself, so that it heeds cancels. */
+	MUST(!ww_number_lock(number, &x) && (r = ww_lock_((ww_handle *)(void *)y.own, number, true)) > 0);
+	MUST(ww_number_lock_poll_further_(number, &y, &w, r) == -EINPROGRESS && !ww_acquire_cancel(&y));
+	MUST(ww_number_lock_poll(number, &y, &w) == -EINTR && !ww_number_unlock(number, &x));
 	MUST(ww_number_lock_poll(77, &y, &w) == -EINVAL);
 	ends(&x);
 	ends(&y);
@@ -261,7 +528,7 @@ static void by_numbers_and_not_in_loops(void)
 static void beside_threads(void)
 {
 	static struct ww_class many;
-	static struct ww_acquire_ctx all[1025], of_tasks[64];
+	static struct ww_acquire_ctx all[1280], of_tasks[64];
 	static struct ww_seek waits;
 	int calls = 0;
 	struct ww_waker w = { count_calls, &many, &calls };
@@ -273,12 +540,12 @@ static void beside_threads(void)
 		tasks++;
 	MUST(tasks && tasks % 2 == 0 && tasks <= 64);
 	if (tasks < 64) { /* and one waits */
-		for (unsigned k = 0; k < 1025; k++)
+		for (unsigned k = 0; k < 1280; k++)
 			MUST(!ww_acquire_init_checked(&all[k], &many));
 		MUST(ww_acquire_init_checked(&x, &many) == -EAGAIN);
 		ww_acquire_fini(&all[0]);
 		MUST(!calls);
-		for (unsigned k = 1; k < 1025; k++)
+		for (unsigned k = 1; k < 1280; k++)
 			ww_acquire_fini(&all[k]);
 		MUST(!calls && ww_class_free(&many) == -EBUSY);
 		ww_acquire_fini(&of_tasks[tasks - 1]);
@@ -468,6 +735,11 @@ static void all(struct ww_class *of)
 		ww_mutex_init(&m[k], c);
 	MUST(!ww_number_take(&number, c));
 	waits_and_is_called();
+	refused_amid_a_wait();
+	held_after_a_wait(false);
+	held_after_a_wait(true);
+	while_all_wait();
+	in_a_child();
 	wait_ends();
 	backs_off();
 	waits_for_a_context();
@@ -486,10 +758,10 @@ int main(int count, char **words)
 	for (unsigned k = 0; k < 2; k++) {
 		all(&wound_wait);
 		all(&wait_die);
-		called_in_turn();
+		by_contexts_of_their_own();
 	}
 #ifdef WW_DEBUG
-	MUST(ww_debug_faults() == 20); /* four times the five calls above that are wrong by themselves */
+	MUST(ww_debug_faults() - besides == 20); /* four times the five calls above that are wrong by themselves */
 #endif
 	puts("poll_calls: as they should be");
 	return 0;

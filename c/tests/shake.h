@@ -12,4 +12,6 @@ void shake(void);
 #define __atomic_fetch_add(...) (shake(), __atomic_fetch_add(__VA_ARGS__))
 #define __atomic_fetch_or(...) (shake(), __atomic_fetch_or(__VA_ARGS__))
 #define __atomic_fetch_sub(...) (shake(), __atomic_fetch_sub(__VA_ARGS__))
+#define __atomic_add_fetch(...) (shake(), __atomic_add_fetch(__VA_ARGS__))
+#define __atomic_sub_fetch(...) (shake(), __atomic_sub_fetch(__VA_ARGS__))
 #endif

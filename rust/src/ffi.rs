@@ -175,7 +175,7 @@ pub unsafe fn try_first(number: u32, ctx: *mut ww_acquire_ctx) -> Result<(), Opt
     }
     // SAFETY: as the caller promises. Only the context's user accesses what is read and written of it here.
     unsafe {
-        let r = ww_lock_((*ctx).own, number, true);
+        let r = ww_lock_((*ctx).own, number, false);
         if r != 0 {
             return Err(Some(r));
         }

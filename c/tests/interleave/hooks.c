@@ -225,7 +225,7 @@ static void store(volatile void *at, unsigned size, uint64_t value, int order, c
 
 	check(at, size, WRITES_ATOMICALLY, pc);
 	il_stores(at, get(at, size), value, pc);
-	if (it->lates < LATE && may_be_late(o, at, order) && (it->lates || il_chooses(COMMITS, DELAYS))) {
+	if (it->lates < LATES && may_be_late(o, at, order) && (it->lates || il_chooses(COMMITS, DELAYS))) {
 		it->late[it->lates++] = (struct late_store){ (void *)(uintptr_t)at, value, size };
 	} else {
 		il_commit(it);
@@ -523,6 +523,16 @@ STEP(ww_unlock_, ww_handle *h, uint32_t lock)
 	}
 	return answered(h, __real_ww_unlock_(h, lock));
 }
+STEP(ww_is_free_, ww_handle *h, uint32_t lock)
+{
+	int32_t r = (step("ww_is_free_", PC), by(h, PC), __real_ww_is_free_(h, lock));
+
+	if (!r)
+		acquire(order_of(h, lock), __ATOMIC_ACQUIRE);
+	return answered(h, r);
+}
+/* It changes how a call waits that is on its way, and makes no step of it. */
+STEP(ww_heed_, ww_handle *h) { return check(h, sizeof *h, WRITES, PC), __real_ww_heed_(h); }
 /* These two look at nothing but their own seat. */
 STEP(ww_has_, ww_handle *h, uint32_t lock) { return by(h, PC), answered(h, __real_ww_has_(h, lock)); }
 STEP(ww_close_, ww_handle *h) { return il_closes(), __real_ww_close_(h); }

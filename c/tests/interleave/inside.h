@@ -9,7 +9,7 @@
 
 enum { ALL = IL_THREADS + 1 }; /* thread 0 sets up and checks */
 enum { STACK = 1 << 15, ARENA = 1 << 18, DATA = 1 << 16, OWN = 1 << 10, OBJECTS = 1 << 13, DEPTH = 1 << 14 };
-enum { LATE = 8 };
+enum { LATES = 8 };
 
 struct clocks {
 	uint16_t of[ALL];
@@ -17,7 +17,7 @@ struct clocks {
 
 struct thread {
 	void *stack; /* where it stopped */
-	enum { READY, SLEEPS, BLOCKED, ENDED } state;
+	enum { READY, SLEEPS, BLOCKED, LATE, ENDED } state;
 	uint32_t *word, is; /* it sleeps as long as the word is this, and until a time; or is blocked by a mutex there */
 	const struct timespec *until;
 	long skew;		   /* its clock is so much later: it yielded */
@@ -29,7 +29,7 @@ struct thread {
 		void *at;
 		uint64_t value;
 		unsigned size;
-	} late[LATE];
+	} late[LATES];
 	unsigned lates;
 	bool inside;	/* a guard, maybe, where it must not sleep */
 	unsigned rests; /* which answers to rest its call has had */

@@ -250,10 +250,19 @@ __attribute__((noreturn)) static void fail_asleep(void)
 	il_fail("nobody goes on%s", told);
 }
 
+/* What it looks at is no access of a thread. */
+static void ask_at_rest(void)
+{
+	il.running = false;
+	il_rests();
+	il.running = true;
+}
+
 void il_switch_away(void)
 {
 	struct option options[4 * ALL];
 	unsigned n = 0, may = may_run(), ended = 0;
+	bool late;
 
 	il.point++;
 	if (may & ~(1u << il.current))
@@ -263,15 +272,22 @@ void il_switch_away(void)
 			options[n++] = (struct option){ RUNS, t, 0 };
 	if (n)
 		n = add_costly(options, n, 0);
+	/* Whoever is late comes before any time: else sleeps until a time might follow one another without end. */
+	for (unsigned t = 1; t <= il.count && !may; t++)
+		if (il.threads[t].state == LATE)
+			options[n++] = (struct option){ RISES, t, 0 };
+	late = n && !may;
 	for (unsigned t = 1; t <= il.count && !may; t++) {
 		const struct thread *it = &il.threads[t];
 
 		if (it->state == SLEEPS && *it->word != it->is)
 			fail_asleep();
-		if (it->state == SLEEPS && it->until)
+		if (it->state == SLEEPS && it->until && !late)
 			options[n++] = (struct option){ TIMES_OUT, t, 0 };
 		ended += it->state == ENDED;
 	}
+	if (!may)
+		ask_at_rest();
 	if (ended == il.count)
 		leave();
 	if (!n)
@@ -285,6 +301,12 @@ void il_yield(void)
 		il_fail("a run without an end");
 	il_commit(me());
 	il_yielded();
+	il_switch_away();
+}
+
+void il_late(void)
+{
+	me()->state = LATE;
 	il_switch_away();
 }
 

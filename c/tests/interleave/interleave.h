@@ -23,6 +23,8 @@ struct il_program {
 extern const struct il_program il_programs[];
 void il_setup(const struct il_program *p);
 void il_thread(const char *text);
+/* Wherever all threads wait, or have ended. */
+void il_rests(void);
 /* Once all threads have ended. */
 void il_check(const struct il_program *p);
 
@@ -34,6 +36,8 @@ void il_gone(void *at, size_t size);
 struct timespec il_in(long nanoseconds);
 /* Another thread has to do something before this one can go on. */
 void il_yield(void);
+/* What this thread does next comes late: once all others wait, or have ended. */
+void il_late(void);
 /* Sleeps until the word isn't 0, and sets it, which orders what came before. */
 void il_await(uint32_t *word);
 void il_set(uint32_t *word);

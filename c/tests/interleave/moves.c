@@ -52,7 +52,7 @@ static struct desk *desk_of(const ww_handle *h)
 }
 
 static unsigned number_of(const struct desk *d) { return (unsigned)(d - desks); }
-static bool sleeps(const struct desk *d) { return seats[number_of(d)].token >= ASLEEP; }
+static bool sleeps(const struct desk *d) { return seats[number_of(d)].token >= ARMED; }
 
 static void is_at_hand(const struct desk *d)
 {
@@ -119,7 +119,7 @@ static void parks(const struct desk *d, uint32_t was)
 
 static void changes_token(struct desk *d, uint32_t was, uint32_t is)
 {
-	if (is >= ASLEEP) {
+	if (is >= ARMED) {
 		parks(d, was);
 	} else if (is == TOKEN) {
 		owed[il.current] &= ~(1u << number_of(d));
@@ -144,7 +144,7 @@ void il_stores(const volatile void *at, uint64_t was, uint64_t is, const void *p
 	il.from = pc;
 	if (offset % sizeof *seats == offsetof(ww_seat, token))
 		changes_token(&desks[k], (uint32_t)was, (uint32_t)is);
-	if (offset % sizeof *seats == offsetof(ww_seat, busy) && is % GIVEN_ONCE == IDLE && was % GIVEN_ONCE != IDLE)
+	if (offset % sizeof *seats == offsetof(ww_seat, busy) && !(is & BUSY) && was & BUSY)
 		goes_to_another(&desks[k]);
 	il.from = NULL;
 }

@@ -10,7 +10,8 @@
  *	?	the next lock is tried; t: until a time; i: interruptible; where it has none, all up to its unlock is left out
  *	n	the next lock is without a context; !: it has to fail; .: it must not
  *	y	the next lock or ( is by polls: it sleeps until its waker is called; z: it polls once more without need; x: it ends
- *		the wait, and where it has none, all up to the unlock or ) is left out; h: whoever is called goes on with it
+ *		the wait, and where it has none, all up to the unlock or ) is left out; l: whenever it is called it polls late, once
+ *		all other threads wait; h: whoever is called goes on with it
  *	H	waits for that, and goes on with the context, which ends there, and is gone: where there is none, all up to ) is left out
  *	Lab;	locks these in a loop	U	unlocks all of it	&ab;	locks these as a list
  *	Kab;	as L, but once told to back off it unlocks what it holds one by one, and locks that one before it begins anew
@@ -149,7 +150,6 @@ void il_setup(const struct il_program *p)
 void il_check(const struct il_program *p)
 {
 	struct ww_acquire_ctx x[8];
-	uint32_t kept = 0;
 
 	for (unsigned k = 0; k < 3; k++)
 		if ((k < 2 || !names(p, "D")) && mutexes[k].pool)
@@ -165,18 +165,16 @@ void il_check(const struct il_program *p)
 	for (unsigned k = 0; numbered && k < 3; k++)
 		MUST(ww_number_put(numbers[k], &c) == (k == 2 && names(p, "P") ? -EINVAL : 0));
 	if (c.pool) {
-		MUST(!c.pool->loose.seekers && !c.pool->loose.first && !c.pool->crowd.first && !c.pool->crowd.asleep);
+		MUST(!c.pool->threads.seekers && !c.pool->threads.first && !c.pool->crowd.waiting && !c.pool->crowd.asleep);
 		MUST(!(p->flags & (SLOW | OVER)) || !is_crowded(c.pool));
-		for (const ww_seat *it = c.pool->unkept; it; it = it->next)
-			kept++;
-		MUST(kept == keep);
-		most += !!keep; /* one is this thread's */
+		MUST(!c.pool->kept && c.pool->may_keep == keep);
+		most += keep;
 		for (uint32_t k = 0; k < most; k++)
 			MUST(!ww_acquire_init_checked(&x[k], &c));
 		MUST(ww_acquire_init_checked(&x[most], &c) == -EAGAIN);
 		for (uint32_t k = 0; k < most; k++)
 			ww_acquire_fini(&x[k]);
-		MUST(!c.pool->tasks.seekers && !c.pool->tasks.first && !c.pool->tasks.owed);
+		MUST(!c.pool->tasks.seekers && !c.pool->tasks.first && !c.pool->tasks.due);
 		for (uint32_t k = 0; k < tasks; k++)
 			MUST(!ww_acquire_init_poll(&x[k], &c, NULL, NULL));
 		MUST(!tasks || ww_acquire_init_poll(&x[tasks], &c, NULL, NULL) == -ETIMEDOUT);
@@ -186,6 +184,24 @@ void il_check(const struct il_program *p)
 	}
 	MUST(!ww_class_free(&c));
 }
+
+/* A seat is free, and somebody is due one; or somebody waits for one, and nobody was called for it. */
+static bool is_forgotten(const struct ww_seats *of)
+{
+	bool waits = false;
+
+	for (const struct ww_seek *it = of->first; it; it = it->next_)
+		waits |= it->served_ == WAITS;
+	for (uint32_t k = 0; k < of->count; k++) {
+		uint32_t busy = of->seats[k].busy;
+
+		if (!(busy & (BUSY | IS_KEPT)) && (of->due || (waits && !(busy & IS_CALLED))))
+			return true;
+	}
+	return false;
+}
+
+void il_rests(void) { MUST(!c.pool || !(is_forgotten(&c.pool->threads) || is_forgotten(&c.pool->tasks))); }
 
 static uint32_t *user_of(const ww_seat *s) { return &users[s - c.pool->seats]; }
 
@@ -238,7 +254,7 @@ static void take_back(struct user *u, int k, struct polled *it)
 /* As the words say; -ETIMEDOUT where it ended the wait. */
 static int by_polls(struct user *u, int k, const char *how)
 {
-	bool again = strchr(how, 'z'), ends = strchr(how, 'x');
+	bool again = strchr(how, 'z'), ends = strchr(how, 'x'), late = strchr(how, 'l');
 
 	for (;;) {
 		struct polled *it = &polled[il_me()][polls[il_me()]++];
@@ -257,6 +273,8 @@ static int by_polls(struct user *u, int k, const char *how)
 			return poll_once(u, k, NULL);
 		if (!again)
 			il_await(&it->calls);
+		if (late)
+			il_late();
 		again = false;
 	}
 }
@@ -296,7 +314,7 @@ static int begin(struct user *u, char how, const char *words)
 {
 	int r = 0;
 
-	if (strpbrk(words, "xyz"))
+	if (strpbrk(words, "lxyz"))
 		r = by_polls(u, -1, words);
 	else if (how == '(')
 		ww_acquire_init(u->x, &c);
@@ -382,7 +400,7 @@ static int lock(struct user *u, char letter, const char *how)
 	const struct timespec *until = ends ? &soon : NULL;
 	int r;
 
-	if (strpbrk(how, "xyz"))
+	if (strpbrk(how, "lxyz"))
 		r = by_polls(u, (int)k, how);
 	else if (strchr(how, 'h'))
 		r = by_another(u, k);
@@ -571,7 +589,7 @@ static void act(struct user *u, char what, const char *how)
 	case 'D': if (u->last) destroy_last(); break;
 	case 'd': destroy_beside(); break;
 	case 'c': ADD(cancels, 1); MUST(!ww_acquire_cancel(shared)); break;
-	case 's': while (!SEEN(c.pool->loose.seekers) && !SEEN(happened[4])) il_yield(); break;
+	case 's': while (!SEEN(c.pool->threads.seekers) && !SEEN(happened[4])) il_yield(); break;
 	case 'w': while (!are_waiting()) il_yield(); break;
 	case 'F': free_class(); break;
 	case 'v': ww_class_stats(&c, &counts); MUST(counts.context_waits <= 8); break;
@@ -590,7 +608,7 @@ void il_thread(const char *at)
 	char how[4] = "";
 
 	for (; *at; at++) {
-		if (strchr("?tin!.xyzh", *at)) {
+		if (strchr("?tin!.lxyzh", *at)) {
 			strncat(how, at, 1);
 			continue;
 		}
@@ -744,6 +762,8 @@ const struct il_program il_programs[] = {
 	{ "poll-slow-die", { "(yaybAB)", "(ybzaBA)" }, CONTEXTS(4) | WAIT_DIE, 3 },
 	{ "poll-slow-ends", { "(yaybAB)", "(ybxaAB)" }, CONTEXTS(4), 3 },
 	{ "poll-handed-on", { "(abAB)", "(xaybBA)" }, CONTEXTS(4), 3 },
+	{ "poll-late", { "(laA)", "(laA)" }, CONTEXTS(4), 3 },
+	{ "poll-late-slow", { "(laybAB)", "(lblaBA)" }, CONTEXTS(4), 2 },
 	{ "poll-3", { "(yaA)", "(zaA)", "(aA)" }, CONTEXTS(4), 2 },
 	{ "poll-ends-3", { "(yaA)", "(xaA)", "(aA)" }, CONTEXTS(4), 2 },
 	{ "poll-number", { "(zaA)", "(yaA)", "naA" }, CONTEXTS(4) | NUMBERED, 2 },
@@ -761,6 +781,7 @@ const struct il_program il_programs[] = {
 	{ "poll-contexts-2-of-3", { "y()()", "y()", "()" }, CONTEXTS(2), 2 },
 	{ "poll-contexts-kept", { "y()", "()()" }, CONTEXTS(1) | KEEP(1), 3 },
 	{ "poll-in-turn", { "~5(1)", "~1y(4)", "y()5~1sy(=4)" }, CONTEXTS(1), 2 },
+	{ "poll-contexts-late", { "l()", "l()", "()" }, CONTEXTS(1), 2 },
 	{ "poll-contexts-free", { "(8)", "y(9)", "_8_9F()" }, CONTEXTS(1), 2 },
 	{ "tasks", { "y()", "y()", "y()" }, TASKS, 2 },
 	{ "tasks-again", { "y()y()", "z()", "y()" }, TASKS, 2 },
@@ -768,6 +789,12 @@ const struct il_program il_programs[] = {
 	{ "tasks-end", { "y()", "x()", "y()" }, TASKS, 2 },
 	{ "tasks-free", { "y(7)", "y(8)", "y(9)", "_7_8_9F" }, TASKS, 1 },
 	{ "tasks-one", { "y(1~2~3)", "~1y()y()2", "~1y()3" }, TASKS, 2 },
+	{ "tasks-late", { "l()", "l()", "y()" }, TASKS, 2 },
+	{ "tasks-late-again", { "l()l()", "y()", "z()y()" }, TASKS, 2 },
+	{ "tasks-late-4", { "l()", "l()", "y()", "y()" }, TASKS, 1 },
+	{ "tasks-late-held", { "y(1~2)", "~1y(2~3)", "~1l()3", "~1y()" }, TASKS, 1 },
+	{ "tasks-late-end", { "y(1~2~3)", "~1l()2", "~1x()3", "~1l()" }, TASKS, 1 },
+	{ "tasks-late-due", { "y(~1)y(~4)", "y(~2)y(4~3)", "l()", "12y(3)" }, TASKS, 1 },
 	{ "tasks-one-ends", { "y(1~2~3~4)", "~1y()2", "~1x()3", "~1z()4" }, TASKS, 1 },
 	{ "numbers", { ".TG.TG", ".TG.TG" }, CONTEXTS(4), 3 },
 	{ "numbers-two", { "TTGG", "TTGG" }, CONTEXTS(4), 2 },

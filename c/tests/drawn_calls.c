@@ -1,0 +1,1189 @@
+/*
+ * Drawn calls by contexts of one thread, none of which blocks, beside a model: of who holds what, who waits for what, whose
+ * waker was called, and what each call has to return.  One of the two classes has contexts of tasks, the other one says how
+ * many contexts it has; both are freed and opened again and again, of either kind.  So many seconds; a failure says the seed
+ * and the last calls.  drawn_calls [SECONDS [SEED]]
+ */
+#include "mutex_test.h"
+#include "../ww_number.h"
+#include "../ww_poll.h"
+#include <signal.h>
+
+enum { WORLDS = 2, TASKS = 7, OBJECTS = 4, LOCKS = 6, SAID = 64, LATEST = 24 };
+enum { NOBODY = -1, ALONE = TASKS };
+
+/* What the model knows of a task and its context. */
+struct task {
+	struct ww_acquire_ctx x;
+	struct ww_seek seek;
+	enum { ENDED, SEEKS, BEGUN } phase;
+	enum { NOT_LENT, LENT, CALLED, TAKEN } waker; /* TAKEN: back, so nobody calls it */
+	bool is_ended;	  /* what is in x may be used, and is refused; else it has never begun */
+	bool of_tasks;	  /* its context is one of those that tasks have for themselves */
+	enum { WAITS, IS_CALLED, DUE, SERVED } place; /* where it stands, while it seeks: see ww_pool.c */
+	const void *seat; /* for which it was called, or which it got, where tasks have contexts of their own */
+	int polled;	  /* the lock for which it waits, or NOBODY */
+	int held[LOCKS];  /* the oldest first */
+	int count;
+	unsigned long age; /* when it began; a context may be older than that, and none is younger */
+	bool told;	  /* it got -EDEADLK, and hasn't backed off */
+	int contended;	  /* at which it got that, or NOBODY */
+	bool slow;	  /* and no other lock call came since */
+	bool cancelled, is_done;
+	bool loop, first; /* in a loop; and it begins with a wait for the contended one */
+	int owing;	  /* for which it has waited before the body asked, or NOBODY */
+	unsigned flags;
+};
+
+static struct world {
+	struct ww_class c;
+	unsigned kind;	   /* Wait-Die */
+	int contexts;	   /* how many it has, those of tasks where these have their own */
+	bool is_limited;   /* the class said how many */
+	struct task tasks[TASKS];
+	int queue[TASKS], queued; /* who waits for a context, in this order */
+	struct ww_mutex objects[OBJECTS];
+	uint32_t numbers[LOCKS];
+	struct ww_seat *by[LOCKS]; /* of a number that is held without a context */
+	int holder[LOCKS];
+} worlds[WORLDS], *w;
+
+static const struct timespec past;
+
+/* ---- what is said if something is wrong ---- */
+
+static unsigned seed, state;
+static struct { const char *what; long task, lock, r; } said[SAID];
+static unsigned long made;
+
+static void says(const char *what, const struct task *t, int lock)
+{
+	said[made % SAID].what = what;
+	said[made % SAID].task = t ? t - w->tasks : NOBODY;
+	said[made % SAID].lock = lock + 100 * (w - worlds);
+	said[made++ % SAID].r = 9999;
+}
+static void says_result(unsigned long of, long r)
+{
+	said[of % SAID].r = r;
+}
+
+/* Makes a call, which is remembered. */
+#define CALL(r, t, k, call)                                                                            \
+	do {                                                                                           \
+		unsigned long of_ = made;                                                              \
+                                                                                                       \
+		says(#call, t, k);                                                                     \
+		(r) = (call);                                                                          \
+		says_result(of_, (long)(r));                                                           \
+	} while (0)
+
+static void tells(const char *file, int line, const char *what)
+{
+	fflush(stdout);
+	printf("%s:%d: not so: %s\nseed %u, %lu calls, of which these are the last:\n", file, line, what, seed, made);
+	for (unsigned long k = made > LATEST ? made - LATEST : 0; k < made; k++)
+		printf("  world %ld, task %ld, lock %ld: %s = %ld\n", said[k % SAID].lock / 100, said[k % SAID].task,
+		       said[k % SAID].lock % 100, said[k % SAID].what, said[k % SAID].r);
+	fflush(stdout);
+	_exit(1);
+}
+#define IS(fact)                                                                                       \
+	do {                                                                                           \
+		if (!(fact))                                                                           \
+			tells(__FILE__, __LINE__, #fact);                                              \
+	} while (0)
+
+static void on_signal(int which)
+{
+	tells(__FILE__, which, which == SIGALRM ? "a call returns" : "the program goes on");
+}
+
+static unsigned draw(unsigned count) { return next(&state) % count; }
+static bool rarely(unsigned in) { return draw(in) == 0; }
+
+/* ---- what is so ---- */
+
+static int id(const struct task *t) { return (int)(t - w->tasks); }
+static bool holds(const struct task *t, int k) { return w->holder[k] == id(t); }
+static struct ww_mutex *object(int k) { return &w->objects[k]; }
+static bool is_object(int k) { return k < OBJECTS; }
+
+static int waiters(int k)
+{
+	int count = 0;
+
+	for (int j = 0; j < TASKS; j++)
+		count += w->tasks[j].polled == k;
+	return count;
+}
+/* Nobody holds it or waits for it, so a call of it doesn't wait. */
+static bool is_free(int k) { return w->holder[k] == NOBODY && !waiters(k); }
+
+static bool says_it_holds(const struct task *t, int k)
+{
+	return is_object(k) ? ww_mutex_is_held_by(object(k), &t->x) : ww_number_is_held(w->numbers[k], &t->x);
+}
+
+/* Contexts in use, of those that are counted. */
+static int used(void)
+{
+	int count = 0;
+
+	for (int j = 0; j < TASKS; j++)
+		count += w->tasks[j].phase == BEGUN && (w->is_limited || w->tasks[j].of_tasks);
+	for (int k = 0; k < LOCKS && w->is_limited; k++)
+		count += w->holder[k] == ALONE;
+	for (int j = 0; j < TASKS; j++)
+		count += w->tasks[j].phase == SEEKS && w->tasks[j].place == SERVED;
+	return count;
+}
+
+/* Each that waits by a poll is called in the end: of those that wait for one another, somebody was. */
+static void no_ring(const struct task *from)
+{
+	const struct task *at = from;
+
+	for (int steps = 0; at->polled != NOBODY && at->waker == LENT; steps++) {
+		int holder = w->holder[at->polled];
+
+		if (holder == NOBODY || holder == ALONE)
+			return;
+		at = &w->tasks[holder];
+		IS(!(at == from && at->waker == LENT));
+		if (steps > TASKS)
+			return;
+	}
+}
+
+/* A mutex that is free isn't waited for, unless somebody was called, or took a waker back, and will look. */
+static void no_wait_for_what_is_free(int k)
+{
+	int lent = 0, will_look = 0;
+
+	for (int j = 0; j < TASKS; j++)
+		if (w->tasks[j].polled == k) {
+			lent += w->tasks[j].waker == LENT;
+			will_look += w->tasks[j].waker != LENT;
+		}
+	IS(w->holder[k] != NOBODY || !lent || will_look);
+}
+
+static bool is_used(const void *seat)
+{
+	for (int j = 0; j < TASKS; j++) {
+		const struct task *t = &w->tasks[j];
+
+		if (t->phase == BEGUN ? t->x.own == seat : t->phase == SEEKS && t->place == SERVED && t->seat == seat)
+			return true;
+	}
+	return false;
+}
+
+/* The first in the queue that stands there, or is called for this seat, if that isn't NULL; or NULL. */
+static struct task *first_that(unsigned place, const void *seat)
+{
+	for (int j = 0; j < w->queued; j++) {
+		struct task *t = &w->tasks[w->queue[j]];
+
+		if (t->place == place && (!seat || t->seat == seat))
+			return t;
+	}
+	return NULL;
+}
+
+/* Who was called, or has a context, was told so; and no context is free for which somebody waits whom nobody called. */
+static void no_wait_for_a_free_context(void)
+{
+	int called = 0;
+
+	for (int j = 0; j < TASKS; j++) {
+		const struct task *t = &w->tasks[j];
+
+		if (t->phase != SEEKS)
+			continue;
+		IS(t->waker == TAKEN || (t->waker == CALLED) == (t->place == IS_CALLED || t->place == SERVED));
+		called += t->place == IS_CALLED && !is_used(t->seat);
+	}
+	IS(used() == w->contexts || !first_that(DUE, NULL));
+	IS(w->contexts - used() <= called || !first_that(WAITS, NULL));
+}
+
+static void all_is_so(void)
+{
+	for (int k = 0; k < LOCKS; k++) {
+		if (is_object(k))
+			IS(ww_mutex_is_locked(object(k)) == (w->holder[k] != NOBODY) &&
+			   ww_mutex_is_held_by(object(k), NULL) == (w->holder[k] == ALONE));
+		for (int j = 0; j < TASKS; j++) {
+			struct task *t = &w->tasks[j];
+
+			if (t->phase == BEGUN && t->polled == NOBODY)
+				IS(says_it_holds(t, k) == holds(t, k));
+			else if (t->phase == BEGUN && is_object(k))
+				IS(ww_mutex_is_held_by(object(k), &t->x) == holds(t, k));
+		}
+		no_wait_for_what_is_free(k);
+	}
+	for (int j = 0; j < TASKS; j++) {
+		struct task *t = &w->tasks[j];
+
+		if (t->phase != BEGUN)
+			continue;
+		IS((int)t->x.acquired == t->count);
+		if (t->polled == NOBODY) {
+			IS(ww_is_contended(&t->x) == (t->loop && t->told));
+			IS(!t->loop || (int)ww_acquire_mark(&t->x) == t->count - (t->owing != NOBODY && holds(t, t->owing)));
+		} else {
+			no_ring(t);
+		}
+	}
+	no_wait_for_a_free_context();
+}
+
+/* ---- wakers ---- */
+
+/* Nothing is locked, so it may use the library. */
+static void wake(void *world, void *task)
+{
+	struct world *of = world;
+	struct task *t = task;
+	struct ww_class_counts counts;
+
+	IS(t->waker == LENT);
+	t->waker = CALLED;
+	ww_class_stats(&of->c, &counts);
+}
+static void never(void *world, void *task)
+{
+	bool refused_poll_had_it = true;
+
+	(void)world, (void)task;
+	IS(!refused_poll_had_it);
+}
+static const struct ww_waker refused = { never, NULL, NULL };
+
+/* The waker of its next poll, which nobody has called yet; and after that poll it isn't lent if the poll didn't wait. */
+static struct ww_waker lends(struct task *t)
+{
+	t->waker = LENT;
+	return (struct ww_waker){ wake, w, t };
+}
+
+static void takes_back(struct task *t)
+{
+	bool r, was = t->waker == LENT && (t->phase == SEEKS || t->polled != NOBODY);
+
+	CALL(r, t, t->polled, ww_poll_take_back(&t->x, t->phase == SEEKS ? &t->seek : NULL));
+	IS(r == was);
+	if (r)
+		t->waker = TAKEN;
+}
+
+/* ---- what locks return ---- */
+
+static void got(struct task *t, int k)
+{
+	IS(w->holder[k] == NOBODY);
+	w->holder[k] = id(t);
+	t->held[t->count++] = k;
+}
+
+static void lost(struct task *t, int k)
+{
+	int left = 0;
+
+	w->holder[k] = NOBODY;
+	for (int j = 0; j < t->count; j++)
+		if (t->held[j] != k)
+			t->held[left++] = t->held[j];
+	t->count = left;
+	if (!t->count && !t->loop)
+		t->told = false;
+}
+
+static void lost_all(struct task *t)
+{
+	while (t->count)
+		lost(t, t->held[t->count - 1]);
+	t->owing = NOBODY;
+}
+
+/* A call that may have waited for k has ended, or goes on. */
+static void waited(struct task *t, int k, int r, bool polls)
+{
+	switch (r) {
+	case 0:
+		got(t, k);
+		t->told = t->first = false;
+		if (t->owing == k)
+			t->owing = NOBODY;
+		break;
+	case -EDEADLK:
+		IS(t->count);
+		t->told = true;
+		t->contended = k;
+		t->slow = true;
+		break;
+	case -EINTR:
+		IS(t->cancelled);
+		t->cancelled = false;
+		break;
+	case -ETIMEDOUT:
+		IS(!polls && !t->cancelled);
+		break;
+	default:
+		IS(r == -EINPROGRESS && polls && !t->cancelled);
+	}
+	IS(r == 0 || r == -EDEADLK || !is_free(k)); /* what is free is acquired */
+}
+
+/* What a lock call of k returned, outside of loops. */
+static void by_hand(struct task *t, int k, int r, bool polls)
+{
+	t->slow = false;
+	if (holds(t, k))
+		IS(r == -EALREADY || (t->told && r == -EINVAL));
+	else if (t->told)
+		IS(r == -EINVAL);
+	else
+		waited(t, k, r, polls);
+}
+
+/* The same in a loop, or behind it; it may have waited for the contended one first. */
+static void in_loop(struct task *t, int k, int r)
+{
+	int c = t->contended;
+
+	t->slow = false;
+	if (t->first && says_it_holds(t, c)) {
+		got(t, c);
+		t->first = t->told = false;
+		t->owing = c;
+	} else if (t->first) {
+		IS(r == -ETIMEDOUT || r == -EINTR);
+		IS(!is_free(c) && t->cancelled == (r == -EINTR));
+		t->cancelled = false;
+		return;
+	}
+	if (holds(t, k)) {
+		IS(r == (t->owing == k || t->flags & WW_IGNORE_DUPLICATES ? 0 : -EALREADY));
+		if (t->owing == k) { /* and it is the newest now */
+			t->owing = NOBODY;
+			lost(t, k);
+			got(t, k);
+		}
+	} else if (t->told && t->count) {
+		IS(r == -EINVAL);
+	} else {
+		waited(t, k, r, false);
+	}
+}
+
+static void locked(struct task *t, int k, int r)
+{
+	if (t->loop)
+		in_loop(t, k, r);
+	else
+		by_hand(t, k, r, false);
+}
+
+/* The library's own, which are called wherever nothing is compiled into callers. */
+static __typeof__(ww_mutex_lock) *volatile lock_of = ww_mutex_lock;
+static __typeof__(ww_mutex_trylock) *volatile trylock_of = ww_mutex_trylock;
+static __typeof__(ww_mutex_unlock) *volatile unlock_of = ww_mutex_unlock;
+static __typeof__(ww_number_lock) *volatile number_lock_of = ww_number_lock;
+static __typeof__(ww_number_trylock) *volatile number_trylock_of = ww_number_trylock;
+static __typeof__(ww_number_unlock) *volatile number_unlock_of = ww_number_unlock;
+
+/* A wait for k would end by -EDEADLK, as far as the model knows. */
+static bool gives_way(const struct task *t, int k)
+{
+	if (!t->count || t->told || w->holder[k] == NOBODY || w->holder[k] == ALONE || holds(t, k))
+		return false;
+	if (w->kind)
+		return w->tasks[w->holder[k]].age < t->age;
+	for (int j = 0; j < t->count; j++)
+		for (int i = 0; i < TASKS; i++)
+			if (w->tasks[i].polled == t->held[j] && w->tasks[i].age < t->age)
+				return true;
+	return false;
+}
+
+static void lock_until(struct task *t, int k)
+{
+	struct timespec until = gives_way(t, k) && !t->first && draw(4) ? in_ms(20) : past;
+	int r;
+
+	if (is_object(k))
+		CALL(r, t, k, ww_mutex_lock_until(object(k), &t->x, &until));
+	else
+		CALL(r, t, k, ww_number_lock_until(w->numbers[k], &t->x, &until));
+	locked(t, k, r);
+}
+
+/* Without a time, where it won't wait. */
+static void lock(struct task *t, int k)
+{
+	int r;
+
+	if (t->first && !is_free(t->contended))
+		return;
+	if (!holds(t, k) && !is_free(k) && !(t->told && t->count))
+		return;
+	switch (draw(3) + (is_object(k) ? 0 : 3)) {
+	case 0: CALL(r, t, k, ww_mutex_lock(object(k), &t->x)); break;
+	case 1: CALL(r, t, k, lock_of(object(k), &t->x)); break;
+	case 2: CALL(r, t, k, ww_mutex_lock_interruptible(object(k), &t->x)); break;
+	case 3: CALL(r, t, k, ww_number_lock(w->numbers[k], &t->x)); break;
+	case 4: CALL(r, t, k, number_lock_of(w->numbers[k], &t->x)); break;
+	default: CALL(r, t, k, ww_number_lock_until(w->numbers[k], &t->x, NULL)); break;
+	}
+	locked(t, k, r);
+}
+
+static void trylock(struct task *t, int k)
+{
+	int r;
+
+	switch (draw(3) + (is_object(k) ? 0 : 3)) {
+	case 0: CALL(r, t, k, ww_mutex_trylock(object(k), &t->x)); break;
+	case 1: CALL(r, t, k, trylock_of(object(k), &t->x)); break;
+	case 2: CALL(r, t, k, ww_mutex_trylock_checked(object(k), &t->x)); break;
+	case 3: CALL(r, t, k, ww_number_trylock(w->numbers[k], &t->x)); break;
+	default: CALL(r, t, k, number_trylock_of(w->numbers[k], &t->x)); break;
+	}
+	t->slow = false;
+	if (holds(t, k)) {
+		IS(r == (t->loop && t->owing == k));
+		if (r) {
+			t->owing = NOBODY;
+			lost(t, k);
+			got(t, k);
+		}
+	} else {
+		IS(r == (is_free(k) && !(t->told && t->count)));
+		if (r)
+			waited(t, k, 0, false);
+	}
+}
+
+static void lock_slow(struct task *t, int k)
+{
+	bool is_due = t->slow && !t->count && k == t->contended && !t->loop;
+	int r;
+
+	if (!is_object(k) || (t->loop && !(t->told && t->count)) || (!is_due && !t->count))
+		return;
+	if (is_free(k) && draw(2))
+		CALL(r, t, k, ww_mutex_lock_slow_checked(object(k), &t->x));
+	else
+		CALL(r, t, k, ww_mutex_lock_slow_until(object(k), &t->x, &past));
+	if (!is_due) {
+		IS(r == -EINVAL);
+		return;
+	}
+	waited(t, k, r, false);
+	t->slow = r != 0;
+}
+
+/* A poll, the first one or another one. */
+static void poll(struct task *t, int k)
+{
+	bool lent = !rarely(4), waits = t->polled != NOBODY;
+	struct ww_waker waker = { 0 };
+	int r;
+
+	if (waits)
+		k = t->polled;
+	if (lent)
+		waker = lends(t);
+	else
+		t->waker = NOT_LENT;
+	t->polled = NOBODY;
+	if (is_object(k))
+		CALL(r, t, k, ww_mutex_lock_poll(object(k), &t->x, lent ? &waker : NULL));
+	else
+		CALL(r, t, k, ww_number_lock_poll(w->numbers[k], &t->x, lent ? &waker : NULL));
+	if (r == -EINPROGRESS)
+		t->polled = k;
+	else
+		t->waker = NOT_LENT;
+	if (t->loop) {
+		IS(r == -EINVAL);
+	} else if (!waits) {
+		by_hand(t, k, r, lent);
+	} else {
+		waited(t, k, r, lent);
+		IS(r != -EINPROGRESS || w->holder[k] != NOBODY || waiters(k) > 1 || t->count);
+	}
+}
+
+static void unlock(struct task *t, int k)
+{
+	int r = 0;
+
+	if (!holds(t, k)) {
+		if (w->holder[k] == NOBODY && is_object(k))
+			CALL(r, t, k, ww_mutex_unlock_checked(object(k)));
+		else if (!is_object(k))
+			CALL(r, t, k, ww_number_unlock(w->numbers[k], &t->x));
+		else
+			return;
+		IS(r == -EINVAL);
+		return;
+	}
+	switch (draw(3) + (is_object(k) ? 0 : 3)) {
+	case 0: says("ww_mutex_unlock", t, k); ww_mutex_unlock(object(k)); break;
+	case 1: says("ww_mutex_unlock by call", t, k); unlock_of(object(k)); break;
+	case 2: CALL(r, t, k, ww_mutex_unlock_checked(object(k))); break;
+	case 3: CALL(r, t, k, ww_number_unlock(w->numbers[k], &t->x)); break;
+	default: CALL(r, t, k, number_unlock_of(w->numbers[k], &t->x)); break;
+	}
+	IS(!r);
+	lost(t, k);
+}
+
+/*
+ * In Wait-Die it certainly gets -EDEADLK from an older context: its own age is that of its begin, since it has no seat that a
+ * thread keeps.
+ */
+static bool dies(const struct task *t, int k)
+{
+	return w->kind && gives_way(t, k) && (t->of_tasks || w->is_limited);
+}
+
+/* Of objects; where it can't wait. */
+static void lock_all(struct task *t)
+{
+	struct ww_mutex *list[3];
+	int at[3], count = 1 + (int)draw(3), r;
+	bool ends = t->flags & WW_INTERRUPTIBLE && t->cancelled, twice = false, may_wait = false;
+
+	for (int j = 0; j < count; j++) {
+		at[j] = (int)draw(OBJECTS);
+		list[j] = object(at[j]);
+		twice |= holds(t, at[j]);
+		ends |= !may_wait && dies(t, at[j]);
+		may_wait |= !holds(t, at[j]) && !is_free(at[j]);
+		for (int i = 0; i < j; i++)
+			twice |= at[i] == at[j];
+	}
+	if (may_wait && !ends && !t->loop && !t->told)
+		return;
+	CALL(r, t, at[0], ww_mutex_lock_all(&t->x, list, (size_t)count));
+	if (t->loop) {
+		IS(r == -EINVAL);
+		return;
+	}
+	t->slow = false;
+	if (t->told) {
+		IS(r == -EINVAL || (r == -EALREADY && holds(t, at[0])) || (holds(t, at[0]) && t->flags & WW_IGNORE_DUPLICATES));
+		if (!r)
+			for (int j = 0; j < count; j++)
+				IS(holds(t, at[j]));
+	} else if (may_wait && r) {
+		IS(r == -EINTR || (r == -EDEADLK && t->count) || (r == -EALREADY && twice));
+		if (r == -EINTR)
+			t->cancelled = false;
+		t->told = r == -EDEADLK;
+		t->contended = NOBODY;
+	} else {
+		IS(r == (twice && !(t->flags & WW_IGNORE_DUPLICATES) ? -EALREADY : 0));
+		for (int j = 0; j < count && !r; j++)
+			if (!holds(t, at[j]))
+				got(t, at[j]);
+	}
+}
+
+/* ---- loops ---- */
+
+static void begin_loop(struct task *t)
+{
+	if (t->count)
+		return;
+	says("ww_until_all_locked", t, 0);
+	ww_tries_begin_(&t->x);
+	t->loop = true;
+	t->told = t->first = t->slow = false;
+	t->owing = NOBODY;
+}
+
+static void goes_round(struct task *t)
+{
+	if (!t->loop)
+		return;
+	switch (draw(4)) {
+	case 0:
+		says("ww_acquire_unlock_all", t, 0);
+		ww_acquire_unlock_all(&t->x);
+		lost_all(t);
+		t->first = false;
+		break;
+	case 1: case 2:
+		says("ww_back_off_", t, 0);
+		ww_back_off_(&t->x);
+		if (t->told) {
+			lost_all(t);
+			t->first = true;
+			t->told = false;
+		}
+		break;
+	default: {
+		bool owes = t->owing != NOBODY && holds(t, t->owing);
+		size_t mark = draw((unsigned)(t->count - owes) + 1);
+
+		says("ww_acquire_unlock_to", t, (int)mark);
+		ww_acquire_unlock_to(&t->x, mark);
+		while (mark && t->count > (int)mark + owes)
+			lost(t, t->held[t->count - 1]);
+		if (!mark) {
+			lost_all(t);
+			t->first = false;
+		}
+	}
+	}
+}
+
+/* ---- contexts ---- */
+
+static void has_begun(struct task *t, bool of_tasks)
+{
+	t->phase = BEGUN;
+	t->age = made;
+	t->waker = NOT_LENT;
+	t->of_tasks = of_tasks;
+	t->is_ended = true;
+	t->polled = t->contended = t->owing = NOBODY;
+	t->count = 0;
+	t->flags = 0;
+	t->told = t->slow = t->cancelled = t->loop = t->first = t->is_done = false;
+	t->x.deadlock_inject_countdown = ~0u;
+}
+
+static void leaves_queue(const struct task *t)
+{
+	int left = 0;
+
+	for (int j = 0; j < w->queued; j++)
+		if (w->queue[j] != id(t))
+			w->queue[left++] = w->queue[j];
+	w->queued = left;
+}
+
+static void has_got(struct task *t, const void *seat)
+{
+	t->place = SERVED;
+	t->seat = seat;
+	leaves_queue(t);
+}
+
+/* A context ended, and its seat is free: in a limited class it is the first one's; else it is that of who is due, or offered. */
+static void is_given(const void *seat)
+{
+	struct task *first = first_that(w->is_limited ? WAITS : DUE, NULL);
+
+	if (first) {
+		has_got(first, seat);
+	} else if ((first = first_that(WAITS, NULL)) && !first_that(IS_CALLED, seat)) {
+		first->place = IS_CALLED;
+		first->seat = seat;
+	}
+}
+
+/* A first call to begin one; r is what it returns if there is none. */
+static void may_begin(struct task *t, int r, int otherwise, bool of_tasks)
+{
+	int none = w->contexts - used();
+
+	IS(r == 0 || r == otherwise);
+	if (w->is_limited || of_tasks)
+		IS((r == 0) == (none > 0));
+	else
+		IS(r == 0); /* threads have many */
+	t->is_ended |= r != -EINPROGRESS;
+	if (!r)
+		has_begun(t, of_tasks && !w->is_limited);
+}
+
+static void begin(struct task *t)
+{
+	unsigned way = draw(8);
+	struct ww_waker waker;
+	int r;
+
+	if (rarely(3)) {
+		memset(&t->x, 0, sizeof t->x);
+		t->is_ended = true;
+	} else if (rarely(3)) {
+		memset(&t->x, 0x5a, sizeof t->x);
+		t->is_ended = false;
+	}
+	if (way == 0) {
+		CALL(r, t, 0, ww_acquire_init_checked(&t->x, &w->c));
+		may_begin(t, r, -EAGAIN, false);
+	} else if (way == 1) {
+		CALL(r, t, 0, ww_acquire_init_until(&t->x, &w->c, &past));
+		may_begin(t, r, -ETIMEDOUT, false);
+	} else if (way == 2 && (!w->is_limited || used() < w->contexts)) {
+		says("ww_acquire_init", t, 0);
+		ww_acquire_init(&t->x, &w->c);
+		may_begin(t, 0, 0, false);
+	} else if (way == 3) {
+		CALL(r, t, 0, ww_acquire_init_poll(&t->x, &w->c, NULL, NULL));
+		may_begin(t, r, -ETIMEDOUT, true);
+	} else {
+		t->seek = (struct ww_seek){ 0 };
+		waker = lends(t);
+		CALL(r, t, 0, ww_acquire_init_poll(&t->x, &w->c, &t->seek, &waker));
+		if (r == -EINPROGRESS) {
+			t->phase = SEEKS;
+			t->place = WAITS;
+			w->queue[w->queued++] = id(t);
+		}
+		may_begin(t, r, -EINPROGRESS, true);
+	}
+}
+
+/* Whoever was called looks: for the seat for which it was, or any other. Returns whether it finds one. */
+static bool finds_one(struct task *t)
+{
+	if (t->place == IS_CALLED)
+		t->place = used() < w->contexts ? SERVED : w->queue[0] == id(t) ? DUE : WAITS;
+	return t->place == SERVED;
+}
+
+/* Another poll for a context. */
+static void seek_on(struct task *t)
+{
+	bool lent = !rarely(5), leaves = !lent && t->place == IS_CALLED && !is_used(t->seat);
+	struct ww_waker waker = { 0 };
+	int r;
+
+	if (lent)
+		waker = lends(t);
+	else
+		t->waker = NOT_LENT;
+	CALL(r, t, 0, ww_acquire_init_poll(&t->x, &w->c, &t->seek, lent ? &waker : NULL));
+	IS(r == ((lent ? finds_one(t) : t->place == SERVED) ? 0 : lent ? -EINPROGRESS : -ETIMEDOUT));
+	if (r == -EINPROGRESS)
+		return;
+	leaves_queue(t);
+	t->waker = NOT_LENT;
+	t->phase = ENDED;
+	t->is_ended = true;
+	if (leaves)
+		is_given(t->seat);
+	if (!r)
+		has_begun(t, !w->is_limited);
+}
+
+static void end_context(struct task *t)
+{
+	const void *seat = t->x.own;
+	int r;
+
+	if (draw(2) || t->count) {
+		CALL(r, t, 0, ww_acquire_fini_checked(&t->x));
+		IS(r == (t->count ? -EINVAL : 0));
+	} else {
+		says("ww_acquire_fini", t, 0);
+		ww_acquire_fini(&t->x);
+		r = 0;
+	}
+	if (r)
+		return;
+	t->phase = ENDED;
+	if (w->is_limited || t->of_tasks)
+		is_given(seat);
+}
+
+/* ---- calls that are refused, and change nothing ---- */
+
+static void amid_a_wait(struct task *t)
+{
+	int k = (int)draw(OBJECTS), n = OBJECTS + (int)draw(LOCKS - OBJECTS), r;
+	struct ww_mutex *list[2] = { object(k), object((k + 1) % OBJECTS) };
+
+	switch (draw(20)) {
+	case 0: CALL(r, t, k, ww_mutex_lock(object(k), &t->x)); break;
+	case 1: CALL(r, t, k, lock_of(object(k), &t->x)); break;
+	case 2: CALL(r, t, k, ww_mutex_lock_until(object(k), &t->x, &past)); break;
+	case 3: CALL(r, t, k, ww_mutex_lock_interruptible(object(k), &t->x)); break;
+	case 4: CALL(r, t, k, ww_mutex_lock_slow_checked(object(k), &t->x)); break;
+	case 5: CALL(r, t, n, ww_number_lock(w->numbers[n], &t->x)); break;
+	case 6: CALL(r, t, n, ww_number_lock_until(w->numbers[n], &t->x, &past)); break;
+	case 7: case 8:
+		k = draw(2) ? k : n;
+		if (k == t->polled)
+			return;
+		if (is_object(k))
+			CALL(r, t, k, ww_mutex_lock_poll(object(k), &t->x, draw(2) ? &refused : NULL));
+		else
+			CALL(r, t, k, ww_number_lock_poll(w->numbers[k], &t->x, draw(2) ? &refused : NULL));
+		break;
+	case 9: case 10:
+		if (!t->count)
+			return;
+		k = t->held[draw((unsigned)t->count)];
+		if (is_object(k))
+			CALL(r, t, k, ww_mutex_unlock_checked(object(k)));
+		else
+			CALL(r, t, k, ww_number_unlock(w->numbers[k], &t->x));
+		break;
+	case 11: CALL(r, t, 0, ww_acquire_fini_checked(&t->x)); break;
+	case 12: CALL(r, t, 0, ww_acquire_done_checked(&t->x)); break;
+	case 13: case 14: CALL(r, t, k, ww_mutex_lock_all(&t->x, list, 1 + draw(2))); break;
+	case 15: CALL(r, t, k, ww_mutex_trylock(object(k), &t->x) ? 1 : -EBUSY); break;
+	case 16: CALL(r, t, k, trylock_of(object(k), &t->x) ? 1 : -EBUSY); break;
+	case 17: CALL(r, t, n, ww_number_trylock(w->numbers[n], &t->x) ? 1 : -EBUSY); break;
+	case 18:
+		if (is_object(t->polled))
+			CALL(r, t, t->polled, ww_mutex_destroy(object(t->polled)));
+		else
+			CALL(r, t, t->polled, ww_number_put(w->numbers[t->polled], &w->c));
+		break;
+	default: CALL(r, t, 0, ww_class_free(&w->c)); break;
+	}
+	IS(r == -EBUSY || (t->is_done && r == -EINVAL));
+}
+
+/* It has ended, or none was begun in this memory. */
+static void with_none(struct task *t)
+{
+	int k = (int)draw(OBJECTS), n = OBJECTS + (int)draw(LOCKS - OBJECTS), r;
+	struct ww_mutex *list[2] = { object(k), object((k + 1) % OBJECTS) };
+
+	if (!t->is_ended)
+		return;
+	switch (draw(16)) {
+	case 0: CALL(r, t, k, ww_mutex_lock(object(k), &t->x)); break;
+	case 1: CALL(r, t, k, lock_of(object(k), &t->x)); break;
+	case 2: CALL(r, t, k, ww_mutex_lock_until(object(k), &t->x, &past)); break;
+	case 3: CALL(r, t, k, ww_mutex_trylock_checked(object(k), &t->x)); break;
+	case 4: CALL(r, t, k, ww_mutex_lock_slow_checked(object(k), &t->x)); break;
+	case 5: CALL(r, t, n, ww_number_lock(w->numbers[n], &t->x)); break;
+	case 6: CALL(r, t, n, ww_number_lock_until(w->numbers[n], &t->x, &past)); break;
+	case 7: CALL(r, t, n, ww_number_unlock(w->numbers[n], &t->x)); break;
+	case 8: CALL(r, t, k, ww_mutex_lock_poll(object(k), &t->x, draw(2) ? &refused : NULL)); break;
+	case 9: CALL(r, t, n, ww_number_lock_poll(w->numbers[n], &t->x, draw(2) ? &refused : NULL)); break;
+	case 10: CALL(r, t, 0, ww_acquire_fini_checked(&t->x)); break;
+	case 11: CALL(r, t, 0, ww_acquire_done_checked(&t->x)); break;
+	case 12: CALL(r, t, k, ww_mutex_lock_all(&t->x, list, 1 + draw(2))); break;
+	case 13: CALL(r, t, 0, ww_acquire_cancel(&t->x)); break;
+	case 14: CALL(r, t, n, ww_number_trylock(w->numbers[n], &t->x) ? 1 : -EINVAL); break;
+	default: CALL(r, t, 0, ww_poll_take_back(&t->x, NULL) ? 1 : -EINVAL); break;
+	}
+	IS(r == -EINVAL);
+}
+
+/* A mutex of the other class, and numbers that aren't. */
+static void of_others(struct task *t)
+{
+	struct world *other = &worlds[w == worlds];
+	struct ww_mutex *m = &other->objects[draw(OBJECTS)];
+	int r;
+
+	switch (draw(5)) {
+	case 0: CALL(r, t, 0, ww_mutex_lock(m, &t->x)); break;
+	case 1: CALL(r, t, 0, ww_mutex_trylock_checked(m, &t->x)); break;
+	case 2: CALL(r, t, 0, ww_mutex_lock_poll(m, &t->x, &refused)); break;
+	case 3: CALL(r, t, 0, ww_mutex_lock_all(&t->x, &m, 1)); break;
+	default: CALL(r, t, 0, ww_number_lock_until(77777, &t->x, &past)); break;
+	}
+	IS(r == -EINVAL);
+	t->slow = false;
+}
+
+/* ---- other calls ---- */
+
+/* Without a context it uses one all the same. */
+static void alone(int k)
+{
+	bool may = !w->is_limited || used() < w->contexts, locks = is_object(k) && draw(2);
+	int r;
+
+	if (w->holder[k] == ALONE) {
+		if (is_object(k)) {
+			CALL(r, NULL, k, ww_mutex_unlock_checked(object(k)));
+			IS(!r);
+		} else {
+			says("ww_number_unlock_alone", NULL, k);
+			ww_number_unlock_alone(w->numbers[k], w->by[k]);
+		}
+		w->holder[k] = NOBODY;
+		if (w->is_limited)
+			is_given(NULL);
+		return;
+	}
+	if (locks)
+		CALL(r, NULL, k, ww_mutex_lock_until(object(k), NULL, &past) ? 0 : 1);
+	else if (is_object(k))
+		CALL(r, NULL, k, ww_mutex_trylock(object(k), NULL));
+	else
+		CALL(r, NULL, k, ww_number_trylock_alone(w->numbers[k], &w->c, &w->by[k]));
+	IS(r == (may && is_free(k)) || (r && may && locks && w->holder[k] == NOBODY));
+	if (r)
+		w->holder[k] = ALONE;
+}
+
+static void comes_anew(int k)
+{
+	int r;
+
+	if (is_object(k)) {
+		CALL(r, NULL, k, ww_mutex_destroy(object(k)));
+		IS(r == (is_free(k) ? 0 : -EBUSY));
+		if (r)
+			return;
+		memset(object(k), draw(2) ? 0 : 0x5a, sizeof *object(k));
+		CALL(r, NULL, k, ww_mutex_init_checked(object(k), &w->c));
+	} else {
+		if (!waiters(k))
+			IS(ww_number_is_locked(w->numbers[k], &w->c) == (w->holder[k] != NOBODY));
+		CALL(r, NULL, k, ww_number_put(w->numbers[k], &w->c));
+		IS(r == (is_free(k) ? 0 : -EBUSY));
+		if (r)
+			return;
+		CALL(r, NULL, k, ww_number_take(&w->numbers[k], &w->c));
+	}
+	IS(!r);
+	for (int j = 0; j < TASKS; j++)
+		if (w->tasks[j].contended == k) { /* it may not wait for what was destroyed */
+			w->tasks[j].slow = false;
+			if (w->tasks[j].first && w->tasks[j].phase == BEGUN) {
+				ww_acquire_unlock_all(&w->tasks[j].x);
+				w->tasks[j].first = false;
+			}
+		}
+}
+
+static bool is_contended_by_others(int k)
+{
+	for (int j = 0; j < TASKS; j++)
+		if (w->tasks[j].phase == BEGUN && w->tasks[j].loop && w->tasks[j].contended == k)
+			return true;
+	return false;
+}
+
+static void cancel(struct task *t)
+{
+	bool lent = t->polled != NOBODY && t->waker == LENT;
+	int r;
+
+	CALL(r, t, 0, ww_acquire_cancel(&t->x));
+	IS(r == (t->cancelled ? -EALREADY : 0));
+	t->cancelled = true;
+	IS(!lent || t->waker == CALLED);
+}
+
+static void sets(struct task *t)
+{
+	int r;
+
+	if (draw(2)) {
+		t->flags = draw(8);
+		says("ww_acquire_flags", t, (int)t->flags);
+		ww_acquire_flags(&t->x, t->flags);
+	} else {
+		CALL(r, t, 0, ww_acquire_done_checked(&t->x));
+		IS(r == (t->is_done ? -EINVAL : 0));
+		t->is_done = true;
+	}
+}
+
+static void unlock_numbers(struct task *t)
+{
+	for (int j = 0; j < t->count; j++)
+		if (is_object(t->held[j]) && !t->loop)
+			return;
+	says("ww_number_unlock_all", t, 0);
+	ww_number_unlock_all(&t->x);
+	lost_all(t);
+	t->first = false;
+}
+
+static void step(void)
+{
+	struct task *t = &w->tasks[draw(TASKS)];
+	int k = (int)draw(LOCKS);
+
+	if (rarely(12)) {
+		alone(k);
+	} else if (rarely(40) && !is_contended_by_others(k)) {
+		comes_anew(k);
+	} else if (t->phase == ENDED) {
+		if (rarely(3))
+			with_none(t);
+		else
+			begin(t);
+	} else if (t->phase == SEEKS) {
+		if (rarely(4))
+			takes_back(t);
+		else if (rarely(4))
+			with_none(t);
+		else if (t->waker == CALLED || rarely(3)) /* those that are called come late, too */
+			seek_on(t);
+	} else if (t->polled != NOBODY) {
+		switch (draw(8)) {
+		case 0: case 1: amid_a_wait(t); break;
+		case 2: takes_back(t); break;
+		case 3: if (rarely(3)) cancel(t); break;
+		default: if (t->waker != LENT || rarely(3)) poll(t, t->polled); break;
+		}
+	} else if (t->loop && t->told && draw(2)) {
+		goes_round(t);
+	} else if (t->first && draw(2)) {
+		lock_until(t, k);
+	} else if (t->owing != NOBODY && rarely(4)) {
+		unlock(t, t->owing);
+	} else {
+		switch (draw(24)) {
+		case 0: case 1: trylock(t, k); break;
+		case 2: case 3: lock_until(t, k); break;
+		case 4: case 5: lock(t, k); break;
+		case 6: case 7: case 8: case 9: poll(t, k); break;
+		case 10: lock_all(t); break;
+		case 11: lock_slow(t, t->contended == NOBODY ? k : t->contended); break;
+		case 12: case 13: case 14: case 15: unlock(t, t->count ? t->held[draw((unsigned)t->count)] : k); break;
+		case 16: unlock(t, k); break;
+		case 17: begin_loop(t); break;
+		case 18: if (rarely(2)) goes_round(t); break;
+		case 19: if (rarely(4)) cancel(t); break;
+		case 20: if (rarely(2)) sets(t); break;
+		case 21: if (rarely(2)) of_others(t); else unlock_numbers(t); break;
+		default: end_context(t); break;
+		}
+	}
+}
+
+/* ---- classes ---- */
+
+/* Those that were called look, the others end: so all get on, and nothing is left. */
+static bool gets_on(struct task *t)
+{
+	if (t->phase == ENDED || ((t->phase == SEEKS || t->polled != NOBODY) && t->waker == LENT))
+		return false;
+	if (t->phase == SEEKS) {
+		seek_on(t);
+	} else if (t->polled != NOBODY) {
+		poll(t, t->polled);
+	} else if (t->count) {
+		while (t->count)
+			unlock(t, t->held[t->count - 1]);
+	} else {
+		end_context(t);
+	}
+	all_is_so();
+	return true;
+}
+
+static bool all_ended(void)
+{
+	for (int j = 0; j < TASKS; j++)
+		if (w->tasks[j].phase != ENDED)
+			return false;
+	return true;
+}
+
+static void close_world(void)
+{
+	int r;
+
+	for (int k = 0; k < LOCKS; k++)
+		if (w->holder[k] == ALONE)
+			alone(k);
+	while (!all_ended()) {
+		bool any = false;
+
+		for (int j = 0; j < TASKS; j++)
+			any |= gets_on(&w->tasks[j]);
+		IS(any);
+	}
+	for (int k = 0; k < LOCKS; k++) {
+		if (is_object(k))
+			CALL(r, NULL, k, ww_mutex_destroy(object(k)));
+		else
+			CALL(r, NULL, k, ww_number_put(w->numbers[k], &w->c));
+		IS(!r);
+	}
+	CALL(r, NULL, 0, ww_class_free(&w->c));
+	IS(!r);
+}
+
+/* How many contexts tasks have is found out by beginning them. */
+static int contexts_of_tasks(void)
+{
+	struct ww_acquire_ctx all[64];
+	int count = 0;
+
+	while (count < 64 && !ww_acquire_init_poll(&all[count], &w->c, NULL, NULL))
+		count++;
+	for (int k = 0; k < count; k++)
+		ww_acquire_fini(&all[k]);
+	return count;
+}
+
+static void open_world(void)
+{
+	w->kind = draw(2);
+	w->is_limited = w != worlds;
+	w->queued = 0;
+	ww_class_init(&w->c, (int)w->kind, "drawn");
+	if (w->is_limited)
+		w->contexts = 1 + (int)draw(4);
+	IS(!ww_class_limit(&w->c, LOCKS, w->is_limited ? (uint32_t)w->contexts : 0) && !ww_class_open(&w->c));
+	for (int k = 0; k < LOCKS; k++) {
+		w->holder[k] = NOBODY;
+		if (is_object(k))
+			ww_mutex_init(object(k), &w->c);
+		else
+			IS(!ww_number_take(&w->numbers[k], &w->c));
+	}
+	memset(w->tasks, 0, sizeof w->tasks);
+	for (int j = 0; j < TASKS; j++) {
+		w->tasks[j].polled = w->tasks[j].contended = w->tasks[j].owing = NOBODY;
+		w->tasks[j].is_ended = true;
+	}
+	if (!w->is_limited)
+		w->contexts = contexts_of_tasks();
+	IS(w->contexts);
+}
+
+static double seconds(void)
+{
+	struct timespec now;
+
+	clock_gettime(CLOCK_MONOTONIC, &now);
+	return (double)now.tv_sec + 1e-9 * (double)now.tv_nsec;
+}
+
+int main(int count, char **words)
+{
+	int last = count > 1 ? atoi(words[1]) : 10;
+	double from = seconds();
+	cpu_set_t one;
+
+	seed = count > 2 ? (unsigned)strtoul(words[2], NULL, 10) : (unsigned)(from * 1e6) ^ (unsigned)getpid();
+	state = seed;
+	signal(SIGSEGV, on_signal);
+	signal(SIGABRT, on_signal);
+	signal(SIGALRM, on_signal);
+	alarm((unsigned)last + 300);
+	CPU_ZERO(&one); /* so tasks have few contexts */
+	CPU_SET((size_t)sched_getcpu(), &one);
+	MUST(!sched_setaffinity(0, sizeof one, &one));
+	do {
+		for (w = worlds; w < worlds + WORLDS; w++)
+			open_world();
+		for (int k = 0; k < 2000; k++) {
+			w = &worlds[draw(WORLDS)];
+			step();
+			all_is_so();
+		}
+		for (w = worlds; w < worlds + WORLDS; w++)
+			close_world();
+	} while (seconds() - from < last);
+	puts("drawn_calls: as the model says");
+	return 0;
+}

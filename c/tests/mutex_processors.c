@@ -1,0 +1,108 @@
+/*
+ * What a class has for each processor, on machines of other sizes: tasks have two contexts for each, at most 64, and a crowd
+ * has a permit for each, at most 64.  All contexts of tasks are called for, wherever there are many.  How many processors the
+ * thread may use comes by a wrapper (ld --wrap), which refuses a set that has no room for those of the machine, as the kernel
+ * does.
+ */
+#include "mutex_test.h"
+#include "../ww_poll.h"
+#include "../ww_pool.h"
+
+enum { MOST_CONTEXTS = 64 };
+
+static size_t usable, of_machine; /* how many processors, the last ones of these */
+
+int __wrap_sched_getaffinity(pid_t pid, size_t size, cpu_set_t *set);
+int __wrap_sched_getaffinity(pid_t pid, size_t size, cpu_set_t *set)
+{
+	(void)pid;
+	if (8 * size < of_machine || size % sizeof(long)) {
+		errno = EINVAL;
+		return -1;
+	}
+	memset(set, 0, size);
+	for (size_t k = of_machine - usable; k < of_machine; k++)
+		CPU_SET_S(k, size, set);
+	return 0;
+}
+
+static struct ww_class c;
+static struct ww_acquire_ctx all[MOST_CONTEXTS + 1];
+static struct ww_seek seeks[MOST_CONTEXTS];
+static int called[MOST_CONTEXTS];
+
+static void calls(void *loop, void *task)
+{
+	MUST(loop == &c);
+	++*(int *)task;
+}
+
+static int begins(unsigned k, struct ww_acquire_ctx *x)
+{
+	return ww_acquire_init_poll(x, &c, &seeks[k], &(struct ww_waker){ calls, &c, &called[k] });
+}
+
+/* As many tasks wait; of those contexts that end, each is somebody's. */
+static void none_is_lost(unsigned count)
+{
+	struct ww_acquire_ctx x;
+
+	memset(seeks, 0, sizeof seeks);
+	memset(called, 0, sizeof called);
+	for (unsigned k = 0; k < count; k++)
+		MUST(begins(k, &x) == -EINPROGRESS);
+	for (unsigned k = 0; k < count; k++) { /* from both ends */
+		ww_acquire_fini(&all[k % 2 ? count - 1 - k / 2 : k / 2]);
+		for (unsigned j = 0; j < count; j++)
+			MUST(called[j] == (j <= k));
+	}
+	for (unsigned k = 0; k < count; k++)
+		MUST(!begins(count - 1 - k, &all[k]));
+	/* Others begin before they look, so each gets the one for which it was called when that ends again. */
+	for (unsigned k = 0; k < count; k++)
+		MUST(begins(k, &x) == -EINPROGRESS && called[k] == 1);
+	for (unsigned k = 0; k < count; k++)
+		ww_acquire_fini(&all[k]);
+	for (unsigned k = 0; k < count; k++)
+		MUST(called[k] == 2 && !ww_acquire_init_poll(&all[k], &c, NULL, NULL));
+	for (unsigned k = 0; k < count; k++)
+		MUST(begins(k, &x) == -EINPROGRESS);
+	for (unsigned k = count; k--;)
+		ww_acquire_fini(&all[k]);
+	for (unsigned k = 0; k < count; k++)
+		MUST(called[k] == 3 && !begins(k, &all[k]));
+}
+
+static void has(size_t its, size_t processors, unsigned contexts, unsigned permits)
+{
+	unsigned count = 0;
+
+	of_machine = processors;
+	usable = its;
+	memset(all, 0, sizeof all);
+	ww_class_init(&c, 0, "sized");
+	MUST(!ww_class_limit(&c, 4, 0) && !ww_class_open(&c) && c.pool->crowd.permits == permits);
+	while (count <= MOST_CONTEXTS && !ww_acquire_init_poll(&all[count], &c, NULL, NULL))
+		count++;
+	MUST(count == contexts);
+	none_is_lost(count);
+	none_is_lost(count);
+	while (count)
+		ww_acquire_fini(&all[--count]);
+	MUST(!ww_class_free(&c));
+}
+
+int main(void)
+{
+	has(1, 1, 2, 1);
+	has(3, 8, 6, 3);
+	has(17, 20, 34, 17);
+	has(40, 40, 64, 40);
+	has(1024, 1024, 64, 64);
+	has(5, 1024, 10, 5);
+	has(2048, 2048, 64, 64);
+	has(20, 2048, 40, 20);
+	has(8192, 8192, 64, 64);
+	puts("mutex_processors: as many contexts of tasks and permits as are due");
+	return 0;
+}
