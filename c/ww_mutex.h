@@ -272,9 +272,9 @@ WW_MUST_CHECK int ww_class_limit(struct ww_class *ww_class, uint32_t mutexes, ui
  * Sets the permits of a crowd.  A crowd begins when at least twice as many threads sleep for mutexes of the class as it has
  * permits.  Then only threads with a permit begin contexts; the others wait in ww_acquire_init, in the order in which they
  * came.  A permit lasts 0.2 ms, so no wait for one is endless.  A crowd ends after 10 ms, once fewer threads sleep; those that
- * wait keep their turns.  If contexts often back off, as many sleepers begin the next one immediately, which lasts longer, up to
- * 1.28 s; else only after a while.  0: as many permits as the thread that opens the class may use processors, at most 64.  -EINVAL: more than 64,
- * except WW_NO_CROWD, with which no thread waits for one; -EBUSY: the class is open.
+ * wait keep their turns.  If contexts often back off, as many sleepers begin the next one immediately, which lasts longer,
+ * up to 1.28 s; else only after a while.  0: as many permits as the thread that opens the class may use processors, at most
+ * 64.  -EINVAL: more than 64, except WW_NO_CROWD, with which no thread waits for one; -EBUSY: the class is open.
  */
 #define WW_NO_CROWD UINT32_MAX
 WW_MUST_CHECK int ww_class_crowd(struct ww_class *ww_class, uint32_t permits);

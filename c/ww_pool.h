@@ -295,7 +295,10 @@ static inline bool claim(ww_seat *s, uint32_t *was)
 static inline bool has_due(const struct ww_seats *of) { return __atomic_load_n(&of->due, __ATOMIC_SEQ_CST); }
 
 /* Whether one that comes has to wait for others, even if a seat is free. */
-static inline bool is_barred(const struct ww_seats *of, const struct ww_pool *p) { return of == &p->threads ? has_seekers(of) : has_due(of); }
+static inline bool is_barred(const struct ww_seats *of, const struct ww_pool *p)
+{
+	return of == &p->threads ? has_seekers(of) : has_due(of);
+}
 
 /* The seat that this thread used last, if it belongs to the class, or the tasks, with this number, and is free. */
 static inline ww_seat *claim_last(const struct ww_seats *of, const struct ww_pool *p, uint64_t id)
