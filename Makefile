@@ -22,19 +22,21 @@ AS_C = -std=c11 -Wall -Wextra -Wpedantic $(CPPFLAGS) $(CFLAGS)
 PREFIX = /usr/local
 MANDIR = $(PREFIX)/share/man
 DOCDIR = $(PREFIX)/share/doc/ww
-PAGES = README.md docs/FORMATS.md docs/RULES.md docs/GLOSSARY.md
+PAGES = README.md docs/FORMATS.md docs/RULES.md docs/GLOSSARY.md docs/DESIGN.md c/REFERENCE.md c/PROMISES.md c/CHANGES.md
+TOOLS = explain trace picture json
+TOOLSDIR = $(PREFIX)/share/ww/tools
 MAKES_C = $(MAKE) --no-print-directory -C c CROSS='$(CROSS)' RUN='$(RUN)' PREFIX='$(abspath $(PREFIX))'
 
 all: $(PROGRAM) library
 
 library:
-	@$(MAKES_C) all
+	+@$(MAKES_C) all
 
 generated/%.s:
 	@echo 'there is no $@: the proved program is there for x86_64 and aarch64 alone' >&2 && false
 
 # The checksum of the sources of which this program is stands beside it, for ./run and ./test.
-$(PROGRAM): $(ASSEMBLY) c/program.c
+$(PROGRAM): $(ASSEMBLY) c/program.c c/ww_steps.h
 	@mkdir -p $(OUT)
 	@rm -f $@ $@.sources
 	$(CC) -c $(ASSEMBLY) -o $@.o
@@ -43,27 +45,33 @@ $(PROGRAM): $(ASSEMBLY) c/program.c
 	@tools/is_of_sources $@ || true
 
 check: all
-	@bench/check_made $(PROGRAM) '$(CROSS)' $(RUN)
+	+@bench/check_made $(PROGRAM) '$(CROSS)' $(RUN)
 
 # As programs of another processor are run.
 check-program: $(PROGRAM)
-	@bench/check_made --program $(PROGRAM) '$(CROSS)' $(RUN)
+	+@bench/check_made --program $(PROGRAM) '$(CROSS)' $(RUN)
 
 install: all
-	install -d $(DESTDIR)$(PREFIX)/bin $(DESTDIR)$(MANDIR)/man1 $(DESTDIR)$(DOCDIR)
+	install -d $(DESTDIR)$(PREFIX)/bin $(DESTDIR)$(MANDIR)/man1 $(DESTDIR)$(DOCDIR) $(DESTDIR)$(TOOLSDIR)
 	install -m 755 $(PROGRAM) $(DESTDIR)$(PREFIX)/bin
 	install -m 644 docs/ww_run.1 $(DESTDIR)$(MANDIR)/man1
 	install -m 644 $(PAGES) $(DESTDIR)$(DOCDIR)
-	$(MAKES_C) install
+	install -m 644 c/README.md $(DESTDIR)$(DOCDIR)/C.md
+	install -m 755 $(TOOLS:%=tools/%) $(DESTDIR)$(TOOLSDIR)
+	install -m 644 tools/core.py tools/inputs.py tools/layout.py tools/options.py tools/printed.py tools/streams.py tools/versions.py \
+		$(DESTDIR)$(TOOLSDIR)
+	+$(MAKES_C) install
+	@[ -n '$(DESTDIR)' ] || echo 'Programs find libww.so after ldconfig, or with -Wl,-rpath,$(abspath $(PREFIX))/lib; pkg-config --static ww takes libww.a.'
 
 uninstall:
 	rm -f $(DESTDIR)$(PREFIX)/bin/ww_run $(DESTDIR)$(MANDIR)/man1/ww_run.1
-	cd $(DESTDIR)$(DOCDIR) && rm -f $(notdir $(PAGES))
+	cd $(DESTDIR)$(DOCDIR) && rm -f $(notdir $(PAGES)) C.md
+	rm -rf $(DESTDIR)$(TOOLSDIR)
 	rmdir $(DESTDIR)$(DOCDIR)
-	$(MAKES_C) uninstall
+	+$(MAKES_C) uninstall
 
 clean:
 	rm -f $(PROGRAM) $(PROGRAM).o $(PROGRAM).sources
-	$(MAKES_C) clean
+	+$(MAKES_C) clean
 
 .PHONY: all library check check-program install uninstall clean

@@ -42,10 +42,18 @@ find_inputs() {
     [ "${#inputs[@]}" -ge 50 ] || fail "only ${#inputs[@]} inputs were found"
 }
 
-# The inputs in the rows, each into a file of this folder that is named by its line, with what it prints and its status
-# beside it as in cases/; and into the array `inputs`.
+# An input that is refused, from standard input into this file, with the line that it prints and its status beside it as in
+# cases/; and into the array `inputs`.
+add_refused() {
+    cat >"$1"
+    echo "$2" >"$1.stdout"
+    echo 1 >"$1.status"
+    inputs+=("$1")
+}
+
+# The inputs in the rows, each into a file of this folder that is named by its line; and two that are too large for a row.
 spread_rows() {
-    local folder=$1 row frame='' line text input number=0 count=0
+    local folder=$1 row frame='' line text number=0 count=0
     while IFS= read -r row || [ -n "$row" ]; do
         number=$((number + 1))
         case $row in
@@ -57,17 +65,33 @@ spread_rows() {
             line=${row%%  *}
             text=${row#"$line"}
             text=${text#"${text%%[! ]*}"}
-            input=$folder/refused_rows_line_$number
-            printf '%s%s%s' "${frame%%@*}" "$text" "${frame#*@}" >"$input"
-            echo "$line" >"$input.stdout"
-            echo 1 >"$input.status"
-            inputs+=("$input")
+            add_refused "$folder/refused_rows_line_$number" "$line" < <(printf '%s%s%s' "${frame%%@*}" "$text" "${frame#*@}")
             count=$((count + 1))
             ;;
         *) fail "$rows: line $number is no row" ;;
         esac
     done <"$rows"
-    [ "$count" -ge 80 ] || fail "$rows: only $count rows were found"
+    [ "$count" -ge 150 ] || fail "$rows: only $count rows were found"
+    add_refused "$folder/one_byte_too_long" 'refused 17 input too long' < <(printf '%1048577s' '')
+    add_refused "$folder/schedule_of_too_many_events" 'refused 12 number out of range' < <(
+        printf '{"version":1,"kind":"wound-wait","locks":1,"seats":1,"events":['
+        printf '["begin",0],%.0s' {1..10000}
+        printf '["begin",0]]}'
+    )
+}
+
+# Of what `spread_rows` made in this folder, the first and the last input with each line that is printed, into the array
+# `samples`: what is refused for the same reason early and late. (Not the large schedule, which takes memory 100,000 times.)
+find_samples() {
+    local input line
+    local -A first=() last=()
+    while IFS= read -r input; do
+        line=$(cat "$input.stdout")
+        [ -n "${first[$line]-}" ] || first[$line]=$input
+        last[$line]=$input
+    done < <(printf '%s\n' "$1"/{one_byte_too_long,refused_rows_line_*}.status | sed 's/\.status$//' | sort -V)
+    mapfile -t samples < <(printf '%s\n' "${first[@]}" "${last[@]}" | sort -u)
+    [ "${#samples[@]}" -ge 10 ] || fail "only ${#samples[@]} samples of refused inputs were found"
 }
 
 # The exit status that a run on this input must have.
@@ -82,7 +106,7 @@ status_for() {
 # Runs a command under a time limit, and leaves its exit status in `status`: 124 if it took too long.
 observe() {
     status=0
-    timeout 20 "$@" || status=$?
+    timeout 300 "$@" || status=$?
 }
 
 # The same, with its output into the file `output` of the folder `work`, and its errors into `errors`.

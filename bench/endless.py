@@ -14,6 +14,7 @@ from scenes import ACTING, ASLEEP, GOING_TO_SLEEP, Impossible, Scenes, core_of, 
 WOUND_WAIT, WAIT_DIE = KINDS = ("wound-wait", "wait-die")
 ENDS_OF_WAITS = ("take", "die", "leave")
 EVENTS = "clear fast fast-give guard join sign take ask give die unguard"
+CANCELS = " cancel heed leave"
 
 # A scene, with the seats that stood in the list when they last went inside a guard, those that have owned a lock ever
 # since they died, and those that died in this context at a lock that they haven't taken since, each with the lock.
@@ -88,6 +89,24 @@ def contexts_end(s, n, seats):
     """The law asks it of the oldest alone."""
     if s == 0:
         yield Asked(lambda w: is_in_use(w, s), lambda step, w: step[0] in ("end", "die", "leave") and step[1] == s)
+
+
+def older_are_over(s, n, seats):
+    """The law asks it of whatever is older than the context of seat 1: that of seat 0 has ended, or rests on."""
+    if s == 0:
+        yield Asked(lambda w: core_of(w.state).stamp[0] > 0 and (waits(w, 0) or is_in_use(w, 0)), lambda step, w: False)
+
+
+def dies_again(s, n, seats):
+    """No premise, but the contrary of what the law says: the context of seat 1 dies again and again."""
+    if s == 1:
+        yield Asked(lambda w: True, lambda step, w: step[:2] == ("die", 1))
+
+
+def younger_rests_not(s, n, seats):
+    """Nor does the context of seat 1, for a law of every context."""
+    if s == 1:
+        yield Asked(lambda w: True, lambda step, w: is_in_use(w, 1) or waits(w, 1))
 
 
 def rests_not(s, n, seats):
@@ -204,6 +223,18 @@ CONTEXTS_ARE_SERVED = Law(
     lambda w, s: core_of(w.state).stamp[0] > 0 and waits(w, 0),
     lambda w, step, s: step[0] in ENDS_OF_WAITS and step[1] == 0,
 )
+BACKING_OFF_ENDS = Law(
+    "backing_off_ends",
+    (older_are_over, backs_off, dies_again),
+    lambda w, s: core_of(w.state).stamp[1] > 0,
+    lambda w, step, s: False,
+)
+CONTEXTS_ARE_OVER = Law(
+    "contexts_are_over",
+    (*WAITERS_GO_ON, holders_release, contexts_end_or_die, firsts_ask, backs_off, takes_contended_first, younger_rests_not),
+    lambda w, s: core_of(w.state).stamp[1] > 0,
+    lambda w, step, s: step[:2] == ("end", 1),
+)
 
 # For each law: the kind, locks, seats and events with which a run that breaks it is searched for, and which premises
 # are left out, one at a time.
@@ -218,6 +249,9 @@ SEARCHES = [
     (NO_LIVELOCK, WAIT_DIE, 2, 2, EVENTS, (backs_off,)),
     (OLDEST_IS_SERVED, WOUND_WAIT, 2, 2, EVENTS, (holders_release, firsts_ask)),
     (OLDEST_ENDS, WOUND_WAIT, 1, 2, EVENTS + " end", (contexts_end,)),
+    (BACKING_OFF_ENDS, WOUND_WAIT, 2, 2, EVENTS, (older_are_over,)),
+    (BACKING_OFF_ENDS, WAIT_DIE, 2, 2, EVENTS, (older_are_over,)),
+    (CONTEXTS_ARE_OVER, WAIT_DIE, 1, 2, EVENTS + " end", (contexts_end_or_die,)),
 ]
 
 
@@ -379,7 +413,20 @@ def texts(steps):
 # older than it, pass to and fro. In Wait-Die the oldest has a lock and waits for one of seat 2, which waits for lock 1.
 # Whenever it would have to die there, since seat 1 is ahead of it, it looks too late: 3 has taken the lock past the
 # list. Nobody dies in the one run; in the other 1 and 3 do so again and again, at the lock where 0 waits.
+#
+# And one that dies keeps its sign as long as it owns a lock: so without backing off it dies again and again, though the
+# older context rests that signed it, whose wait was cancelled.
 FOLLOWED = [
+    (
+        BACKING_OFF_ENDS,
+        backs_off,
+        WOUND_WAIT,
+        2,
+        3,
+        "fast 0 0; fast 1 1; guard 0 1; join 0 1; sign 0 1; cancel 2 0; heed 0 1; leave 0 1; unguard 0 1; wakes 0 1; "
+        "fast-give 0 0; fast 2 0; guard 1 0; join 1 0; die 1 0; unguard 1 0",
+        "guard 1 0; join 1 0; die 1 0; unguard 1 0",
+    ),
     (
         OLDEST_ENDS,
         waits_owning,
@@ -449,7 +496,7 @@ class Followed(Runs):
 def breaks(law, premises, kind, locks, seats, to, again):
     """Whether that is a run which keeps these premises, and the law's conclusion never comes in it."""
     try:
-        runs = Followed(kind, locks, seats, EVENTS, of_steps(premises), to, again)
+        runs = Followed(kind, locks, seats, EVENTS + CANCELS, of_steps(premises), to, again)
     except Impossible:
         return False
     made = [(runs.scene(it), go[0][0]) for it, go in enumerate(runs.steps)]

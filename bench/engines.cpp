@@ -16,139 +16,35 @@
  * engines contexts ENGINE TAKES LOCKS TIMES makes so many by one thread, and prints
  * nothing: for who counts what they do. engines open CONTEXTS LOCKS prints the bytes
  * of the heap that an open class has, those that are resident, and the milliseconds
- * of opening it. engines peer prints the name of the peer, if there is one: another
- * implementation of wound/wait mutexes, which peer.h has as `struct here` below.
+ * of opening it. engines peer prints the name of the peer, if there is one.
  */
 #include <algorithm>
 #include <array>
 #include <atomic>
 #include <cerrno>
 #include <chrono>
-#include <cstddef>
 #include <cstdint>
 #include <cstdio>
 #include <cstdlib>
-#include <cstring>
 #include <malloc.h>
-#include <mutex>
-#include <pthread.h>
 #include <string_view>
-#include <thread>
 #include <unistd.h>
-#include <utility>
 #include <vector>
-#include <ww_mutex.h>
 #include <ww_number.h>
-#include <ww_steps.h>
-#if __has_include(<peer.h>)
-#include <peer.h>
-#define HAS_PEER
-#endif
+#include "engines.hpp"
 
 namespace {
 
-using steady = std::chrono::steady_clock;
-constexpr unsigned most_taken = 32, none = ~0u;
-constexpr auto relaxed = std::memory_order_relaxed;
-using list = std::array<unsigned, most_taken>;
+using namespace bench;
 
-struct workload {
-	unsigned threads, takes, locks;
-	double seconds;
-	unsigned inside, outside;
+struct {
+	unsigned locks, inside, outside;
 	bool times_each, is_apart;
-} now;
-
-enum status { cant_open = 1, wrong_sum, wrong_words, wrong_answer };
-
-void must(int answer)
-{
-	if (answer)
-		std::exit(wrong_answer);
-}
-
-// A lock lies beside what it guards, on a cache line of both.
-template <class Lock> struct alignas(64) node {
-	long value = 0;
-	Lock lock;
-};
-template <class Lock> using nodes = std::vector<node<Lock>>;
-struct no_lock {};
+} load;
 
 // How many locks there are, and those of a thread, from this one on.
-unsigned all_locks() { return now.is_apart ? now.threads * now.locks : now.locks; }
-unsigned first_of(unsigned thread) { return now.is_apart ? thread * now.locks : 0; }
-
-struct nothing {
-	using lock = no_lock;
-	explicit nothing(nodes<lock> &) {}
-	struct thread {
-		thread(nothing &, unsigned) {}
-	};
-	template <class Fn> void transact(thread &, nodes<lock> &, list &, Fn &&fn) { fn(); }
-};
-
-class one_mutex {
-	alignas(64) std::mutex mutex;
-
-public:
-	using lock = no_lock;
-	explicit one_mutex(nodes<lock> &) {}
-	struct thread {
-		thread(one_mutex &, unsigned) {}
-	};
-	template <class Fn> void transact(thread &, nodes<lock> &, list &, Fn &&fn)
-	{
-		std::lock_guard held(mutex);
-
-		fn();
-	}
-};
-
-struct sorted_mutexes {
-	using lock = std::mutex;
-	explicit sorted_mutexes(nodes<lock> &) {}
-	struct thread {
-		thread(sorted_mutexes &, unsigned) {}
-	};
-	template <class Fn> void transact(thread &, nodes<lock> &all, list &it, Fn &&fn)
-	{
-		std::sort(it.begin(), it.begin() + now.takes);
-		for (unsigned k = 0; k < now.takes; k++)
-			all[it[k]].lock.lock();
-		fn();
-		for (unsigned k = now.takes; k-- > 0;)
-			all[it[k]].lock.unlock();
-	}
-};
-
-class scoped_lock {
-	template <class Fn, std::size_t... Index>
-	static void by(nodes<std::mutex> &all, const list &it, Fn &&fn, std::index_sequence<Index...>)
-	{
-		std::scoped_lock held(all[it[Index]].lock...);
-
-		fn();
-	}
-
-public:
-	using lock = std::mutex;
-	explicit scoped_lock(nodes<lock> &) {}
-	struct thread {
-		thread(scoped_lock &, unsigned) {}
-	};
-	// How many mutexes it takes is fixed as it is compiled.
-	template <class Fn> void transact(thread &, nodes<lock> &all, list &it, Fn &&fn)
-	{
-		switch (now.takes) {
-		case 1: return by(all, it, fn, std::make_index_sequence<1>());
-		case 2: return by(all, it, fn, std::make_index_sequence<2>());
-		case 4: return by(all, it, fn, std::make_index_sequence<4>());
-		case 8: return by(all, it, fn, std::make_index_sequence<8>());
-		default: std::exit(wrong_words);
-		}
-	}
-};
+unsigned all_locks() { return load.is_apart ? now.threads * load.locks : load.locks; }
+unsigned first_of(unsigned thread) { return load.is_apart ? thread * load.locks : 0; }
 
 // ww_number.h
 template <ww_kind kind> class numbered {
@@ -210,95 +106,6 @@ public:
 	}
 };
 
-// ww_mutex.h, as what follows asks for it; a peer has the same.
-struct here {
-	using class_ = ww_class;
-	using mutex = ww_mutex;
-	using context = ww_acquire_ctx;
-
-	static void begin_thread() {}
-	// As a program that doesn't say how many contexts there are.
-	static void open(class_ &c, int is_wait_die, unsigned mutexes, unsigned)
-	{
-		ww_class_init(&c, is_wait_die, "bench");
-		if (ww_class_limit(&c, mutexes, 0) || ww_class_open(&c))
-			std::exit(cant_open);
-	}
-	static void close(class_ &c) { must(ww_class_free(&c)); }
-	static void make(mutex &m, class_ &c) { ww_mutex_init(&m, &c); }
-	static void destroy(mutex &m) { must(ww_mutex_destroy(&m)); }
-	static void begin(context &x, class_ &c) { ww_acquire_init(&x, &c); }
-	static int lock(mutex &m, context &x) { return ww_mutex_lock(&m, &x); }
-	static void lock_slow(mutex &m, context &x) { ww_mutex_lock_slow(&m, &x); }
-	static void unlock(mutex &m) { ww_mutex_unlock(&m); }
-	static void end(context &x) { ww_acquire_fini(&x); }
-};
-
-// The kernel's calls as its document has them.
-struct plainly {
-	template <class Of, class Fn>
-	static void transact(typename Of::class_ &c, nodes<typename Of::mutex> &all, list &it, Fn &&fn)
-	{
-		typename Of::context x;
-		unsigned slow = none;
-
-		Of::begin(x, c);
-		for (;;) {
-			int answer = 0;
-			unsigned k = 0;
-
-			if (slow != none)
-				Of::lock_slow(all[slow].lock, x);
-			for (; k < now.takes && !answer; k++)
-				if (it[k] != slow)
-					answer = Of::lock(all[it[k]].lock, x);
-			if (!answer)
-				break;
-			if (answer != -EDEADLK)
-				std::exit(wrong_answer);
-			const unsigned contended = it[--k];
-
-			while (k-- > 0)
-				if (it[k] != slow)
-					Of::unlock(all[it[k]].lock);
-			if (slow != none)
-				Of::unlock(all[slow].lock);
-			slow = contended;
-		}
-		fn();
-		for (unsigned k = now.takes; k-- > 0;)
-			Of::unlock(all[it[k]].lock);
-		Of::end(x);
-	}
-};
-
-// The loop that backs off by itself.
-struct by_loop {
-	static void acquire(ww_acquire_ctx &x, nodes<ww_mutex> &all, const list &it)
-	{
-		ww_until_all_locked(&x) {
-			for (unsigned k = 0; k < now.takes; k++) {
-				const int answer = ww_mutex_lock(&all[it[k]].lock, &x);
-
-				ww_retry_on_contention(&x);
-				if (answer)
-					std::exit(wrong_answer);
-			}
-		}
-	}
-
-	template <class, class Fn> static void transact(ww_class &c, nodes<ww_mutex> &all, list &it, Fn &&fn)
-	{
-		ww_acquire_ctx x;
-
-		ww_acquire_init(&x, &c);
-		acquire(x, all, it);
-		fn();
-		ww_acquire_unlock_all(&x);
-		ww_acquire_fini(&x);
-	}
-};
-
 struct by_list {
 	template <class, class Fn> static void transact(ww_class &c, nodes<ww_mutex> &all, list &it, Fn &&fn)
 	{
@@ -316,66 +123,18 @@ struct by_list {
 	}
 };
 
-// Of one class, or each thread of its own.
-template <ww_kind kind, class Way, class Of = here, bool has_own = false> class mutexes {
-	nodes<typename Of::mutex> &all;
-	std::vector<typename Of::class_> classes;
-
-public:
-	using lock = typename Of::mutex;
-	explicit mutexes(nodes<lock> &all) : all(all), classes(has_own ? now.threads : 1)
-	{
-		const std::size_t each = all.size() / classes.size();
-
-		Of::begin_thread();
-		for (auto &it : classes)
-			Of::open(it, kind, unsigned(each), has_own ? 1 : now.threads);
-		for (std::size_t k = 0; k < all.size(); k++)
-			Of::make(all[k].lock, classes[k / each]);
-	}
-	mutexes(const mutexes &) = delete;
-	~mutexes()
-	{
-		for (auto &it : all)
-			Of::destroy(it.lock);
-		for (auto &it : classes)
-			Of::close(it);
-	}
-
-	struct thread {
-		typename Of::class_ &its;
-
-		thread(mutexes &of, unsigned me) : its(of.classes[has_own ? me : 0]) { Of::begin_thread(); }
-	};
-
-	template <class Fn> void transact(thread &me, nodes<lock> &nodes, list &it, Fn &&fn)
-	{
-		Way::template transact<Of>(me.its, nodes, it, fn);
-	}
-};
-
-void pause_for(unsigned times)
-{
-	for (unsigned k = 0; k < times; k++)
-#if defined(__x86_64__) || defined(__i386__)
-		__builtin_ia32_pause();
-#else
-		__asm__ volatile("" ::: "memory");
-#endif
-}
-
 void draw(unsigned me, unsigned &x, list &it)
 {
 	const unsigned first = first_of(me);
 
-	if (now.takes == now.locks) {
+	if (now.takes == load.locks) {
 		for (unsigned k = 0; k < now.takes; k++)
-			it[k] = first + (me & 1 ? now.locks - 1 - k : k);
+			it[k] = first + (me & 1 ? load.locks - 1 - k : k);
 		return;
 	}
 	for (unsigned k = 0; k < now.takes;) {
 		x = x * 1664525u + 1013904223u;
-		it[k] = first + unsigned(std::uint64_t{ x } * now.locks >> 32);
+		it[k] = first + unsigned(std::uint64_t{ x } * load.locks >> 32);
 		k += std::find(it.begin(), it.begin() + k, it[k]) == it.begin() + k;
 	}
 }
@@ -387,7 +146,6 @@ struct alignas(128) tally {
 struct alignas(128) counter {
 	std::atomic<unsigned long> locked;
 } all_threads;
-std::atomic<bool> stops;
 
 class timed {
 	tally &of;
@@ -407,7 +165,7 @@ public:
 
 template <class Engine> void add_to(nodes<typename Engine::lock> &all, const list &it)
 {
-	pause_for(now.inside);
+	pause_for(load.inside);
 	for (unsigned k = 0; k < now.takes; k++)
 		all[it[k]].value++;
 }
@@ -423,7 +181,7 @@ tally work(Engine &engine, nodes<typename Engine::lock> &all, unsigned me, Fn &&
 
 	for (; goes_on(told.done); told.done++) {
 		draw(me, x, it);
-		if (now.times_each) {
+		if (load.times_each) {
 			const timed wait(told);
 
 			engine.transact(mine, all, it, [&] {
@@ -433,7 +191,7 @@ tally work(Engine &engine, nodes<typename Engine::lock> &all, unsigned me, Fn &&
 		} else {
 			engine.transact(mine, all, it, [&] { add_to<Engine>(all, it); });
 		}
-		pause_for(now.outside);
+		pause_for(load.outside);
 	}
 	return told;
 }
@@ -442,28 +200,15 @@ tally work(Engine &engine, nodes<typename Engine::lock> &all, unsigned me, Fn &&
 template <class Engine> void go()
 {
 	nodes<typename Engine::lock> all(all_locks());
-	std::vector<std::thread> threads;
 	std::vector<tally> tallies(now.threads);
 	tally most;
 	unsigned long done = 0, fewest = ~0ul;
 	long sum = 0;
 	Engine engine(all);
-	pthread_barrier_t start;
 
-	pthread_barrier_init(&start, nullptr, now.threads + 1);
-	for (unsigned me = 0; me < now.threads; me++)
-		threads.emplace_back([&, me] {
-			pthread_barrier_wait(&start);
-			tallies[me] = work(engine, all, me, [](unsigned long) { return !stops.load(relaxed); });
-		});
-	pthread_barrier_wait(&start);
-	const auto from = steady::now();
-	std::this_thread::sleep_for(std::chrono::duration<double>(now.seconds));
-	stops = true;
-	const std::chrono::nanoseconds took = steady::now() - from;
-	for (auto &it : threads)
-		it.join();
-	pthread_barrier_destroy(&start);
+	const auto took = run_threads([&](unsigned me) {
+		tallies[me] = work(engine, all, me, [](unsigned long) { return !stops.load(relaxed); });
+	});
 	for (const tally &it : tallies) {
 		done += it.done;
 		fewest = std::min(fewest, it.done);
@@ -475,7 +220,7 @@ template <class Engine> void go()
 	if (sum != static_cast<long>(done * now.takes))
 		std::exit(wrong_sum);
 	std::printf("%lu %lld %lu", done, static_cast<long long>(took.count()), fewest);
-	if (now.times_each)
+	if (load.times_each)
 		std::printf(" %lu %lu", most.longest, most.passed_by);
 	std::puts("");
 }
@@ -495,7 +240,6 @@ struct named {
 };
 template <class Engine> constexpr named as(const char *name) { return { name, go<Engine>, contexts<Engine> }; }
 
-constexpr ww_kind wound_wait = WW_WOUND_WAIT, wait_die = WW_WAIT_DIE;
 constexpr named engines[]{
 	as<nothing>("nothing"),
 	as<one_mutex>("one mutex"),
@@ -550,16 +294,6 @@ void open(unsigned contexts, unsigned locks)
 	here::close(its);
 }
 
-unsigned number(const char *word) { return static_cast<unsigned>(std::strtoul(word, nullptr, 10)); }
-
-const named &engine_of(std::string_view name)
-{
-	for (const named &it : engines)
-		if (name == it.name)
-			return it;
-	std::exit(wrong_words);
-}
-
 } // namespace
 
 int main(int count, char **words)
@@ -569,18 +303,18 @@ int main(int count, char **words)
 	if (what == "go" && count == 10) {
 		const std::string_view how = words[9];
 
-		now = { number(words[3]), number(words[4]), number(words[5]), std::atof(words[6]), number(words[7]),
-			number(words[8]), how.find('t') != how.npos, how.find('a') != how.npos };
-		engine_of(words[2]).go();
+		now = { number(words[3]), number(words[4]), std::atof(words[6]) };
+		load = { number(words[5]), number(words[7]), number(words[8]), how.find('t') != how.npos,
+			 how.find('a') != how.npos };
+		engine_of(engines, words[2]).go();
 	} else if (what == "contexts" && count == 6) {
-		now = { 1, number(words[3]), number(words[4]), 0, 0, 0, false, false };
-		engine_of(words[2]).contexts(number(words[5]));
+		now = { 1, number(words[3]), 0 };
+		load = { number(words[4]), 0, 0, false, false };
+		engine_of(engines, words[2]).contexts(number(words[5]));
 	} else if (what == "open" && count == 4) {
 		open(number(words[2]), number(words[3]));
 	} else if (what == "peer" && count == 2) {
-#ifdef HAS_PEER
-		std::puts(peer::name);
-#endif
+		std::puts(peer_name());
 	} else {
 		return wrong_words;
 	}

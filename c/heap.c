@@ -116,9 +116,10 @@ static bool is_zero(const char *page, size_t size) { return !*page && !memcmp(pa
 void ww_heap_opens(void) { taken = &no_pages; }
 
 /*
- * Most of what a world writes as it opens is zero: the words of its locks, and its wait lists, in which nobody stands.  These
- * pages go back to the system, and are zero when they are next accessed; so a lock that nobody uses takes no memory.  Where the
- * system refuses, the pages stay.
+ * Most of what a world writes as it opens is zero: the words of its locks, and its wait lists, in which nobody stands (that
+ * these are zeros is proved, IsZerosIfEmpty of ww_invariant; how the compiler lays them out isn't, so each page is looked at).
+ * Pages of zeros go back to the system, and are zero when they are next accessed; so a lock that nobody uses takes no memory.
+ * Where the system refuses, they stay.
  *
  * The wait lists are the last large block, and lie in small pages from now on: a thread that waits for a lock makes one of them
  * resident, and would make 2 MiB.

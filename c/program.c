@@ -1,13 +1,17 @@
 /*
  * program.c - what the proved program, as `make` builds it, has of C: the error number of a call that failed; its heap, which is
- * malloc's; and a start at which that gets large pages, since a quarter of a run on a long input were the faults of small ones.
+ * malloc's; a start at which that gets large pages, since a quarter of a run on a long input were the faults of small ones; and what
+ * it says to whoever gives it a word, since the proved program reads none.
  * What the functions have to do is written in the toolchain's os and libc.
  */
 #define _DEFAULT_SOURCE
+#include "ww_steps.h"
 #include <errno.h>
 #include <malloc.h>
 #include <stdint.h>
+#include <stdio.h>
 #include <stdlib.h>
+#include <string.h>
 #include <sys/mman.h>
 #include <unistd.h>
 
@@ -42,6 +46,28 @@ struct tried rattle_realloc(void *p, size_t kept, size_t size, size_t align)
 }
 
 void rattle_dealloc(void *p) { free(p); }
+
+static const char help[] =
+	"ww_run < INPUT\n"
+	"\n"
+	"Runs transactions under wound/wait locks, or replays a schedule of lock events. It reads one JSON object from standard input, to\n"
+	"its end. Its options are --help and --version; it takes no other word.\n"
+	"\n"
+	"`man ww_run`, and FORMATS.md in share/doc/ww, say what an input may have, and what is printed. The tools in share/ww/tools:\n"
+	"explain says where an input is wrong, and why; trace and picture show what was printed; json lays an input out.\n";
+
+/* The C library calls it with the words of the program before that begins, as it calls begin_heap. */
+__attribute__((constructor)) static void read_words(int count, char **words)
+{
+	if (count < 2)
+		return;
+	if (count == 2 && !strcmp(words[1], "--help"))
+		exit(fputs(help, stdout) < 0 || fflush(stdout) ? 2 : 0);
+	if (count == 2 && !strcmp(words[1], "--version"))
+		exit(printf("ww_run %d.%d.%d\n", WW_VERSION_MAJOR, WW_VERSION_MINOR, WW_VERSION_PATCH) < 0 || fflush(stdout) ? 2 : 0);
+	fputs("usage: ww_run < INPUT; --help says more\n", stderr);
+	exit(4);
+}
 
 /* If the system has no large pages, or no heap that grows at its end, this has no effect. */
 __attribute__((constructor)) static void begin_heap(void)

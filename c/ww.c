@@ -1,4 +1,19 @@
-/* ww.c - the waiting that the proved library leaves to its caller. */
+/*
+ * ww.c - the waiting that the proved library leaves to its caller: it tries again while it is awake (ww_try_awake), makes the
+ * further steps (ww_go_on), and sleeps.
+ *
+ * A seat sleeps on its `token`:
+ *
+ *	token		what comes next, and by what
+ *	NOTHING		ARMED, with the number of this wait: its user has left a waker, by an exchange (arm)
+ *			TOKEN: somebody wakes it, by an exchange (ww_unpark)
+ *	ARMED		TOKEN: somebody wakes it, by an exchange, and then calls the waker (ww_unpark)
+ *			NOTHING: a poll takes its waker back, by an exchange (ww_disarm); a thread's time has come, by a store (park)
+ *	TOKEN		NOTHING: its user goes on, or doesn't sleep after all, by a store (park, arm)
+ *
+ * So no wake-up is lost: who wakes and who goes to sleep exchange one word, and the second of the two sees the first.  Whoever
+ * stores NOTHING looks at its lock next, so a token that comes just before is one that it needs no more.
+ */
 #define _GNU_SOURCE
 #include "ww_pool.h"
 #include <errno.h>
@@ -10,31 +25,32 @@
 _Static_assert(sizeof(ww_seat) == 128 && offsetof(ww_seat, waits) == 64, "a seat has two cache lines");
 _Static_assert(offsetof(ww_seat, handle) == 0, "a seat begins with its handle");
 
-/* At a guard's entrance the pauses between two tries double SPINS times; from then to round ROUNDS the thread yields. */
-enum { SPINS = 6, ROUNDS = 11 };
-
-/* Before a seat sleeps it checks WAKES times whether it was woken. The pauses in between double, and it doesn't yield. */
-enum { WAKES = 9 };
-
 /*
- * For how many nanoseconds a seat that is still outside a guard after these rounds sleeps
- * before each further try: if its thread has a higher priority than that of the seat
- * inside, and only yielded, that one would never run.
+ * How long a call stays awake.  Who waits for longer than a sleep and a wake-up take had better have slept, and who sleeps at once
+ * pays at most twice: A_SLEEP is about that long, where processors don't sleep deeply, and SHORTEST the least part of it that
+ * shows whether waits have become short again.  Times are in nanoseconds.
  */
+#ifndef WW_AWAKE
+#define WW_AWAKE 20000
+#define WW_LOOKS 16
+#endif
+enum { A_SLEEP = WW_AWAKE, SHORTEST = A_SLEEP / 4 };
+/* A wait that takes LONGER times as long as those before it is seldom over soon; these are the last 8 or so. */
+enum { LONGER = 16, REMEMBERS = 8 };
+/*
+ * At most so many pauses come between two looks at a word, since each takes its cache line from who writes it; and with one of
+ * WW_LOOKS looks comes one at the clock.  In the search of schedules a program says how many, and there is no time for more.
+ */
+enum { APART = 8 };
+/* How many waits a cycle may have that is found at once. */
+enum { LONGEST_CYCLE = 8 };
+/* In what ww_look_ returns: 1 more than the number of the owner's seat. */
+enum { OWNER = WW_OLDER_ - 1 };
+/* A seat that is outside a guard for so long sleeps so long before each further try: the thread inside may need its processor. */
 enum { SHORT_SLEEP = 50000 };
 
-/*
- * For how many nanoseconds a call may yield, from its first yield on.  By then somebody
- * else wants its processor, and each further yield would cost it a time slice, before
- * its age helps it.  So it goes on without yields, and sleeps sooner.
- */
-enum { STAY = 500000 };
-
-/* During a long rest a thread yields after each BREATH pauses. */
-enum { BREATH = 64 };
-
 /* On AArch64 `yield` is no pause where a core has one thread. */
-static inline void pause_for(unsigned count)
+void ww_pause(unsigned count)
 {
 	for (unsigned i = 0; i < count; i++)
 #ifdef __x86_64__
@@ -70,13 +86,12 @@ static void from_now(struct timespec *at, long nanoseconds)
 	}
 }
 
-static void yield(struct ww_stay *stay)
+uint64_t ww_now(void)
 {
-	if (!stay->yielded)
-		from_now(&stay->until, STAY);
-	stay->yielded = true;
-	sched_yield();
-	stay->over = ww_has_come(&stay->until);
+	struct timespec now;
+
+	clock_gettime(CLOCK_MONOTONIC, &now);
+	return (uint64_t)now.tv_sec * 1000000000 + (uint64_t)now.tv_nsec;
 }
 
 /* Doesn't use nanosleep, in which pthread_cancel would end the thread during its call. */
@@ -89,17 +104,24 @@ static void sleep_briefly(void)
 	ww_futex_wait(&nobody_wakes, 0, &until);
 }
 
-/* Pauses before a further try to go inside a guard. Nobody waits for this seat meanwhile: it has woken all that it had to. */
-static void await_guard(struct ww_stay *stay, unsigned *step)
+/* Pauses between two looks at a word, the next time for longer; false once this time has come, and from then on. */
+static bool stays_awake(unsigned *looks, uint64_t until)
 {
-	if (*step <= SPINS)
-		pause_for(1u << *step);
-	else if (*step < ROUNDS && !stay->over)
-		yield(stay);
-	else
+	unsigned look = ++*looks;
+
+	ww_pause(look < APART ? look : APART);
+	if (look % WW_LOOKS || ww_now() < until)
+		return true;
+	--*looks;
+	return false;
+}
+
+void ww_await_guard(unsigned *looks, uint64_t *until)
+{
+	if (!*until)
+		*until = ww_now() + SHORT_SLEEP;
+	if (!stays_awake(looks, *until))
 		sleep_briefly();
-	if (*step < ROUNDS)
-		(*step)++;
 }
 
 static bool is_due(const struct ww_wait *wait)
@@ -136,9 +158,9 @@ bool ww_disarm(ww_seat *s)
 }
 
 /* The waker of a thread that sleeps on its seat's token. The thread may have gone on by then, so only the address is used. */
-static void wake_thread(void *pool, void *token)
+static void wake_thread(void *nothing, void *token)
 {
-	ww_sleeps_no_more(pool);
+	(void)nothing;
 	ww_futex_wake(token);
 }
 
@@ -148,20 +170,17 @@ static void wake_thread(void *pool, void *token)
  */
 static void park(ww_seat *s, const struct ww_wait *wait)
 {
-	const struct ww_waker thread = { .wake = wake_thread, .loop = s->pool, .task = &s->token };
+	const struct ww_waker thread = { .wake = wake_thread, .task = &s->token };
 	const struct timespec *until = wait->until;
-	bool woken = false;
+	struct timespec is_long = { 0 };
 
-	for (unsigned step = 0; step < WAKES && __atomic_load_n(&s->token, __ATOMIC_SEQ_CST) != TOKEN; step++)
-		pause_for(1u << step);
-	ww_sleeps(s->pool);
-	if (arm(s, &thread)) {
-		while (__atomic_load_n(&s->token, __ATOMIC_SEQ_CST) == armed(s) && !(until && ww_has_come(until)))
-			ww_futex_wait(&s->token, armed(s), until);
-		woken = __atomic_exchange_n(&s->token, NOTHING, __ATOMIC_SEQ_CST) == TOKEN;
-	}
-	if (!woken) /* otherwise its waker has called that */
-		ww_sleeps_no_more(s->pool);
+	for (unsigned looks = 0; __atomic_load_n(&s->token, __ATOMIC_SEQ_CST) != TOKEN && stays_awake(&looks, wait->awake);)
+		;
+	if (!arm(s, &thread))
+		return;
+	while (__atomic_load_n(&s->token, __ATOMIC_SEQ_CST) == armed(s) && !(until && ww_has_come(until)))
+		ww_futex_wait(&s->token, armed(s), ww_says_if_long(s->pool, until, &is_long));
+	__atomic_store_n(&s->token, NOTHING, __ATOMIC_SEQ_CST);
 }
 
 /*
@@ -192,24 +211,80 @@ void ww_wake(ww_seat *s)
 		ww_unpark(&s->pool->seats[k]);
 }
 
-/*
- * Rests as long as the library says.  In a long rest it yields, since one of the other threads may have the lock.
- * Once its time for yields is over, the few spin reads that are left follow without a pause.
- */
-static void rest(struct ww_stay *stay, uint32_t pauses, bool yields)
+/* ---- trying again, awake ---- */
+
+/* How long this thread stays awake in a wait, by how long its last ones took: those of which a sleep would have been longer. */
+static uint64_t patience(void)
 {
-	if (!yields && !stay->over)
-		pause_for(pauses);
-	for (uint32_t rested = 0; yields && rested < pauses && !stay->over; rested += BREATH) {
-		pause_for(BREATH);
-		yield(stay);
-	}
+	uint64_t enough = SHORTEST + LONGER * ww_mine.usual;
+
+	return enough < A_SLEEP ? enough : A_SLEEP;
 }
+
+void ww_begin_wait(struct ww_wait *wait)
+{
+	wait->from = ww_now();
+	wait->awake = wait->polls ? 0 : wait->from + patience();
+}
+
+void ww_end_wait(ww_seat *s, const struct ww_wait *wait)
+{
+	uint64_t now = ww_now(), took = now - wait->from;
+
+	ww_mine.usual += (took < A_SLEEP ? took : 0) / REMEMBERS - ww_mine.usual / REMEMBERS;
+	ww_has_waited(s->pool, now, took);
+}
+
+static ww_seat *seat_in(const ww_seat *s, int32_t seen) { return &s->pool->seats[(seen & OWNER) - 1]; }
+
+/* Whether this seat waits for the one that was seen, which waits for another, and so on, and one of them for this seat. */
+static bool is_in_cycle(ww_seat *s, int32_t seen)
+{
+	for (unsigned k = 0; k < LONGEST_CYCLE && seen & OWNER; k++) {
+		const ww_seat *owner = seat_in(s, seen);
+		uint32_t awaits = __atomic_load_n(&owner->awaits, __ATOMIC_RELAXED);
+
+		if (owner == s || !awaits)
+			return owner == s;
+		seen = ww_look_(&s->handle, awaits - 1);
+	}
+	return false;
+}
+
+/*
+ * Whether it is of no use to try a lock further, of which this was seen: this context has to die, which it does in the list; or its
+ * wait is one of a cycle, which it ends there, as it wounds the owner, or dies.
+ */
+static bool has_to_queue(ww_seat *s, int32_t seen)
+{
+	int32_t ends = s->pool->class_->is_wait_die ? WW_OLDER_ : WW_YOUNGER_;
+
+	return seen & OWNER && (ww_is_wounded_(&s->handle) || (seen & ends && is_in_cycle(s, seen)));
+}
+
+/* In a forked child nobody would release it. */
+int ww_try_awake(ww_seat *s, uint32_t lock, const struct ww_wait *wait)
+{
+	unsigned looks = 0;
+
+	while (!s->pool->gone) {
+		int32_t seen = ww_look_(&s->handle, lock);
+		int r = seen ? -EBUSY : ww_try_(&s->handle, lock);
+
+		if (r != -EBUSY)
+			return r;
+		if (has_to_queue(s, seen) || wait->polls || !stays_awake(&looks, wait->awake))
+			break;
+	}
+	return ww_lock_(&s->handle, lock, false);
+}
+
+/* ---- further steps ---- */
 
 /* If the end of the wait is due, its next steps end it. The seat isn't inside a guard. */
 static void stop_if_due(ww_seat *s, struct ww_wait *wait)
 {
-	if (is_due(wait))
+	if (is_due(wait) || (wait->heeds && ww_ends_waits(s->pool)))
 		wait->stops = !ww_heed_(&s->handle);
 }
 
@@ -217,47 +292,35 @@ static void stop_if_due(ww_seat *s, struct ww_wait *wait)
  * After WW_AGAIN the next step comes immediately, and nothing else: the seat may be inside a guard, where it holds up
  * everybody.  A cancel that comes meanwhile ends the sleep to which these steps lead.
  *
- * Whom to wake is asked after these steps, since nobody can be due while a call pauses between them: it spins before it goes
- * inside a guard for the first time, and a seat that is shut out of a guard has learned nothing.
+ * Whom to wake is asked after these steps, since nobody can be due while a call pauses between them: it wasn't inside a guard
+ * before, and a seat that is shut out of one has learned nothing.
  */
-COLD int ww_go_on_awake(ww_seat *s, struct ww_wait *wait, struct ww_stay *stay)
+static int go_on_awake(ww_seat *s, struct ww_wait *wait)
 {
-	unsigned step = 0;
+	uint64_t until = 0;
+	unsigned looks = 0;
 
-	ww_waits_for_lock();
 	for (;;) {
-		uint32_t pauses;
-		int r = ww_go_on_(&s->handle, &pauses); /* a driver's move `calls`, as each first step is */
+		int r = ww_go_on_(&s->handle); /* a driver's move `calls`, as each first step is */
 
-		switch (r) {
-		case WW_AGAIN:
+		if (r == WW_AGAIN)
 			continue;
-		case WW_AWAITS:
-			await_guard(stay, &step);
-			break;
-		case WW_STAYS:
-		case WW_YIELDS:
-			rest(stay, pauses, r == WW_YIELDS);
-			break;
-		default:
+		if (r != WW_AWAITS)
 			return r;
-		}
+		ww_await_guard(&looks, &until);
 		stop_if_due(s, wait);
 	}
 }
 
-/* A poll neither rests nor yields, since the task that has the lock may be one of its own thread. */
-COLD int ww_go_on(ww_seat *s, struct ww_wait *wait, bool sleeps)
+COLD int ww_go_on(ww_seat *s, struct ww_wait *wait, bool was_asleep)
 {
-	struct ww_stay stay = { .over = wait->polls };
-
-	for (int r;; sleeps = true) {
-		if (sleeps && !wait->polls)
+	for (int r;; was_asleep = true) {
+		if (was_asleep && !wait->polls)
 			park(s, wait);
-		else if (sleeps && wait->waker && arm(s, wait->waker))
+		else if (was_asleep && wait->waker && arm(s, wait->waker))
 			return -EINPROGRESS;
 		stop_if_due(s, wait);
-		r = ww_go_on_awake(s, wait, &stay);
+		r = go_on_awake(s, wait);
 		ww_wake(s);
 		if (r != WW_SLEEPS)
 			return r;

@@ -58,31 +58,39 @@ int ww_begin_by(struct ww_acquire_ctx *x, ww_seat *s, int r)
 /* As its time this makes a begin return -EAGAIN instead of waiting. NULL is forever. */
 static const struct timespec at_once;
 
-static int begin(struct ww_acquire_ctx *x, struct ww_class *c, const struct timespec *until)
+static int begin(struct ww_acquire_ctx *x, struct ww_class *c, const struct timespec *until, bool heeds)
 {
+	bool stood = false;
 	ww_seat *s = NULL;
 	struct ww_pool *p;
 	int r = is_time(until) ? pool_of(c, &p) : -EINVAL;
 
-	if (!r && UNLIKELY(is_crowded(p)) && until != &at_once)
-		ww_await_permit(p, until);
+	if (!r && UNLIKELY(is_crowded(p)))
+		stood = ww_await_permit(p, until);
 	if (!r)
 		s = seat_at_once(p);
 	if (!r && !s)
-		r = until != &at_once ? ww_seek_seat(p, until, &s) : p->gone ? -EINVAL : -EAGAIN;
+		r = until != &at_once ? ww_seek_seat(p, until, heeds, &s) : p->gone ? -EINVAL : -EAGAIN;
+	if (UNLIKELY(stood))
+		ww_has_begun(p);
 	return ww_begin_by(x, s, r);
 }
 
-/* Most contexts of Rust and Python begin here. */
-int ww_acquire_init_checked(struct ww_acquire_ctx *x, struct ww_class *c)
+static inline int begin_by_any(struct ww_acquire_ctx *x, struct ww_class *c, const struct timespec *until, bool heeds)
 {
 	struct ww_pool *p = __atomic_load_n(&c->pool, __ATOMIC_ACQUIRE);
 	ww_seat *s = LIKELY(p) ? seat_at_hand(p) : NULL;
 
-	return LIKELY(s) ? ww_begin_by(x, s, 0) : begin(x, c, &at_once);
+	return LIKELY(s) ? ww_begin_by(x, s, 0) : begin(x, c, until, heeds);
 }
 
-int ww_acquire_init_until(struct ww_acquire_ctx *x, struct ww_class *c, const struct timespec *until) { return begin(x, c, until); }
+int ww_acquire_init_checked(struct ww_acquire_ctx *x, struct ww_class *c) { return begin_by_any(x, c, &at_once, false); }
+
+/* Most contexts of Rust begin here, without a time. */
+int ww_acquire_init_until(struct ww_acquire_ctx *x, struct ww_class *c, const struct timespec *until)
+{
+	return LIKELY(!until) ? begin_by_any(x, c, NULL, true) : begin(x, c, until, true);
+}
 
 /*
  * A seat that nobody uses certainly begins a context, unless it has begun as many as it may.  Then there is none:
@@ -102,7 +110,7 @@ static __attribute__((noinline)) void init_else(struct ww_acquire_ctx *x, struct
 
 	if (LIKELY(s))
 		begin_for_certain(x, p, s);
-	else if ((r = begin(x, c, NULL)))
+	else if ((r = begin(x, c, NULL, false)))
 		end_of(c, "ww_acquire_init", told_at_begin(r));
 }
 
@@ -150,9 +158,11 @@ int ww_acquire_fini_checked(struct ww_acquire_ctx *x)
 
 COLD static void fini_else(struct ww_acquire_ctx *x)
 {
-	if (ww_acquire_fini_checked(x))
-		end_of(class_of(x), "ww_acquire_fini", !x->own ? "the context has ended" : is_polled(x) ? WAITS_BY_POLL :
-			x->acquired ? "the context still holds a mutex" : told_at_begin(-ENOSPC));
+	if (!ww_acquire_fini_checked(x))
+		return;
+	DEBUG(ww_debug_unended(x));
+	end_of(class_of(x), "ww_acquire_fini", !x->own ? "the context has ended" : is_polled(x) ? WAITS_BY_POLL :
+		x->acquired ? "the context still holds a mutex" : told_at_begin(-ENOSPC));
 }
 
 void ww_acquire_fini(struct ww_acquire_ctx *x)

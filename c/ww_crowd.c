@@ -1,23 +1,21 @@
 /*
- * ww_crowd.c - crowds: once at least twice as many threads sleep in lock calls of a class as it has permits, only threads with
- * a permit begin contexts of it.  The others wait for a permit in turn, holding nothing.
+ * ww_crowd.c - crowds: while threads of a class often wait for its mutexes, and fewer of them at a time end more contexts, only
+ * threads with a permit begin contexts of it.  The others wait for a permit in turn, holding nothing.
  *
- * Contexts that sleep with locks held make others sleep, and wound one another: with far more threads than processors they do
- * little else.  A class has as many permits as there are processors.
+ *	the class	what comes next, and by what
+ *	no crowd	a crowd: a thread spent an eighth of its time in waits, unless the last one was of no use a moment ago
+ *	a crowd		its gate finds how many permits are best (ww_gate.c), and counts the contexts for that
+ *			no crowd: no limit is better
  *
- * If contexts seldom collide, they do no harm, however many sleep, and permits only hold them up.  So a crowd ends after a while.
- * After it, sleeping threads make the next one only if contexts often back off too; that one lasts longer.  If contexts seldom
- * back off, it takes longer until sleeping threads alone make one again.
+ *	a permit	what comes next, and by what
+ *	free		taken: by the first in the line, or by who comes, if nobody stands there
+ *	taken		free: its lease is over, and its thread begins the next context, or begins none and isn't amid one
+ *			stale: its lease has been over for GRACE, whatever its thread does, or it was free for as long
+ *	stale		taken: by anybody in the line who looks, as the first one does in time
  *
- * A permit ends after LEASE, whatever its thread does.  Until then its thread begins as many contexts as it likes, since each
- * change costs a wake-up.  A thread that comes is promised the permit that ends first, from then on, and sleeps until that time.
- * So they get permits in the order in which they came, and no wait is endless, whatever the threads do that have permits; also
- * those who wait as a crowd ends still come in turn, so if contexts do harm, not all begin at once.  Nobody has to be woken: the
- * thread whose permit has ended wakes the next one only because a timer may be late.  All of this is a hint: no lock asks who
- * has a permit, so coming without one, or too late, costs only time.
- *
- * If permits end after few contexts, though their threads waited for no lock, then contexts take long, or threads do other
- * things between them, and permits leave processors idle.  So all threads go on, and for a while there is no crowd.
+ * With a permit a thread begins as many contexts as it likes, since each change costs a wake-up.  So threads get permits in the
+ * order in which they came, and no wait is endless: who gets no processor, though it is first, or keeps its permit for long,
+ * is passed.  All of this is a hint: no lock asks who has a permit, so coming without one, or too late, costs only time.
  */
 #define _GNU_SOURCE
 #include "ww_pool.h"
@@ -25,25 +23,27 @@
 #include <string.h>
 #include <unistd.h>
 
-/* How long a permit lasts, in nanoseconds, as all times here; and with fewer contexts than FEW it ends after few. */
-enum { LEASE = 200000, FEW = 4 };
-/* Contexts back off often if OFTEN per permit do within WINDOW. */
-enum { OFTEN = 8, WINDOW = 2500000 };
-/* Bounds for how long a crowd lasts, and for how long after it sleeping threads alone make none. */
-enum { LEAST = 10000000, MOST = 1280000000 };
+/* All times are in nanoseconds.  A meeting costs about so much more than the wait for it: cache lines. */
+enum { MEETING = 1000 };
+/* A thread sums up its waits till they come to this much; they are many if they are one part in MANY_WAITS of its time. */
+enum { SAMPLE = 32000, MANY_WAITS = 8 };
+/* For so long there is no crowd after one that ended; each time twice as long, up to this, until a width is kept for WELL_KEPT windows. */
+enum { REST = 16000000, LONGEST_REST = 512000000, WELL_KEPT = 64 };
+/* With a permit a thread reads the clock with one context in AT_ONCE, if these are short: together a sixteenth of its lease. */
+enum { AT_ONCE = 16 };
+/* As long as MANY_PERMITS threads take that wake one another in turn, in deep sleep: so those don't get ever more beside them. */
+enum { GRACE = 4000000 };
+
+/* A thread that stands in the line, on its stack. */
+struct ww_in_line {
+	struct ww_in_line *next;
+	uint32_t is_called;
+};
 
 /* A time in nanoseconds. NULL, and what is centuries away, is never. */
 static uint64_t nanoseconds(const struct timespec *at)
 {
 	return at && at->tv_sec < (time_t)1 << 33 ? (uint64_t)at->tv_sec * 1000000000 + (uint64_t)at->tv_nsec : UINT64_MAX;
-}
-
-static uint64_t now_is(void)
-{
-	struct timespec now;
-
-	clock_gettime(CLOCK_MONOTONIC, &now);
-	return nanoseconds(&now);
 }
 
 /* The set has room for as many as a kernel has; where that doesn't say which of them this thread may use, all that run count. */
@@ -55,16 +55,18 @@ uint32_t ww_processors(void)
 	return count < 1 ? 1 : count < MANY_PERMITS ? (uint32_t)count : MANY_PERMITS;
 }
 
-/* Nobody uses the class yet. `asleep` stays: a thread that woke one, of a class before in this memory, may have yet to count it. */
+/* Nobody uses the class yet. */
 void ww_crowd_open(struct ww_pool *p)
 {
+	uint32_t said = p->class_->permits;
 	struct ww_crowd *crowd = &p->crowd;
 
-	crowd->permits = p->class_->permits ? p->class_->permits : ww_processors();
-	memset(crowd->ends, 0, sizeof crowd->ends);
-	crowd->over = crowd->resting = crowd->since = crowd->slow = 0;
-	crowd->term = crowd->off = LEAST;
-	__atomic_store_n(&crowd->harmless, 0, __ATOMIC_RELAXED);
+	memset(crowd->permits, 0, sizeof crowd->permits);
+	crowd->first = NULL;
+	crowd->end = &crowd->first;
+	crowd->rest = REST;
+	__atomic_store_n(&crowd->due, 0, __ATOMIC_RELAXED);
+	__atomic_store_n(&crowd->rests, said == WW_NO_CROWD ? UINT64_MAX : 0, __ATOMIC_RELAXED);
 	__atomic_store_n(&crowd->awaited, 0, __ATOMIC_RELAXED);
 }
 
@@ -73,180 +75,215 @@ void ww_crowd_open(struct ww_pool *p)
 /* Relaxed: a thread that sees it late begins one context more without a permit, or looks once more for one. */
 static void be(struct ww_pool *p, bool crowded) { __atomic_store_n(&p->at_hand, crowded ? CROWDED : p->id, __ATOMIC_RELAXED); }
 
-/* Ends a crowd; until this time sleeping threads alone make none. The crowd is locked. */
-static void disperse(struct ww_pool *p, uint64_t until)
-{
-	__atomic_store_n(&p->crowd.harmless, until, __ATOMIC_RELAXED);
-	be(p, false);
-}
-
-static bool may_harm(const struct ww_crowd *crowd)
-{
-	return __atomic_load_n(&crowd->asleep, __ATOMIC_RELAXED) / 2 >= crowd->permits;
-}
-
-static uint64_t longer(uint64_t length) { return length < MOST / 4 ? 4 * length : MOST; }
-
-/* The crowd is locked. */
-static void begin_crowd(struct ww_pool *p, uint64_t now, uint64_t term, uint64_t off)
+COLD static void begin_crowd(struct ww_pool *p)
 {
 	struct ww_crowd *crowd = &p->crowd;
-
-	if (is_crowded(p))
-		return;
-	crowd->slow = 0;
-	crowd->term = term;
-	crowd->over = now + term;
-	crowd->off = off;
-	be(p, true);
-}
-
-COLD static void many_sleep(struct ww_pool *p)
-{
-	struct ww_crowd *crowd = &p->crowd;
-	uint64_t now = now_is();
-
-	if (now < __atomic_load_n(&crowd->harmless, __ATOMIC_RELAXED))
-		return;
-	pthread_mutex_lock(&crowd->lock);
-	begin_crowd(p, now, LEAST, longer(crowd->off));
-	pthread_mutex_unlock(&crowd->lock);
-}
-
-/* OFTEN contexts per permit have backed off since this was called last. */
-COLD static void many_back_off(struct ww_pool *p)
-{
-	struct ww_crowd *crowd = &p->crowd;
-	uint64_t now = now_is();
+	uint32_t said = p->class_->permits;
 
 	pthread_mutex_lock(&crowd->lock);
-	if (now < crowd->since + WINDOW && now >= crowd->resting)
-		begin_crowd(p, now, longer(crowd->term), LEAST);
-	crowd->since = now;
-	pthread_mutex_unlock(&crowd->lock);
-}
-
-void ww_backs_off(struct ww_pool *p)
-{
-	struct ww_crowd *crowd = &p->crowd;
-
-	if (may_harm(crowd) && !is_crowded(p) && __atomic_add_fetch(&crowd->backed_off, 1, __ATOMIC_RELAXED) % (OFTEN * crowd->permits) == 0)
-		many_back_off(p);
-}
-
-void ww_sleeps(struct ww_pool *p)
-{
-	__atomic_add_fetch(&p->crowd.asleep, 1, __ATOMIC_RELAXED);
-	if (UNLIKELY(may_harm(&p->crowd)) && !is_crowded(p))
-		many_sleep(p);
-}
-
-void ww_sleeps_no_more(struct ww_pool *p) { __atomic_sub_fetch(&p->crowd.asleep, 1, __ATOMIC_RELAXED); }
-
-void ww_waits_for_lock(void) { ww_mine.permit.waits++; }
-
-/* Counts whether this thread's last permit ended after few contexts. The crowd is locked. */
-static void judge(struct ww_pool *p, uint64_t now)
-{
-	struct ww_crowd *crowd = &p->crowd;
-
-	if (ww_mine.permit.waits != ww_mine.permit.had_waited)
-		return;
-	if (ww_mine.permit.contexts >= FEW) {
-		crowd->slow -= !!crowd->slow;
-	} else if (++crowd->slow > 2 * crowd->permits && is_crowded(p)) {
-		crowd->resting = now + crowd->off;
-		disperse(p, crowd->resting);
+	if (!is_crowded(p)) {
+		ww_gate_open(&crowd->gate, said ? said : 1, said ? said : 1, said ? said : 1, said ? said : MANY_PERMITS, MANY_PERMITS);
+		be(p, true);
 	}
+	pthread_mutex_unlock(&crowd->lock);
+}
+
+void ww_has_waited(struct ww_pool *p, uint64_t now, uint64_t took)
+{
+	ww_mine.waited += took + MEETING;
+	if (LIKELY(ww_mine.waited < SAMPLE))
+		return;
+	if (now - ww_mine.counted < MANY_WAITS * ww_mine.waited && !p->gone && !is_crowded(p) && now >= __atomic_load_n(&p->crowd.rests, __ATOMIC_RELAXED))
+		begin_crowd(p);
+	ww_mine.waited = 0;
+	ww_mine.counted = now;
+}
+
+static void call(struct ww_in_line *it)
+{
+	__atomic_store_n(&it->is_called, 1, __ATOMIC_RELAXED);
+	ww_futex_wake(&it->is_called);
+}
+
+/* Looks at the gate, and ends a crowd that is of no use. The crowd is locked. */
+static void look(struct ww_pool *p, uint64_t now)
+{
+	struct ww_crowd *crowd = &p->crowd;
+
+	if (!is_crowded(p))
+		return;
+	__atomic_store_n(&crowd->due, now + crowd->gate.lease / 4, __ATOMIC_RELAXED);
+	if (ww_gate_look(&crowd->gate, now, __atomic_load_n(&crowd->begun, __ATOMIC_RELAXED), crowd->first ? now : crowd->awaited)) {
+		if (crowd->gate.holds >= WELL_KEPT)
+			crowd->rest = REST;
+		return;
+	}
+	__atomic_store_n(&crowd->rests, now + crowd->rest, __ATOMIC_RELAXED);
+	crowd->rest = crowd->rest < LONGEST_REST / 2 ? 2 * crowd->rest : LONGEST_REST;
+	be(p, false);
+	for (struct ww_in_line *it = crowd->first; it; it = it->next)
+		call(it);
 }
 
 /* ---- permits ---- */
 
-/* The permit that ends first. The crowd is locked. */
-static uint32_t next_permit(const struct ww_crowd *crowd)
+/* The seat of the class that this thread keeps, or NULL. */
+static const ww_seat *kept_seat(const struct ww_pool *p)
 {
-	uint32_t next = 0;
+	for (uint32_t k = 0; k < KEPT; k++)
+		if (ww_mine.seats[k].id == p->id)
+			return ww_mine.seats[k].seat;
+	return NULL;
+}
 
-	for (uint32_t k = 1; k < crowd->permits; k++)
-		if (crowd->ends[k] < crowd->ends[next])
-			next = k;
-	return next;
+static bool is_used(const ww_seat *s) { return s && __atomic_load_n(&s->busy, __ATOMIC_RELAXED) & BUSY; }
+
+static bool is_free(const struct ww_permit *it, uint64_t now) { return now >= it->ends && !is_used(it->seat); }
+static bool is_stale(const struct ww_permit *it, uint64_t now) { return now >= it->ends + GRACE; }
+
+/* The first permit that is so, or NULL. The crowd is locked. */
+static struct ww_permit *find(struct ww_crowd *crowd, bool (*is)(const struct ww_permit *it, uint64_t now), uint64_t now)
+{
+	for (uint32_t k = 0; k < crowd->gate.width && k < MANY_PERMITS; k++)
+		if (is(&crowd->permits[k], now))
+			return &crowd->permits[k];
+	return NULL;
+}
+
+/* The first in the line, if there is one, is called if a permit is free for it. The crowd is locked. */
+static void call_first(struct ww_crowd *crowd, uint64_t now)
+{
+	if (crowd->first && find(crowd, is_free, now))
+		call(crowd->first);
+}
+
+/* me: where this thread stands in the line, or NULL. The crowd is locked. */
+static bool takes(struct ww_pool *p, uint64_t now, const struct ww_in_line *me)
+{
+	struct ww_crowd *crowd = &p->crowd;
+	struct ww_permit *it = crowd->first == me ? find(crowd, is_free, now) : NULL;
+
+	if (!it && me)
+		it = find(crowd, is_stale, now);
+	if (!it && crowd->gate.width != NO_LIMIT)
+		return false;
+	ww_mine.permit = (struct ww_my_permit){ .id = p->id, .it = it, .ends = now + crowd->gate.lease, .seen = now, .brief = crowd->gate.lease / 16 };
+	if (it)
+		*it = (struct ww_permit){ .ends = ww_mine.permit.ends, .seat = kept_seat(p) };
+	return true;
+}
+
+/* The crowd is locked. */
+static void join(struct ww_crowd *crowd, struct ww_in_line *me)
+{
+	*crowd->end = me;
+	crowd->end = &me->next;
+	__atomic_add_fetch(&crowd->waiting, 1, __ATOMIC_RELAXED);
+}
+
+/* Who is first then is called, to find a permit, or when there may be one. The crowd is locked. */
+static void leave(struct ww_crowd *crowd, const struct ww_in_line *me)
+{
+	struct ww_in_line **at = &crowd->first;
+
+	while (*at != me)
+		at = &(*at)->next;
+	*at = me->next;
+	if (!*at)
+		crowd->end = at;
+	else if (at == &crowd->first)
+		call(crowd->first);
 }
 
 /*
- * Promises this thread the permit that ends first, and returns when that begins.  If that is too late for it, it is promised none,
- * and waits until its time: nobody leaves before a permit that was promised, so none is promised in vain.  The crowd is locked.
+ * When to look for a permit, unless called.  The first in the line looks once one should have been put back, and once it is stale;
+ * the others only once it should have been their turn, in case those before them get no processor.  The crowd is locked.
  */
-static uint64_t promise(struct ww_crowd *crowd, uint64_t now, uint64_t until)
+static uint64_t looks_at(const struct ww_pool *p, uint64_t now, const struct ww_in_line *me)
 {
-	uint32_t k = next_permit(crowd);
-	uint64_t begins = crowd->ends[k] > now ? crowd->ends[k] : now;
+	const struct ww_crowd *crowd = &p->crowd;
+	uint64_t at = now + crowd->gate.lease * (permit_seekers(p) / crowd->gate.width + 1);
 
-	ww_mine.permit.place = k;
-	if (begins >= until)
-		return until;
-	crowd->ends[k] = ww_mine.permit.ends = begins + LEASE;
-	ww_mine.permit.contexts = 1;
-	ww_mine.permit.had_waited = ww_mine.permit.waits;
-	return begins;
+	for (uint32_t k = 0; me == crowd->first && k < crowd->gate.width && k < MANY_PERMITS; k++) {
+		uint64_t ends = crowd->permits[k].ends, late = ends + crowd->gate.lease / 4, next = now < late ? late : ends + GRACE;
+
+		at = next < at ? next : at;
+	}
+	return at;
 }
 
-/* Sleeps until its permit begins, or its time.  If it comes late, others come sooner than its permit ends, which lasts no less. */
-static void await_permit(struct ww_crowd *crowd, uint64_t begins)
-{
-	const struct timespec at = { .tv_sec = (time_t)(begins / 1000000000), .tv_nsec = (long)(begins % 1000000000) };
-
-	while (!ww_has_come(&at))
-		ww_futex_wait(&crowd->turns[ww_mine.permit.place], 0, &at);
-	if (ww_mine.permit.ends)
-		ww_mine.permit.ends = now_is() + LEASE;
-	__atomic_sub_fetch(&crowd->waiting, 1, __ATOMIC_RELAXED);
-}
-
-/* This thread's last permit has ended, and the thread that was promised it next comes before this one gets another. */
-COLD static void find_permit(struct ww_pool *p, uint64_t now, const struct timespec *until)
+/* Waits for a permit, but not longer than until this time. The crowd isn't locked meanwhile. */
+static void stand_in_line(struct ww_pool *p, uint64_t now, uint64_t until)
 {
 	struct ww_crowd *crowd = &p->crowd;
-	uint64_t begins = now;
+	struct ww_in_line me = { 0 };
+
+	join(crowd, &me);
+	count(&crowd->awaited);
+	DTRACE_PROBE1(ww, permit_wait, p->class_);
+	do {
+		uint64_t looks = looks_at(p, now, &me), at = looks < until ? looks : until;
+		const struct timespec then = { .tv_sec = (time_t)(at / 1000000000), .tv_nsec = (long)(at % 1000000000) };
+
+		__atomic_store_n(&me.is_called, 0, __ATOMIC_RELAXED);
+		pthread_mutex_unlock(&crowd->lock);
+		ww_futex_wait(&me.is_called, 0, &then);
+		pthread_mutex_lock(&crowd->lock);
+		now = ww_now();
+	} while (is_crowded(p) && now < until && !takes(p, now, &me));
+	leave(crowd, &me);
+}
+
+/* This thread's last permit has ended, and the first in the line comes before this one gets another. True if it stood there. */
+COLD static bool find_permit(struct ww_pool *p, uint64_t now, uint64_t until)
+{
+	struct ww_crowd *crowd = &p->crowd;
+	bool stands;
 
 	pthread_mutex_lock(&crowd->lock);
-	if (ww_mine.permit.id == p->id && ww_mine.permit.ends) {
-		judge(p, now);
-		ww_futex_wake(&crowd->turns[ww_mine.permit.place]);
-	}
-	ww_mine.permit.id = p->id;
-	ww_mine.permit.ends = 0;
-	if (now > crowd->over && !may_harm(crowd) && is_crowded(p))
-		disperse(p, now + crowd->off);
-	if (is_crowded(p))
-		begins = promise(crowd, now, nanoseconds(until));
-	if (begins > now) {
-		count(&crowd->awaited);
-		__atomic_add_fetch(&crowd->waiting, 1, __ATOMIC_RELAXED);
-		DTRACE_PROBE1(ww, permit_wait, p->class_);
-	}
+	if (ww_mine.permit.id == p->id && ww_mine.permit.it && ww_mine.permit.it->ends == ww_mine.permit.ends)
+		*ww_mine.permit.it = (struct ww_permit){ .ends = now };
+	ww_mine.permit = (struct ww_my_permit){ .id = p->id };
+	look(p, now);
+	call_first(crowd, now);
+	stands = is_crowded(p) && !takes(p, now, NULL);
+	if (stands)
+		stand_in_line(p, now, until);
 	pthread_mutex_unlock(&crowd->lock);
-	if (begins > now)
-		await_permit(crowd, begins);
+	return stands;
 }
 
 /* Whether this thread already uses the seat of the class that it keeps: then others may wait for what it holds. */
 static bool has_another(const struct ww_pool *p)
 {
-	for (uint32_t k = 0; k < KEPT; k++)
-		if (ww_mine.seats[k].id == p->id)
-			return __atomic_load_n(&ww_mine.seats[k].seat->busy, __ATOMIC_RELAXED) & BUSY;
-	return false;
+	return is_used(kept_seat(p));
 }
 
-void ww_await_permit(struct ww_pool *p, const struct timespec *until)
+/* Its lease isn't over. The clock is read again after some contexts, if these are short. */
+static void goes_on(struct ww_pool *p, uint64_t now)
 {
-	uint64_t now = now_is();
+	struct ww_crowd *crowd = &p->crowd;
 
-	if (p->gone || has_another(p) || (until && ww_has_come(until)))
-		return;
-	if (ww_mine.permit.id == p->id && now < ww_mine.permit.ends)
-		ww_mine.permit.contexts++;
-	else
-		find_permit(p, now, until);
+	ww_mine.permit.at_once = now - ww_mine.permit.seen < ww_mine.permit.brief ? AT_ONCE : 0;
+	ww_mine.permit.seen = now;
+	if (now >= __atomic_load_n(&crowd->due, __ATOMIC_RELAXED) && !pthread_mutex_trylock(&crowd->lock)) {
+		look(p, now);
+		call_first(crowd, now);
+		pthread_mutex_unlock(&crowd->lock);
+	}
+}
+
+bool ww_await_permit(struct ww_pool *p, const struct timespec *until)
+{
+	uint64_t now = ww_now(), last = nanoseconds(until);
+	uint32_t begun = ww_mine.permit.id == p->id ? ww_mine.permit.begun : 0;
+
+	if (p->gone || has_another(p))
+		return false;
+	__atomic_fetch_add(&p->crowd.begun, begun + 1, __ATOMIC_RELAXED);
+	ww_mine.permit.begun = 0;
+	if (ww_mine.permit.id != p->id || now >= ww_mine.permit.ends)
+		return now < last && find_permit(p, now, last);
+	goes_on(p, now);
+	return false;
 }

@@ -24,8 +24,12 @@ struct place {
 	int line;
 };
 
-/* Of a mutex, by its number, while it is held: the number of the seat that holds it, plus one, and the thread that acquired it. */
+/*
+ * Of a mutex, by its number: where it lies; and while it is held the number of the seat that holds it, plus one, and the thread
+ * that acquired it.
+ */
 struct holding {
+	const struct ww_mutex *lies_at;
 	uint32_t seat;
 	const void *thread;
 };
@@ -34,7 +38,8 @@ struct holding {
  * What is watched of a seat: its context; the index of that in the order in which contexts began (`stamp`; 0 without a context);
  * and how many mutexes it holds.  While a context or a lock with NULL uses it: where that began, and the thread that called by it
  * last, but not for a task, which may go on in any thread.  While it waits: the number of the mutex, plus one (`wants`); where;
- * its thread's number in the system; and the number of this wait among all without a time, or 0 (`endless`).
+ * its thread's number in the system; and the number of this wait among all without a time, or 0 (`endless`).  From -EDEADLK
+ * until it acquires something: the mutex at which that came (`refused`), and where the program asked for it.
  */
 struct watch {
 	const struct ww_acquire_ctx *context;
@@ -42,7 +47,8 @@ struct watch {
 	uint32_t held, wants;
 	bool is_polled;
 	const void *thread;
-	struct place began, waits;
+	struct place began, waits, asked;
+	const struct ww_mutex *refused;
 	long tid;
 	uint64_t endless;
 };
@@ -55,10 +61,12 @@ struct debug {
 
 static unsigned long faults, warnings;
 static unsigned check_interval = 1000; /* in milliseconds */
-enum { LONG = 10000 };		 /* likewise */
 static uint64_t endless_waits;
-/* Where this thread made its call; the address is that of the thread. */
+/* Where this thread made its call; and somewhere near the call's code. */
 static __thread struct place ww_here;
+static __thread const char *near_call;
+/* The last context of this thread that was seen to be one. */
+static __thread const ww_seat *seen_seat;
 /* The wait of this thread for a mutex; it has no seat while there is none. */
 static __thread struct {
 	ww_seat *seat;
@@ -71,7 +79,13 @@ static __thread bool polls; /* contexts that this thread begins now are those of
 
 static const char *name_of(const struct ww_pool *p) { return p->class_->name ? p->class_->name : ""; }
 
-static const char *file_of(struct place at) { return at.file ? at.file : "(unknown)"; }
+static void print_place(FILE *to, struct place at)
+{
+	if (at.file)
+		fprintf(to, "%s:%d", at.file, at.line);
+	else
+		fputs("a line of code without -DWW_DEBUG", to);
+}
 
 static void set_place(struct place *of)
 {
@@ -90,7 +104,11 @@ static struct watch *watch_of(const ww_seat *s) { return &s->pool->debug->seats[
 
 /* ---- reports ---- */
 
-void ww_debug_at_(const char *file, int line) { ww_here = (struct place){ file, line }; }
+void ww_debug_at_(const char *file, int line)
+{
+	ww_here = (struct place){ file, line };
+	near_call = __builtin_return_address(0);
+}
 
 unsigned long ww_debug_faults(void) { return __atomic_load_n(&faults, __ATOMIC_RELAXED); }
 
@@ -117,14 +135,32 @@ static bool is_new(uint64_t about)
 }
 
 /* The same for a report about this call of the program, in this class. */
-static bool is_new_here(const struct ww_pool *p, const char *words)
+static bool is_new_here(const struct ww_class *c, const char *words)
 {
 	uint64_t key = 14695981039346656037u;
 
-	for (const char *at = file_of(ww_here); *at; at++)
+	for (const char *at = ww_here.file ? ww_here.file : ""; *at; at++)
 		key = (key ^ (unsigned char)*at) * MIX;
 	key = (key ^ (unsigned)ww_here.line) * MIX;
-	return is_new(((key ^ (uintptr_t)words) * MIX ^ (uintptr_t)p->class_) * MIX | 1);
+	return is_new(((key ^ (uintptr_t)words) * MIX ^ (uintptr_t)c) * MIX | 1);
+}
+
+/* Writes the calls of this thread, without those of the library, which come before the call that is near; and once how to name them. */
+static void trace(void)
+{
+#ifdef HAS_BACKTRACE
+	enum { DEPTH = 32, NEAR = 4096 };
+	static bool is_said;
+	void *calls[DEPTH];
+	int count = backtrace(calls, DEPTH), own = 0;
+
+	while (own < count && (uintptr_t)calls[own] - (uintptr_t)near_call >= NEAR)
+		own++;
+	own = own < count ? own : 0;
+	backtrace_symbols_fd(calls + own, count - own, STDERR_FILENO);
+	if (count && !__atomic_exchange_n(&is_said, true, __ATOMIC_RELAXED))
+		fputs("[link with -rdynamic: then these have the names of functions]\n", stderr);
+#endif
 }
 
 /*
@@ -134,43 +170,38 @@ static bool is_new_here(const struct ww_pool *p, const char *words)
  * Only standard error is locked meanwhile.  pthread_cancel doesn't end the thread during the message: otherwise standard error
  * would stay locked, and whatever the call had acquired.
  */
-__attribute__((format(printf, 5, 6))) static void tell(unsigned long *counted, const struct ww_pool *p, const char *call,
-						       const struct watch *earlier, const char *format, ...)
+__attribute__((format(printf, 5, 6))) static void tell(unsigned long *counted, const struct ww_class *c, const char *call,
+						       const struct place *earlier, const char *format, ...)
 {
-	struct place at = earlier ? place_of(&earlier->began) : ww_here;
+	struct place at = earlier ? place_of(earlier) : ww_here;
 	va_list words;
 	int may_end;
 
-	if (counted == &warnings && p && !is_new_here(p, format))
+	if (counted == &warnings && c && !is_new_here(c, format))
 		return;
 	pthread_setcancelstate(PTHREAD_CANCEL_DISABLE, &may_end);
 	flockfile(stderr);
 	if (ww_here.file)
 		fprintf(stderr, "%s:%d: ", ww_here.file, ww_here.line);
 	fprintf(stderr, "%s: ", call);
-	if (p)
-		fprintf(stderr, "class \"%s\": ", name_of(p));
+	if (c)
+		fprintf(stderr, "class \"%s\": ", c->name ? c->name : "");
 	va_start(words, format);
 	vfprintf(stderr, format, words);
 	va_end(words);
-	if (earlier)
-		fprintf(stderr, " %s:%d", file_of(at), at.line);
+	if (earlier) {
+		fputc(' ', stderr);
+		print_place(stderr, at);
+	}
 	fputc('\n', stderr);
 	fflush(stderr);
-#ifdef HAS_BACKTRACE
-	enum { DEPTH = 32 };
-	void *calls[DEPTH];
-
-	backtrace_symbols_fd(calls, backtrace(calls, DEPTH), STDERR_FILENO);
-#endif
+	trace();
 	funlockfile(stderr);
 	__atomic_fetch_add(counted, 1, __ATOMIC_RELAXED);
 	pthread_setcancelstate(may_end, NULL);
 }
 
-void ww_debug_fault(const char *call, const char *why) { tell(&faults, NULL, call, NULL, "%s", why); }
-
-static void fault_in(const struct ww_pool *p, const char *call, const char *why) { tell(&faults, p, call, NULL, "%s", why); }
+void ww_debug_fault(const struct ww_class *c, const char *call, const char *why) { tell(&faults, c, call, NULL, "%s", why); }
 
 /* ---- what each seat does ---- */
 
@@ -185,8 +216,11 @@ int ww_debug_open(struct ww_pool *p)
 
 void ww_debug_free(struct ww_pool *p) { free(p->debug); }
 
+/* No other thread has the same, nor had it, once this one has used a seat; before that it holds nothing, and waits for nothing. */
+static const void *this_thread(void) { return ww_mine.thread ? (const void *)(uintptr_t)ww_mine.thread : &ww_here; }
+
 /* The thread that calls by it now; NULL for a task, which may go on in another thread at any time. */
-static const void *user_of(const struct watch *s) { return __atomic_load_n(&s->is_polled, __ATOMIC_RELAXED) ? NULL : &ww_here; }
+static const void *user_of(const struct watch *s) { return __atomic_load_n(&s->is_polled, __ATOMIC_RELAXED) ? NULL : this_thread(); }
 
 /* This thread makes a call by the seat. For a lock with NULL that is where it began. */
 static void use(struct watch *s)
@@ -194,6 +228,7 @@ static void use(struct watch *s)
 	if (!__atomic_load_n(&s->stamp, __ATOMIC_RELAXED))
 		set_place(&s->began);
 	__atomic_store_n(&s->thread, user_of(s), __ATOMIC_RELAXED);
+	__atomic_store_n(&s->tid, syscall(SYS_gettid), __ATOMIC_RELAXED);
 }
 
 void ww_debug_polls(bool now) { polls = now; }
@@ -207,13 +242,15 @@ static void unuse_if_free(struct watch *s)
 		__atomic_store_n(&s->thread, NULL, __ATOMIC_RELAXED);
 }
 
-enum has { THIS_CONTEXT, ANYTHING, A_CONTEXT, A_MUTEX, A_WAIT };
+enum has { THIS_CONTEXT, REFUSED, ANYTHING, A_CONTEXT, A_MUTEX, A_WAIT };
 
-/* Whether its context is this one, or whether this thread has such a thing by the seat. */
+/* Whether its context is this one, or one of this thread that got -EDEADLK at this mutex; or whether this thread has such a thing. */
 static bool has(const struct watch *s, const void *it, enum has what)
 {
 	if (what == THIS_CONTEXT)
 		return __atomic_load_n(&s->context, __ATOMIC_RELAXED) == it;
+	if (what == REFUSED)
+		return __atomic_load_n(&s->refused, __ATOMIC_RELAXED) == it && __atomic_load_n(&s->thread, __ATOMIC_RELAXED) == this_thread();
 	if (__atomic_load_n(&s->thread, __ATOMIC_RELAXED) != it)
 		return false;
 	return what == ANYTHING || (what == A_CONTEXT ? __atomic_load_n(&s->stamp, __ATOMIC_RELAXED) :
@@ -230,19 +267,36 @@ static const ww_seat *seat_with(const struct ww_pool *p, bool further, const voi
 	return NULL;
 }
 
+/*
+ * Whether all calls of this thread come here.  Code that isn't compiled with WW_DEBUG has the quick calls compiled in, which
+ * don't come here, and its calls don't say their lines.
+ */
+static bool is_seen(void) { return ww_here.file; }
+
+/* Once, where that is so. In the search of schedules no call says its line. */
+static void tell_if_unseen(void)
+{
+	static bool is_said;
+
+	if (WW_PATIENCE > 0 && !is_seen() && !__atomic_exchange_n(&is_said, true, __ATOMIC_RELAXED))
+		tell(&warnings, NULL, "libww_debug", NULL,
+		     "the calls of this program weren't compiled with -DWW_DEBUG: reports have no lines, and some misuse isn't seen");
+}
+
 void ww_debug_begun(struct ww_acquire_ctx *x)
 {
 	struct ww_pool *p = x->own->pool;
-	const ww_seat *left = seat_with(p, false, x, THIS_CONTEXT), *first = seat_with(p, false, &ww_here, A_CONTEXT);
+	const ww_seat *left = seat_with(p, false, x, THIS_CONTEXT), *first = seat_with(p, false, this_thread(), A_CONTEXT);
 	struct watch *s = watch_of(x->own);
 
+	tell_if_unseen();
 	__atomic_store_n(&s->is_polled, polls, __ATOMIC_RELAXED);
 	if (left) { /* and its memory is another's by now */
 		__atomic_store_n(&watch_of(left)->context, NULL, __ATOMIC_RELAXED);
-		tell(&faults, p, "ww_acquire_init", watch_of(left), "the context that was here before was left without ww_acquire_fini; it began at");
+		tell(&faults, p->class_, "ww_acquire_init", &watch_of(left)->began, "the context that was here before was left without ww_acquire_fini; it began at");
 	}
 	if (first && !polls)
-		tell(&warnings, p, "ww_acquire_init", watch_of(first), "two contexts of a thread can wait for each other forever; "
+		tell(&warnings, p->class_, "ww_acquire_init", &watch_of(first)->began, "two contexts of a thread can wait for each other forever; "
 		     "its other one, if it wasn't left without ww_acquire_fini, began at");
 	__atomic_store_n(&s->context, polls ? NULL : x, __ATOMIC_RELAXED); /* A task's may be moved, as Rust does. */
 	x->stamp = __atomic_add_fetch(&p->debug->stamps, 1, __ATOMIC_RELAXED);
@@ -259,24 +313,26 @@ void ww_debug_ended(struct ww_acquire_ctx *x)
 	struct watch *s = watch_of(x->own);
 
 	__atomic_store_n(&s->is_polled, false, __ATOMIC_RELAXED);
+	__atomic_store_n(&s->refused, NULL, __ATOMIC_RELAXED);
 	__atomic_store_n(&s->context, NULL, __ATOMIC_RELAXED);
 	__atomic_store_n(&s->thread, NULL, __ATOMIC_RELAXED);
 	__atomic_store_n(&s->stamp, 0, __ATOMIC_RELAXED);
 }
 
-/*
- * Whether all calls of this thread come here.  Code that isn't compiled with WW_DEBUG has the quick calls compiled in, which
- * don't come here, and its calls don't say their lines.
- */
-static bool is_seen(void) { return ww_here.file; }
+static bool is_copy(const struct ww_mutex *m)
+{
+	return __atomic_load_n(&m->pool->debug->mutexes[m->number].lies_at, __ATOMIC_RELAXED) != m;
+}
 
 void ww_debug_alone(const struct ww_mutex *m, const struct timespec *until)
 {
 	struct ww_pool *p = pool_at(m);
-	const ww_seat *s = p && !until && is_seen() ? seat_with(p, false, &ww_here, A_MUTEX) : NULL;
+	const ww_seat *s = p && !until && is_seen() ? seat_with(p, false, this_thread(), A_MUTEX) : NULL;
 
+	if (p && is_copy(m))
+		ww_debug_fault(p->class_, "ww_mutex_lock", "the mutex is a copy of another one, or was moved");
 	if (s)
-		tell(&warnings, p, "ww_mutex_lock", watch_of(s),
+		tell(&warnings, p->class_, "ww_mutex_lock", &watch_of(s)->began,
 		     "deadlocks through locks without a context are not detected; the thread holds a mutex by what began at");
 }
 
@@ -293,14 +349,57 @@ void ww_debug_acquired(const struct ww_mutex *m, const struct ww_acquire_ctx *x,
 		acquired = m;
 }
 
+/* Whether a context of this thread got -EDEADLK at the mutex, which is reported here: the program didn't look at that. */
+static bool unlocks_refused(const struct ww_mutex *m)
+{
+	const ww_seat *s = seat_with(ww_lock_pools(), true, m, REFUSED);
+
+	ww_unlock_pools();
+	if (s)
+		tell(&faults, s->pool->class_, "ww_mutex_unlock", &watch_of(s)->asked,
+		     "the context doesn't hold the mutex: nothing looked at the -EDEADLK that its lock returned at");
+	return s;
+}
+
+/* ---- mutexes ---- */
+
+void ww_debug_made(const struct ww_mutex *m) { __atomic_store_n(&m->pool->debug->mutexes[m->number].lies_at, m, __ATOMIC_RELAXED); }
+
+/* Why nobody holds a mutex that is unlocked here, though somebody seems to: it lies elsewhere, or was made anew; or NULL. */
+static const char *why_unheld(const struct ww_pool *of, const struct ww_mutex *m)
+{
+	while (of && of != m->pool)
+		of = of->next;
+	if (!of || of->gone || m->number >= of->locks)
+		return NULL;
+	if (__atomic_load_n(&of->debug->mutexes[m->number].lies_at, __ATOMIC_RELAXED) != m)
+		return "the mutex is a copy of another one, or was moved";
+	for (uint32_t n = 0; n < of->locks; n++)
+		if (n != m->number && __atomic_load_n(&of->debug->mutexes[n].lies_at, __ATOMIC_RELAXED) == m &&
+		    __atomic_load_n(&of->debug->mutexes[n].seat, __ATOMIC_RELAXED))
+			return "the mutex was initialized once more while somebody held it";
+	return NULL;
+}
+
+bool ww_debug_unheld(const struct ww_mutex *m)
+{
+	const char *why = why_unheld(ww_lock_pools(), m);
+
+	ww_unlock_pools();
+	if (why)
+		ww_debug_fault(m->pool->class_, "ww_mutex_unlock", why);
+	return why || unlocks_refused(m);
+}
+
+
 void ww_debug_released(const struct ww_mutex *m)
 {
 	struct holding *h = &m->pool->debug->mutexes[m->number];
 	uint32_t seat = __atomic_load_n(&h->seat, __ATOMIC_RELAXED);
 	struct watch *by = seat ? &m->pool->debug->seats[seat - 1] : NULL; /* NULL: that seat is in the middle of its own unlock */
 
-	if (is_seen() && __atomic_load_n(&h->thread, __ATOMIC_RELAXED) != &ww_here && !(by && !user_of(by)))
-		fault_in(m->pool, "ww_mutex_unlock", "another thread acquired the mutex");
+	if (is_seen() && __atomic_load_n(&h->thread, __ATOMIC_RELAXED) != this_thread() && !(by && !user_of(by)) && !unlocks_refused(m))
+		ww_debug_fault(m->pool->class_, "ww_mutex_unlock", "another thread acquired the mutex");
 	if (!by)
 		return;
 	__atomic_store_n(&h->thread, NULL, __ATOMIC_RELAXED);
@@ -311,14 +410,55 @@ void ww_debug_released(const struct ww_mutex *m)
 
 /* ---- -EDEADLK ---- */
 
-static const char not_released[] = "the context got -EDEADLK, and still holds a mutex";
-
-bool ww_debug_refuses(const struct ww_acquire_ctx *x)
+/* The context holds a mutex, and so may neither acquire another one nor end. */
+static void tell_not_released(const char *call, const ww_seat *s)
 {
-	if (!(x->state & WAS_INJECTED) || !x->acquired)
+	tell(&faults, s->pool->class_, call, &watch_of(s)->asked, "the context still holds a mutex, and got -EDEADLK at");
+}
+
+void ww_debug_unended(const struct ww_acquire_ctx *x)
+{
+	if (x->own && watch_of(x->own)->refused)
+		tell_not_released("ww_acquire_fini", x->own);
+}
+
+/* Whether what lies there was begun as a context, of any class, or has ended. */
+static bool is_context(const struct ww_acquire_ctx *x)
+{
+	const struct ww_pool *p;
+
+	if (!x->own || x->own == seen_seat)
+		return true;
+	for (p = ww_lock_pools(); p && !(x->own >= p->seats && x->own < p->seats + seats_of(p)); p = p->next)
+		;
+	ww_unlock_pools();
+	seen_seat = p ? x->own : NULL;
+	return p;
+}
+
+bool ww_debug_refuses(const char *call, const struct ww_mutex *m, const struct ww_acquire_ctx *x)
+{
+	if (!is_context(x)) {
+		ww_debug_fault(NULL, call, "the context was never begun");
+		return true;
+	}
+	if (fits(m, x) && is_copy(m))
+		ww_debug_fault(m->pool->class_, call, "the mutex is a copy of another one, or was moved");
+	if (!(x->state & WAS_INJECTED) || !x->acquired || !fits(m, x))
 		return false;
-	fault_in(x->own->pool, "ww_mutex_lock", not_released);
+	tell_not_released("ww_mutex_lock", x->own);
 	return true;
+}
+
+/* The context got -EDEADLK at this mutex, by this call of the program. */
+static void refuse(const struct ww_mutex *m, struct ww_acquire_ctx *x)
+{
+	struct watch *s = watch_of(x->own);
+
+	x->state |= WAS_TOLD;
+	use(s);
+	set_place(&s->asked);
+	__atomic_store_n(&s->refused, m, __ATOMIC_RELAXED);
 }
 
 /* Releases the mutex that was just acquired, and returns -EDEADLK; until the next time it takes three and a half times as long. */
@@ -331,7 +471,8 @@ static int injected(struct ww_mutex *m, struct ww_acquire_ctx *x)
 	interval = interval > ~0u / 7 ? ~0u : interval * 7 / 2;
 	x->deadlock_inject_interval = x->deadlock_inject_countdown = interval;
 	x->contending_lock = m;
-	x->state |= WAS_TOLD | WAS_INJECTED;
+	x->state |= WAS_INJECTED;
+	refuse(m, x);
 	if (x->gives != x->own) {
 		x->state |= HAS_TO_BACK_OFF;
 		x->pool = NO_POOL;
@@ -346,16 +487,22 @@ int ww_debug_told(struct ww_mutex *m, struct ww_acquire_ctx *x, int r, bool inje
 
 	acquired = NULL;
 	if (r == -EDEADLK)
-		x->state |= WAS_TOLD;
-	if (r == -EINVAL && injects)
-		fault_in(m->pool, "ww_mutex_lock", !x->own ? "the context has ended" : not_released);
+		refuse(m, x);
+	if (r == -EINVAL && injects && !x->own)
+		ww_debug_fault(m->pool->class_, "ww_mutex_lock", "the context has ended");
+	else if (r == -EINVAL && injects && watch_of(x->own)->refused)
+		tell_not_released("ww_mutex_lock", x->own);
+	else if (r == -EINVAL && injects)
+		ww_debug_fault(m->pool->class_, "ww_mutex_lock", told(r));
 	if (r)
 		return r;
 	if (anew && x->state & IS_DONE)
-		fault_in(m->pool, "ww_mutex_lock", "the context is done");
+		ww_debug_fault(m->pool->class_, "ww_mutex_lock", "the context is done");
 	if (x->state & WAS_TOLD && x->contending_lock != m)
-		fault_in(m->pool, "ww_mutex_lock", "after -EDEADLK another mutex comes first");
+		tell(&faults, m->pool->class_, "ww_mutex_lock", &watch_of(x->own)->asked,
+		     "after -EDEADLK another mutex comes first than that at which it came, at");
 	x->state &= ~(unsigned)(WAS_TOLD | WAS_INJECTED);
+	__atomic_store_n(&watch_of(x->own)->refused, NULL, __ATOMIC_RELAXED);
 	return injects && anew && x->acquired > 1 ? injected(m, x) : 0;
 }
 
@@ -366,14 +513,26 @@ bool ww_debug_injected(const struct ww_mutex *m, const struct ww_acquire_ctx *x)
 
 /* ---- waits ---- */
 
-static struct timespec in_milliseconds(unsigned count)
+static struct timespec in_milliseconds(uint64_t count)
 {
 	struct timespec at;
-	long long of_second;
+	uint64_t of_second;
 
 	clock_gettime(CLOCK_MONOTONIC, &at);
-	of_second = at.tv_nsec + count * 1000000ll;
+	of_second = (uint64_t)at.tv_nsec + count * 1000000;
 	return (struct timespec){ at.tv_sec + (time_t)(of_second / 1000000000), (long)(of_second % 1000000000) };
+}
+
+/* A time that is years away, but no century, is one of another clock; and soon after the system began, but long ago, a duration. */
+void ww_debug_time(const struct timespec *until)
+{
+	static const char words[] = "the time is %s: is it one of CLOCK_MONOTONIC, and no duration?";
+	enum { MINUTE = 60, HOUR = 3600, YEAR = 365 * 86400 };
+	time_t away = until && until->tv_sec ? until->tv_sec - in_milliseconds(0).tv_sec : 0;
+	bool is_far = away > YEAR && away / 90 < YEAR, is_past = away < -MINUTE && until->tv_sec < HOUR;
+
+	if ((is_far || is_past) && is_new_here(NULL, words))
+		tell(&warnings, NULL, "a time limit", NULL, words, is_far ? "more than a year away" : "long past");
 }
 
 void ww_debug_waits(ww_seat *s, const struct ww_mutex *m, const struct ww_wait *wait)
@@ -384,10 +543,9 @@ void ww_debug_waits(ww_seat *s, const struct ww_mutex *m, const struct ww_wait *
 	mine.seen = 0;
 	if (m) {
 		mine.looks = in_milliseconds(__atomic_load_n(&check_interval, __ATOMIC_RELAXED));
-		mine.is_long = in_milliseconds(LONG);
+		mine.is_long = in_milliseconds(1000ull * ww_patience());
 		use(it);
 		set_place(&it->waits);
-		__atomic_store_n(&it->tid, syscall(SYS_gettid), __ATOMIC_RELAXED);
 		__atomic_store_n(&it->endless, wait->until ? 0 : __atomic_add_fetch(&endless_waits, 1, __ATOMIC_RELAXED), __ATOMIC_RELAXED);
 	}
 	__atomic_store_n(&it->wants, m ? m->number + 1 : 0, __ATOMIC_RELAXED);
@@ -401,10 +559,10 @@ void ww_debug_seeks(const struct ww_pool *p, const struct timespec *until)
 
 	if (until)
 		return;
-	s = seat_with(ww_lock_pools(), true, &ww_here, ANYTHING);
+	s = seat_with(ww_lock_pools(), true, this_thread(), ANYTHING);
 	ww_unlock_pools();
 	if (s)
-		tell(&warnings, p, "a wait for a context", watch_of(s),
+		tell(&warnings, p->class_, "a wait for a context", &watch_of(s)->began,
 		     "all are in use, and deadlocks through this wait are not detected; the thread has what began at");
 }
 
@@ -454,6 +612,13 @@ static uint64_t deadlock(const struct ww_pool *of, unsigned *count)
 	return 0;
 }
 
+static void print_wait(FILE *to, const struct watch *s, const char *before)
+{
+	fprintf(to, "%sthread %ld waits at ", before, __atomic_load_n(&s->tid, __ATOMIC_RELAXED));
+	print_place(to, place_of(&s->waits));
+	fprintf(to, " for mutex %u", __atomic_load_n(&s->wants, __ATOMIC_RELAXED) - 1);
+}
+
 /* A line for each wait. Each of them may still end by a cancel. */
 static char *text_of_deadlock(const struct ww_pool *of, unsigned count)
 {
@@ -462,16 +627,13 @@ static char *text_of_deadlock(const struct ww_pool *of, unsigned count)
 	size_t size;
 	FILE *to = open_memstream(&words, &size);
 
-	for (; to && count && next; count--, s = next) {
-		const struct watch *it = watch_of(s);
-		struct place at = place_of(&it->waits);
-
+	for (; to && count; count--, s = next) {
 		next = next_wait(of, s);
-		if (next)
-			fprintf(to, "\nthread %ld waits at %s:%d for mutex %u of class \"%s\", which thread %ld holds",
-				__atomic_load_n(&it->tid, __ATOMIC_RELAXED), file_of(at), at.line,
-				__atomic_load_n(&it->wants, __ATOMIC_RELAXED) - 1, name_of(s->pool),
-				__atomic_load_n(&watch_of(next)->tid, __ATOMIC_RELAXED));
+		if (!next)
+			break;
+		print_wait(to, watch_of(s), "\n");
+		fprintf(to, " of class \"%s\", which thread %ld holds", name_of(s->pool),
+			__atomic_load_n(&watch_of(next)->tid, __ATOMIC_RELAXED));
 	}
 	return to && !fclose(to) ? words : NULL;
 }
@@ -493,6 +655,13 @@ static void look_for_deadlock(void)
 	free(text);
 }
 
+/* Whether its thread isn't there any more. A task goes on in any. */
+static bool has_ended(const struct watch *s)
+{
+	return __atomic_load_n(&s->thread, __ATOMIC_RELAXED) &&
+	       syscall(SYS_tgkill, getpid(), __atomic_load_n(&s->tid, __ATOMIC_RELAXED), 0) == -1 && errno == ESRCH;
+}
+
 /* What it waits for has been held for long: by a thread that does something else, or by a context that was left and never ends. */
 static void look_for_long_wait(void)
 {
@@ -500,9 +669,9 @@ static void look_for_long_wait(void)
 	uint32_t number = __atomic_load_n(&watch_of(mine.seat)->wants, __ATOMIC_RELAXED) - 1;
 	uint32_t holder = __atomic_load_n(&p->debug->mutexes[number].seat, __ATOMIC_RELAXED);
 
-	if (holder && !mine.seen && ww_has_come(&mine.is_long))
-		tell(&warnings, p, "a wait", &p->debug->seats[holder - 1], "it has lasted %d seconds; mutex %u is held by what began at",
-		     LONG / 1000, number);
+	if (holder && !mine.seen && ww_patience() && ww_has_come(&mine.is_long))
+		tell(&warnings, p->class_, "a wait", &p->debug->seats[holder - 1].began, "it has lasted %u seconds; mutex %u is held by what %sbegan at",
+		     ww_patience(), number, has_ended(&p->debug->seats[holder - 1]) ? "a thread that has ended left; it " : "");
 }
 
 static bool is_earlier(const struct timespec *a, const struct timespec *b)
@@ -539,7 +708,7 @@ void ww_debug_leak(const struct ww_seats *of, const char *why)
 		if (is_used(s) && (!first || __atomic_load_n(&s->stamp, __ATOMIC_RELAXED) - 1 < __atomic_load_n(&first->stamp, __ATOMIC_RELAXED) - 1))
 			first = s;
 	}
-	tell(&warnings, of->pool, "a wait for a context", first, "%s%s", why, first ? "; the oldest began at" : "");
+	tell(&warnings, of->pool->class_, "a wait for a context", first ? &first->began : NULL, "%s%s", why, first ? "; the oldest began at" : "");
 }
 
 /* ---- what is in use ---- */
@@ -557,11 +726,13 @@ static void print_seat(const struct watch *s, uint32_t k, FILE *to)
 {
 	unsigned long stamp = __atomic_load_n(&s->stamp, __ATOMIC_RELAXED);
 	uint32_t wants = __atomic_load_n(&s->wants, __ATOMIC_RELAXED);
-	struct place began = place_of(&s->began), waits = place_of(&s->waits);
 
-	fprintf(to, "\nseat %u: %s%.0lu began at %s:%d", k, stamp ? "context " : "a lock without a context", stamp, file_of(began), began.line);
+	fprintf(to, "\nseat %u: %s%.0lu began at ", k, stamp ? "context " : "a lock without a context", stamp);
+	print_place(to, place_of(&s->began));
 	if (wants)
-		fprintf(to, "; thread %ld waits at %s:%d for mutex %u", __atomic_load_n(&s->tid, __ATOMIC_RELAXED), file_of(waits), waits.line, wants - 1);
+		print_wait(to, s, "; ");
+	else if (__atomic_load_n(&s->thread, __ATOMIC_RELAXED))
+		fprintf(to, "; thread %ld", __atomic_load_n(&s->tid, __ATOMIC_RELAXED));
 }
 
 char *ww_debug_seen(struct ww_pool *p)
@@ -575,8 +746,10 @@ char *ww_debug_seen(struct ww_pool *p)
 	fprintf(to, "class \"%s\": %u of %u mutexes and %u of %u contexts in use, waits for a context: %u", name_of(p), taken_numbers(p),
 		p->mutexes, used_seats(p), seats_of(p),
 		__atomic_load_n(&p->threads.seekers, __ATOMIC_RELAXED) + __atomic_load_n(&p->tasks.seekers, __ATOMIC_RELAXED));
-	if (is_crowded(p))
-		fprintf(to, "; a crowd, permits: %u, waits for one: %u", p->crowd.permits, permit_seekers(p));
+	pthread_mutex_lock(&p->crowd.lock);
+	if (is_crowded(p) && p->crowd.gate.width != NO_LIMIT)
+		fprintf(to, "; a crowd, permits: %u, waits for one: %u", p->crowd.gate.width, permit_seekers(p));
+	pthread_mutex_unlock(&p->crowd.lock);
 	for (uint32_t k = 0; k < seats_of(p); k++)
 		if (is_used(&p->debug->seats[k]))
 			print_seat(&p->debug->seats[k], k, to);
@@ -592,7 +765,7 @@ char *ww_debug_seen(struct ww_pool *p)
 /* The thread that ended the last context may not be done with that; then nothing is left that is worth a report. */
 char *ww_debug_left(struct ww_pool *p)
 {
-	return (taken_numbers(p) || used_seats(p)) && is_new_here(p, "ww_class_free") ? ww_debug_seen(p) : NULL;
+	return (taken_numbers(p) || used_seats(p)) && is_new_here(p->class_, "ww_class_free") ? ww_debug_seen(p) : NULL;
 }
 
 void ww_debug_busy(char *left)

@@ -5,6 +5,8 @@ WW_HIDDEN int ww_debug_open(struct ww_pool *p);
 WW_HIDDEN void ww_debug_free(struct ww_pool *p);
 WW_HIDDEN void ww_debug_begun(struct ww_acquire_ctx *x);
 WW_HIDDEN void ww_debug_ended(struct ww_acquire_ctx *x);
+/* It can't end: reports where it got -EDEADLK, if it has acquired nothing since. */
+WW_HIDDEN void ww_debug_unended(const struct ww_acquire_ctx *x);
 /* Whether the contexts that this thread begins from now on are those of tasks. */
 WW_HIDDEN void ww_debug_polls(bool now);
 /* A task uses the seat. */
@@ -24,10 +26,19 @@ WW_HIDDEN char *ww_debug_left(struct ww_pool *p);
 WW_HIDDEN void ww_debug_busy(char *left);
 /* What ww_class_print writes of an open class, or NULL; the caller frees it. */
 WW_HIDDEN char *ww_debug_seen(struct ww_pool *p);
-/* Reports a misuse, its line, and a backtrace. */
-WW_HIDDEN void ww_debug_fault(const char *call, const char *why);
-/* Whether a lock call is refused that the proved library would allow, since an -EDEADLK was made up. */
-WW_HIDDEN bool ww_debug_refuses(const struct ww_acquire_ctx *x);
+/* Reports a misuse, its line, and a backtrace; with the name of the class, if that isn't NULL. */
+WW_HIDDEN void ww_debug_fault(const struct ww_class *c, const char *call, const char *why);
+/* This thread unlocks a mutex that nobody holds: whether it was reported why. */
+WW_HIDDEN bool ww_debug_unheld(const struct ww_mutex *m);
+/* The mutex has a number from now on. */
+WW_HIDDEN void ww_debug_made(const struct ww_mutex *m);
+/* A call waits at most until this time: warns where that is hardly one of the monotonic clock. */
+WW_HIDDEN void ww_debug_time(const struct timespec *until);
+/*
+ * Whether a lock call is refused: since the context was never begun, which is told here; or though the proved library would allow
+ * it, since an -EDEADLK was made up.
+ */
+WW_HIDDEN bool ww_debug_refuses(const char *call, const struct ww_mutex *m, const struct ww_acquire_ctx *x);
 /* What a lock call returns instead of r. */
 WW_HIDDEN int ww_debug_told(struct ww_mutex *m, struct ww_acquire_ctx *x, int r, bool injects);
 /* Whether the last -EDEADLK of the context was made up, at this mutex, and it has released all since. */

@@ -37,9 +37,12 @@ typedef struct ww_seat {
 	struct ww_seats *of;	/* the seats among which it is */
 	uint64_t keeper;	/* the number of the thread that keeps it, or NO_THREAD */
 	uint64_t user;		/* the number of the thread that last locked by it without a context */
+	struct ww_desk *desk;	/* its user's: see ww_shared.c; or NULL */
 	uint64_t waits __attribute__((aligned(64))), back_offs; /* of its users, in all */
 	struct ww_waker waker;	/* of its wait; below, how many waits there were */
 	uint32_t armed;
+	uint32_t awaits;	/* the number of the lock for which it waits, plus 1, or 0: a hint */
+	uint64_t lent;		/* one of tasks: until then whoever begins next gets it; then who waits longest */
 	uint8_t ages;		/* see SHARE_AGE of ww_pool.h; only its user accesses it */
 } __attribute__((aligned(64))) ww_seat;
 
@@ -50,14 +53,9 @@ struct ww_wait {
 	const uint32_t *asked;		/* not 0 once somebody asks for that; or NULL */
 	const struct timespec *until;	/* on the monotonic clock; or NULL */
 	bool stops;			/* they do */
+	uint64_t from, awake;		/* when it began, and until when it stays awake */
 	bool polls;			/* it blocks no thread, but leaves this waker; without one it doesn't wait */
 	const struct ww_waker *waker;
-};
-
-/* How a call yields to other threads: until when it may, whether it has begun to, and whether that time is over. */
-struct ww_stay {
-	struct timespec until;
-	bool yielded, over;
 };
 
 /* The values of a seat's token.  From ARMED on it sleeps: its waker is to be called, and the higher bits are the number of its wait. */
@@ -72,24 +70,28 @@ WW_HIDDEN void ww_heap_opened(void);
  * then `sleeps` says that it goes on from there, once it was woken.
  */
 WW_HIDDEN int ww_go_on(ww_seat *s, struct ww_wait *wait, bool sleeps);
-/* The same, but it returns WW_SLEEPS where it would have to sleep. Its caller then asks whom to wake. */
-WW_HIDDEN int ww_go_on_awake(ww_seat *s, struct ww_wait *wait, struct ww_stay *stay);
+/* A wait for a lock begins, and has ended. */
+WW_HIDDEN void ww_begin_wait(struct ww_wait *wait);
+WW_HIDDEN void ww_end_wait(ww_seat *s, const struct ww_wait *wait);
+/* Tries a lock again, awake, after a try in vain, and goes into its list once it is time for that; returns what the last step did. */
+WW_HIDDEN int ww_try_awake(ww_seat *s, uint32_t lock, const struct ww_wait *wait);
 /* The waker that the seat's user left isn't called: false if it was, or is about to be. */
 WW_HIDDEN bool ww_disarm(ww_seat *s);
+WW_HIDDEN void ww_pause(unsigned count);
+/*
+ * Pauses before a further try to go inside a guard, or to get what somebody has for a moment; zeros at first.  Nobody waits for
+ * this seat meanwhile: it has woken all that it had to.
+ */
+WW_HIDDEN void ww_await_guard(unsigned *looks, uint64_t *until);
 /* Wakes the seats that the proved library names. */
 WW_HIDDEN void ww_wake(ww_seat *s);
-/* This thread waits for a lock. */
-WW_HIDDEN void ww_waits_for_lock(void);
-/* A context of the class got -EDEADLK. */
-WW_HIDDEN void ww_backs_off(struct ww_pool *p);
-/* A thread goes to sleep in a call by a seat of the class; and it is woken, or wakes by itself. */
-WW_HIDDEN void ww_sleeps(struct ww_pool *p);
-WW_HIDDEN void ww_sleeps_no_more(struct ww_pool *p);
 /*
  * The seat's own cancel is pending from now on.  So it always is between two calls, while no call heeds it, until ww_heed_ lets a
  * wait heed it, which that ends.
  */
 WW_HIDDEN void ww_may_stop(ww_seat *s);
+/* Whether each wait of the class that something may end is to end. */
+WW_HIDDEN bool ww_ends_waits(const struct ww_pool *p);
 /* Leaves the seat a token; if it sleeps, its waker is called, which wakes a thread or a task. */
 WW_HIDDEN void ww_unpark(ww_seat *s);
 static inline void call_waker(struct ww_waker waker)
@@ -100,13 +102,17 @@ static inline void call_waker(struct ww_waker waker)
 /* Sleeps while the word is this, at most until a time of the monotonic clock, if that isn't NULL. */
 WW_HIDDEN void ww_futex_wait(uint32_t *word, uint32_t is, const struct timespec *until);
 WW_HIDDEN void ww_futex_wake(uint32_t *word);
-/* Whether this time of the monotonic clock has come. */
+/* The monotonic clock, in nanoseconds; and whether this time has come. */
+WW_HIDDEN uint64_t ww_now(void);
 WW_HIDDEN bool ww_has_come(const struct timespec *until);
 #ifdef WW_DEBUG
 /* Called before this thread sleeps until a time, or NULL: checks its wait, and returns until when it may sleep at most. */
 WW_HIDDEN const struct timespec *ww_debug_sleeps(const struct timespec *until);
+#define ww_says_if_long(p, until, next) ((void)(next), (until))
 #else
 static inline const struct timespec *ww_debug_sleeps(const struct timespec *until) { return until; }
+/* The same for a wait for a mutex of the class: if it has become long, that is said, once a class.  `next` is zeros at first. */
+WW_HIDDEN const struct timespec *ww_says_if_long(struct ww_pool *p, const struct timespec *until, struct timespec *next);
 #endif
 
 #endif

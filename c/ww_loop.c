@@ -57,7 +57,7 @@ static void become(struct ww_acquire_ctx *x, unsigned int not, unsigned int now)
 void ww_acquire_flags(struct ww_acquire_ctx *x, unsigned int flags)
 {
 	if (is_polled(x)) {
-		ww_debug_fault("ww_acquire_flags", WAITS_BY_POLL);
+		ww_debug_fault(NULL, "ww_acquire_flags", WAITS_BY_POLL);
 		return;
 	}
 	x->state = (x->state & ~(unsigned)FLAGS) | (flags & FLAGS);
@@ -121,13 +121,11 @@ void ww_acquire_unlock_all(struct ww_acquire_ctx *x)
 		if (UNLIKELY(x->state & (WAITS_FIRST | IS_PRELOCKED)))
 			become(x, WAITS_FIRST | IS_PRELOCKED, 0);
 	} else if (x->acquired) {
-		ww_debug_fault("ww_acquire_unlock_all", "outside ww_until_all_locked this call releases nothing");
+		ww_debug_fault(x->own->pool->class_, "ww_acquire_unlock_all", "outside ww_until_all_locked this call releases nothing");
 	}
 }
 
 /* ---- its locks ---- */
-
-static bool owes_it(const struct ww_acquire_ctx *x, const struct ww_mutex *m) { return x->state & IS_PRELOCKED && x->prelocked == m; }
 
 /*
  * Only here does a lock call succeed without a step by which the proved library took the lock, so that is asked whether the
@@ -155,17 +153,18 @@ int ww_looped(struct ww_mutex *m, struct ww_acquire_ctx *x, int r)
 	return r == -EALREADY && ww_has_for(x, m, x->state & WW_IGNORE_DUPLICATES) ? 0 : r;
 }
 
-/* Before anything else, waits for the mutex at which the context got -EDEADLK. */
-static int wait_first(struct ww_acquire_ctx *x, struct ww_wait how)
+/* Before anything else, waits for the mutex at which the context got -EDEADLK.  A desk isn't kept: the body never asks for it. */
+static int wait_first(struct ww_acquire_ctx *x, const struct ww_wait *how)
 {
 	struct ww_mutex *m = x->contending_lock;
-	int r;
+	bool is_desk = __atomic_load_n(&m->waiters, __ATOMIC_RELAXED) & IS_DESK;
+	int r = ww_lock_by(m, x, x->own, how);
 
-	how.slowly = !ww_debug_injected(m, x);
-	r = ww_lock_by(m, x, x->own, &how);
 	if (!ww_debug_told(m, x, r, false)) {
 		x->prelocked = m;
-		become(x, TRIES, IS_PRELOCKED);
+		become(x, TRIES, is_desk ? 0 : IS_PRELOCKED);
+		if (is_desk)
+			ww_mutex_unlock(m);
 	}
 	return r;
 }
@@ -176,7 +175,7 @@ int ww_lock_in_loop(struct ww_mutex *m, struct ww_acquire_ctx *x, const struct w
 
 	how.heeds |= !!(x->state & WW_INTERRUPTIBLE);
 	if (x->state & WAITS_FIRST) {
-		int r = wait_first(x, how);
+		int r = wait_first(x, &how);
 
 		if (r || ww_has_for(x, m, false))
 			return r;
@@ -301,7 +300,7 @@ int ww_mutex_lock_all(struct ww_acquire_ctx *x, struct ww_mutex *const *locks, s
 	int r;
 
 	if (UNLIKELY(!x || !x->own || is_loop(x))) {
-		ww_debug_fault("ww_mutex_lock_all", "the context has ended, or is in or behind ww_until_all_locked");
+		ww_debug_fault(NULL, "ww_mutex_lock_all", "the context has ended, or is in or behind ww_until_all_locked");
 		return -EINVAL;
 	}
 	if (UNLIKELY(x->state & (FLAGS | IS_POLLED)) || ww_debug_lists())

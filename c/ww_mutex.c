@@ -39,6 +39,7 @@ int ww_mutex_init_checked(struct ww_mutex *m, struct ww_class *c)
 	if (r)
 		return r;
 	*m = (struct ww_mutex){ .pool = p, .number = number };
+	DEBUG(ww_debug_made(m));
 	return 0;
 }
 
@@ -50,13 +51,7 @@ void ww_mutex_init(struct ww_mutex *m, struct ww_class *c)
 		end_of(c, "ww_mutex_init", told(r));
 }
 
-/*
- * Only the mutex's holder writes `ctx` and `alone`, `ctx` relaxed: the lock orders one holder's accesses before the next
- * one's, and for all others what they read is a hint.  `alone` leads others into the seat.
- */
-static inline struct ww_acquire_ctx *holder(const struct ww_mutex *m) { return __atomic_load_n(&m->ctx, __ATOMIC_RELAXED); }
-
-bool ww_mutex_is_locked(struct ww_mutex *m) { return holder(m) || seat_of(m); }
+bool ww_mutex_is_locked(struct ww_mutex *m) { return holder_of(m) || seat_of(m); }
 
 /*
  * Makes all steps of a call after the first one.  In a forked child, a call by a seat from before the fork would wait for
@@ -113,7 +108,7 @@ int ww_mutex_end_(struct ww_mutex *m)
 		return 0;
 	}
 	if (__atomic_load_n(&m->waiters, __ATOMIC_SEQ_CST) || ww_mutex_is_locked(m) || !ww_is_released(p, m)) {
-		ww_debug_fault("ww_mutex_destroy", "somebody holds the mutex, or waits for it");
+		ww_debug_fault(p->class_, "ww_mutex_destroy", "somebody holds the mutex, or waits for it");
 		return -EBUSY;
 	}
 	m->class_ = p->class_;
@@ -127,7 +122,7 @@ int ww_mutex_destroy(struct ww_mutex *m)
 	int r = pool_at(m) || m->class_ ? ww_mutex_end_(m) : -EINVAL;
 
 	if (r == -EINVAL)
-		ww_debug_fault("ww_mutex_destroy", "the mutex isn't initialized");
+		ww_debug_fault(NULL, "ww_mutex_destroy", "the mutex isn't initialized");
 	if (!r)
 		m->class_ = NULL;
 	return r;
@@ -137,9 +132,10 @@ int ww_mutex_destroy(struct ww_mutex *m)
 
 void ww_may_stop(ww_seat *s) { (void)ww_cancel_(&s->handle, (uint16_t)(s - s->pool->seats)); }
 
+/* A first step is a try, which can be made again; after -EDEADLK the slow one, which finds out whether it is due. */
 static inline int32_t first_turn(ww_seat *s, uint32_t number, bool slowly)
 {
-	return slowly ? ww_lock_slow_(&s->handle, number, false) : ww_lock_(&s->handle, number, false);
+	return slowly ? ww_lock_slow_(&s->handle, number, false) : ww_try_(&s->handle, number);
 }
 
 /* Makes this context the mutex's holder, or the seat, if there is no context. */
@@ -156,9 +152,10 @@ static inline void own(struct ww_mutex *m, struct ww_acquire_ctx *x, ww_seat *s)
 	}
 }
 
-static void begin_wait(struct ww_mutex *m, struct ww_acquire_ctx *x, ww_seat *s, const struct ww_wait *wait)
+static void begin_wait(struct ww_mutex *m, struct ww_acquire_ctx *x, ww_seat *s, struct ww_wait *wait)
 {
-	(void)wait; /* without debugging */
+	ww_begin_wait(wait);
+	__atomic_store_n(&s->awaits, m->number + 1, __ATOMIC_RELAXED);
 	count(&s->waits);
 	if (x)
 		has_met(s);
@@ -167,12 +164,15 @@ static void begin_wait(struct ww_mutex *m, struct ww_acquire_ctx *x, ww_seat *s,
 	__atomic_fetch_add(&m->waiters, 1, __ATOMIC_SEQ_CST);
 }
 
-static void end_wait(struct ww_mutex *m, struct ww_acquire_ctx *x, ww_seat *s, int r)
+static void end_wait(struct ww_mutex *m, struct ww_acquire_ctx *x, ww_seat *s, const struct ww_wait *wait, int r)
 {
-	(void)x, (void)s, (void)r; /* likewise */
+	(void)x, (void)r; /* without debugging */
+	__atomic_store_n(&s->awaits, 0, __ATOMIC_RELAXED);
 	DTRACE_PROBE3(ww, contention_end, m, x, r);
 	DEBUG(ww_debug_waits(s, NULL, NULL));
 	__atomic_fetch_sub(&m->waiters, 1, __ATOMIC_SEQ_CST);
+	if (!wait->polls)
+		ww_end_wait(s, wait);
 }
 
 /* What a lock call returns whose last step returned r. */
@@ -182,11 +182,10 @@ static int lock_ends(struct ww_mutex *m, struct ww_acquire_ctx *x, ww_seat *s, i
 		own(m, x, s);
 	if (r == -EDEADLK) {
 		count(&s->back_offs);
-		ww_backs_off(s->pool);
 		DTRACE_PROBE2(ww, back_off, m, x);
 		x->contending_lock = m;
 	}
-	if (r == -EINTR && !(x && __atomic_exchange_n(&x->cancelled, 0, __ATOMIC_SEQ_CST)))
+	if (r == -EINTR && !(x && __atomic_exchange_n(&x->cancelled, 0, __ATOMIC_SEQ_CST)) && !ww_ends_waits(s->pool))
 		r = -ETIMEDOUT;
 	return is_let_go(s, r) ? -EINVAL : r;
 }
@@ -194,26 +193,28 @@ static int lock_ends(struct ww_mutex *m, struct ww_acquire_ctx *x, ww_seat *s, i
 /* Once a poll's waker is left, another thread may use the context. */
 COLD int ww_lock_on(struct ww_mutex *m, struct ww_acquire_ctx *x, ww_seat *s, int r, const struct ww_wait *how)
 {
+	bool is_busy = r == -EBUSY, sleeps = r == -EINPROGRESS, waits = is_busy || sleeps || r > 0;
 	struct ww_wait wait = *how;
-	bool sleeps = r == -EINPROGRESS, waits = sleeps || r > 0;
 
 	if (x && how->heeds)
 		wait.asked = &x->cancelled;
-	if (r > 0)
-		begin_wait(m, x, s, how);
+	if (waits && !sleeps)
+		begin_wait(m, x, s, &wait);
+	if (is_busy)
+		r = ww_try_awake(s, m->number, &wait);
 	while (sleeps || r > 0) {
 		r = go_on(s, &wait, sleeps);
 		sleeps = false;
 		if (r == -EINTR)
 			ww_may_stop(s);
 		if (r == -EINTR && !wait.stops) /* its caller's first step heeded cancels, as those of earlier versions did */
-			r = first_turn(s, m->number, how->slowly);
+			r = ww_lock_(&s->handle, m->number, false);
 	}
 	if (r == -EINPROGRESS)
 		return r;
 	r = lock_ends(m, x, s, r);
 	if (waits)
-		end_wait(m, x, s, r);
+		end_wait(m, x, s, &wait, r);
 	return r;
 }
 
@@ -237,7 +238,7 @@ COLD static int fit(struct ww_mutex *m, const struct ww_acquire_ctx *x, const ch
 {
 	int r = pool_at(m) ? 0 : ww_number_at_first(m);
 
-	*why = r ? told_of(m, r) : !x || x->own ? "the context is of another class" : "the context has ended";
+	*why = r ? told_of(m, r) : !x || x->own ? "the mutex is of another class, or isn't initialized" : "the context has ended";
 	return r ? r : fits(m, x) ? 0 : -EINVAL;
 }
 
@@ -248,7 +249,7 @@ COLD static int fit_or_told(const char *call, struct ww_mutex *m, const struct w
 	int r = fit(m, x, &why);
 
 	if (r)
-		ww_debug_fault(call, why);
+		ww_debug_fault(r == -EINVAL ? NULL : ww_class_of(m), call, why);
 	return r;
 }
 
@@ -271,16 +272,14 @@ static void goes_by_hand(struct ww_acquire_ctx *x)
 
 int ww_may_lock(const char *call, struct ww_mutex *m, struct ww_acquire_ctx *x)
 {
-	int r = LIKELY(fits(m, x)) ? 0 : fit_or_told(call, m, x);
+	int r = ww_debug_refuses(call, m, x) ? -EINVAL : LIKELY(fits(m, x)) ? 0 : fit_or_told(call, m, x);
 
-	if (!r && ww_debug_refuses(x))
-		r = -EINVAL;
 	if (!r)
 		goes_by_hand(x);
 	return r;
 }
 
-static const struct ww_wait stays;
+static const struct ww_wait stays, heeds = { .heeds = true };
 
 static int lock(struct ww_mutex *m, struct ww_acquire_ctx *x, const struct ww_wait *how)
 {
@@ -292,11 +291,14 @@ static int lock(struct ww_mutex *m, struct ww_acquire_ctx *x, const struct ww_wa
 	return ww_debug_told(m, x, r, true);
 }
 
-int ww_mutex_lock_else_(struct ww_mutex *m, struct ww_acquire_ctx *x) { return lock(m, x, &stays); }
+int ww_mutex_lock_else_(struct ww_mutex *m, struct ww_acquire_ctx *x)
+{
+	return lock(m, x, x->state & WW_INTERRUPTIBLE ? &heeds : &stays);
+}
 
 int ww_mutex_lock_further_(struct ww_mutex *m, struct ww_acquire_ctx *x, int r)
 {
-	r = ww_lock_on(m, x, x->own, r, &stays);
+	r = ww_lock_on(m, x, x->own, r, x->state & WW_INTERRUPTIBLE ? &heeds : &stays);
 	return ww_debug_told(m, x, is_loop(x) ? ww_looped(m, x, r) : r, true);
 }
 
@@ -330,7 +332,7 @@ int ww_mutex_lock_slow_until(struct ww_mutex *m, struct ww_acquire_ctx *x, const
 		return -EINVAL;
 	r = lock_slowly(m, x, true, until);
 	if (r == -EINVAL)
-		ww_debug_fault("ww_mutex_lock_slow", not_due);
+		ww_debug_fault(NULL, "ww_mutex_lock_slow", not_due);
 	return r;
 }
 
@@ -369,7 +371,7 @@ COLD static int lock_by_any(struct ww_mutex *m, const struct ww_wait *how)
 		return lock_by_seat(m, s, how);
 	}
 	__atomic_fetch_add(&m->waiters, 1, __ATOMIC_SEQ_CST);
-	r = ww_seek_seat(m->pool, how->until, &s);
+	r = ww_seek_seat(m->pool, how->until, how->heeds, &s);
 	if (!r)
 		r = lock_by_seat(m, s, how);
 	__atomic_fetch_sub(&m->waiters, 1, __ATOMIC_SEQ_CST);
@@ -403,7 +405,7 @@ int ww_mutex_lock(struct ww_mutex *m, struct ww_acquire_ctx *x)
 
 int ww_mutex_lock_until(struct ww_mutex *m, struct ww_acquire_ctx *x, const struct timespec *until)
 {
-	const struct ww_wait how = { .heeds = true, .until = until };
+	const struct ww_wait how = { .heeds = x || until, .until = until };
 
 	if (UNLIKELY(!is_time(until)))
 		return -EINVAL;
@@ -432,19 +434,17 @@ static int try_alone(struct ww_mutex *m)
 }
 
 /* A context that got -EDEADLK may try, once it holds nothing; then it doesn't first wait for the contended mutex. */
-static int try_by(struct ww_mutex *m, struct ww_acquire_ctx *x)
+int ww_try_by(struct ww_mutex *m, struct ww_acquire_ctx *x)
 {
 	int r;
 
 	goes_by_hand(x);
 	r = ww_try_(&x->own->handle, m->number);
 	if (r)
-		return r == -EALREADY && ww_has_for(x, m, false);
+		return r == -EALREADY && ww_has_for(x, m, false) ? 0 : r;
 	own(m, x, NULL);
 	(void)ww_debug_told(m, x, 0, false);
-	if (is_loop(x))
-		ww_looped(m, x, 0);
-	return 1;
+	return is_loop(x) ? ww_looped(m, x, 0) : 0;
 }
 
 int ww_mutex_trylock_else_(struct ww_mutex *m, struct ww_acquire_ctx *x)
@@ -453,7 +453,7 @@ int ww_mutex_trylock_else_(struct ww_mutex *m, struct ww_acquire_ctx *x)
 
 	if (UNLIKELY(!fits(m, x)) && fit(m, x, &why))
 		end_of(ww_class_of(m), "ww_mutex_trylock", why);
-	return x ? try_by(m, x) : try_alone(m);
+	return x ? !ww_try_by(m, x) : try_alone(m);
 }
 
 int ww_mutex_trylock(struct ww_mutex *m, struct ww_acquire_ctx *x) { return ww_mutex_trylock_else_(m, x); }
@@ -462,7 +462,7 @@ int ww_mutex_trylock_checked(struct ww_mutex *m, struct ww_acquire_ctx *x)
 {
 	int r = fit_or_told("ww_mutex_trylock", m, x);
 
-	return r ? r : x ? try_by(m, x) : try_alone(m);
+	return r ? r : x ? !ww_try_by(m, x) : try_alone(m);
 }
 
 /* ---- unlocks ---- */
@@ -509,7 +509,7 @@ static inline int unlock_alone(struct ww_mutex *m)
 
 int ww_mutex_unlock_checked(struct ww_mutex *m)
 {
-	struct ww_acquire_ctx *x = holder(m);
+	struct ww_acquire_ctx *x = holder_of(m);
 
 	if (!x)
 		return unlock_alone(m);
@@ -523,14 +523,18 @@ int ww_mutex_unlock_checked(struct ww_mutex *m)
 	return unlock_by(m, x);
 }
 
-COLD static void end_unheld(int r) { end("ww_mutex_unlock", r == -EBUSY ? WAITS_BY_POLL : "nobody holds the mutex"); }
+COLD static void end_unheld(const struct ww_mutex *m, int r)
+{
+	(void)ww_debug_unheld(m);
+	end("ww_mutex_unlock", r == -EBUSY ? "the context that holds the mutex is in another call" : "nobody holds the mutex");
+}
 
 void ww_mutex_unlock(struct ww_mutex *m)
 {
 	int r = ww_mutex_unlock_checked(m);
 
 	if (UNLIKELY(r))
-		end_unheld(r);
+		end_unheld(m, r);
 }
 
 void ww_mutex_unlock_else_(struct ww_mutex *m)
@@ -538,7 +542,7 @@ void ww_mutex_unlock_else_(struct ww_mutex *m)
 	int r = unlock_alone(m);
 
 	if (UNLIKELY(r))
-		end_unheld(r);
+		end_unheld(m, r);
 }
 
 /* In a loop the first step did nothing, so the mutex is still held. */
@@ -551,7 +555,7 @@ void ww_mutex_unlock_further_(struct ww_mutex *m, struct ww_acquire_ctx *x, int 
 		r = ww_release_on(x->own, r);
 	}
 	if (UNLIKELY(r))
-		end_unheld(r);
+		end_unheld(m, r);
 }
 
 bool ww_is_contended(const struct ww_acquire_ctx *x) { return x->state & HAS_TO_BACK_OFF; }

@@ -1,13 +1,16 @@
-// ww_mutex.hpp - the mutexes and contexts of ww_mutex.h for C++17, which release themselves. Nothing here throws, or needs
-// exceptions. clang's -Wthread-safety knows what each call acquires.
+// ww_mutex.hpp - the mutexes and contexts of ww_mutex.h and ww_shared.h for C++17, which release themselves. Nothing here throws,
+// or needs exceptions. clang's -Wthread-safety knows what each call acquires.
 #ifndef WW_MUTEX_HPP
 #define WW_MUTEX_HPP
 #if __cplusplus < 201703L
 #error "ww_mutex.hpp needs C++17: compile with -std=c++17 or a later one"
 #endif
-#include "ww_mutex.h"
+#include "ww_shared.h"
+#include <algorithm>
 #include <cassert>
+#include <chrono>
 #include <cstdint>
+#include <initializer_list>
 #include <optional>
 #include <type_traits>
 #include <utility>
@@ -46,6 +49,7 @@ namespace ww {
 class mutex_class {
 	struct ww_class it_;
 	friend class mutex;
+	friend class shared_mutex;
 
 public:
 	enum kind { wound_wait, wait_die };
@@ -58,28 +62,79 @@ public:
 	mutex_class(const mutex_class &) = delete;
 	mutex_class &operator=(const mutex_class &) = delete;
 	// Limits how many there are at a time, as ww_class_limit does. -EINVAL: too many; -EBUSY: it is open.
-	[[nodiscard]] int limit(std::uint32_t mutexes, std::uint32_t contexts) noexcept
+	[[nodiscard]] int limit(std::uint32_t mutexes, std::uint32_t contexts WW_AND_FROM_) noexcept
 	{
 		return ww_class_limit(&it_, mutexes, contexts);
 	}
 	// How many threads begin contexts in a crowd, as by ww_class_crowd; it returns what limit does.
-	[[nodiscard]] int crowd(std::uint32_t permits) noexcept { return ww_class_crowd(&it_, permits); }
+	[[nodiscard]] int crowd(std::uint32_t permits WW_AND_FROM_) noexcept { return ww_class_crowd(&it_, permits); }
 	// Allocates all memory now. -ENOMEM.
 	[[nodiscard]] int open() noexcept { return ww_class_open(&it_); }
+	// What ww_class_stats tells.
+	struct ww_class_counts stats() noexcept
+	{
+		struct ww_class_counts counts;
+
+		ww_class_stats(&it_, &counts);
+		return counts;
+	}
+	// As ww_class_cancel: from now on all waits with a limit end with -EINTR. By a std::stop_token:
+	//	std::stop_callback ends(token, [&] { c.cancel(); });
+	int cancel() noexcept { return ww_class_cancel(&it_); }
 	operator struct ww_class &() noexcept { return it_; }
 };
 
+// What may end a context's wait for each mutex, and for its begin: a time from its begin on (20ms), or of the steady clock; or,
+// with WW_INTERRUPTIBLE, cancel() of the context or of its class, which ends a wait with a time limit, too. It also has the flags
+// of ww_acquire_flags. Each of these converts to it.
+class limits {
+	unsigned flags_;
+	std::optional<timespec> until_;
+
+	static timespec at(std::chrono::steady_clock::time_point time) noexcept
+	{
+		using namespace std::chrono;
+		const auto since = std::max(time.time_since_epoch(), steady_clock::duration::zero());
+		const auto whole = duration_cast<seconds>(since);
+
+		return { static_cast<time_t>(whole.count()), static_cast<long>(nanoseconds(since - whole).count()) };
+	}
+
+public:
+	limits(unsigned flags = 0) noexcept : flags_(flags) {}
+	template <class Rep, class Period> limits(std::chrono::duration<Rep, Period> timeout, unsigned flags = 0) : flags_(flags)
+	{
+		using namespace std::chrono;
+		constexpr auto century = hours(876600);
+
+		until_ = at(steady_clock::now() + (timeout < century ? duration_cast<steady_clock::duration>(timeout) : century));
+	}
+	template <class Duration> limits(std::chrono::time_point<std::chrono::steady_clock, Duration> deadline, unsigned flags = 0)
+		: flags_(flags), until_(at(std::chrono::time_point_cast<std::chrono::steady_clock::duration>(deadline)))
+	{
+	}
+	unsigned flags() const noexcept { return flags_; }
+	const timespec *until() const noexcept { return until_ ? &*until_ : nullptr; }
+};
+
+struct numbered_t {
+};
+inline constexpr numbered_t numbered{};
+
 // A member of the object that it protects. It doesn't move, and nobody holds it or waits for it when it is destroyed, which
-// the debug library checks. Its own calls are those without a context, so std::lock_guard and std::unique_lock work with it.
-// It gets its number at its first lock, so a static one exists before anything runs; and threads that go on during the end of
-// the program may lock it after its destructor, though not during that. Its class outlives it: the end of a class doesn't
-// report a mutex that was never locked.
+// the debug library checks. Its own calls are those without a context, so std::lock_guard and std::unique_lock work with it,
+// also with a time; ww::guard, unlike these, has the caller's line in reports. It gets its number at its first lock, so a static
+// one exists before anything runs; and threads that go on during the end of the program may lock it after its destructor, though
+// not during that. Its class outlives it: the end of a class doesn't report a mutex that was never locked.
 class WW_SAFETY_(capability("mutex")) mutex {
 	struct ww_mutex it_;
 
 public:
 	constexpr explicit mutex(struct ww_class &c) noexcept : it_ WW_MUTEX_INIT(&c) {}
 	constexpr explicit mutex(mutex_class &c) noexcept : mutex(c.it_) {}
+	// It takes its number now. So where the class has too few, the program ends here with a message, and no lock of it returns
+	// -ENOSPC later: for objects that are made at run time.
+	mutex(mutex_class &c, numbered_t WW_AND_FROM_) noexcept { ww_mutex_init(&it_, &c.it_); }
 	~mutex()
 	{
 		WW_NOWHERE_;
@@ -92,11 +147,42 @@ public:
 	{
 		return ww_mutex_trylock(&it_, nullptr);
 	}
+	template <class Rep, class Period>
+	[[nodiscard]] bool try_lock_for(std::chrono::duration<Rep, Period> timeout WW_AND_FROM_) noexcept
+		WW_SAFETY_(try_acquire_capability(true))
+	{
+		return !ww_mutex_lock_until(&it_, nullptr, limits(timeout).until());
+	}
+	template <class Duration>
+	[[nodiscard]] bool try_lock_until(std::chrono::time_point<std::chrono::steady_clock, Duration> deadline WW_AND_FROM_) noexcept
+		WW_SAFETY_(try_acquire_capability(true))
+	{
+		return !ww_mutex_lock_until(&it_, nullptr, limits(deadline).until());
+	}
 	void unlock(WW_FROM_) noexcept WW_SAFETY_(release_capability()) { ww_mutex_unlock(&it_); }
 	bool is_locked() noexcept { return ww_mutex_is_locked(&it_); }
 	// Tells clang's analysis that it is held here.
 	void assert_held() noexcept WW_SAFETY_(assert_capability()) { assert(is_locked()); }
 	struct ww_mutex *get() noexcept { return &it_; }
+};
+
+// As a mutex, but contexts may read what it protects beside each other (context::lock_shared), or one of them writes it. Only
+// contexts lock it. A context may still read it in another thread when it is destroyed: the debug library reports that.
+class WW_SAFETY_(capability("mutex")) shared_mutex {
+	struct ww_shared_mutex it_;
+
+public:
+	constexpr explicit shared_mutex(struct ww_class &c) noexcept : it_ WW_SHARED_MUTEX_INIT(&c) {}
+	constexpr explicit shared_mutex(mutex_class &c) noexcept : shared_mutex(c.it_) {}
+	shared_mutex(mutex_class &c, numbered_t WW_AND_FROM_) noexcept { ww_shared_mutex_init(&it_, &c.it_); }
+	~shared_mutex()
+	{
+		WW_NOWHERE_;
+		ww_shared_mutex_end_(&it_);
+	}
+	shared_mutex(const shared_mutex &) = delete;
+	shared_mutex &operator=(const shared_mutex &) = delete;
+	struct ww_shared_mutex *get() noexcept { return &it_; }
 };
 
 // Holds a mutex without a context until the end of its scope. std::lock_guard does the same, but clang doesn't see what that
@@ -134,9 +220,12 @@ public:
 	int error() const noexcept { return error_; }
 };
 
-// A context. Its destructor releases everything that it still holds, and ends it.
+// A context. Its destructor releases everything that it still holds, and ends it. If it doesn't begin in time, or is cancelled
+// before, all its lock calls return that: see error().
 class context {
 	ww_acquire_ctx it_;
+	const limits limits_;
+	int error_ = 0;
 
 	struct releases {
 		context *x;
@@ -153,8 +242,8 @@ class context {
 	{
 		int r = 0;
 
-		if (it_.acquired)
-			return -EINVAL;
+		if (error_ || it_.acquired)
+			return error_ ? error_ : -EINVAL;
 		releases unless_all{ this };
 
 		ww_tries_begin_(&it_);
@@ -165,6 +254,32 @@ class context {
 		if (!r)
 			unless_all.x = nullptr;
 		return r;
+	}
+
+	int ask(mutex &m WW_AND_FROM_) noexcept
+	{
+		if (error_)
+			return error_;
+		if (limits_.until())
+			return ww_mutex_lock_until(m.get(), &it_, limits_.until());
+		return ww_mutex_lock(m.get(), &it_);
+	}
+
+	int read(shared_mutex &m WW_AND_FROM_) noexcept
+	{
+		if (error_)
+			return error_;
+		if (limits_.until())
+			return ww_shared_mutex_lock_shared_until(m.get(), &it_, limits_.until());
+		return ww_shared_mutex_lock_shared(m.get(), &it_);
+	}
+	int write(shared_mutex &m WW_AND_FROM_) noexcept
+	{
+		if (error_)
+			return error_;
+		if (limits_.until())
+			return ww_shared_mutex_lock_until(m.get(), &it_, limits_.until());
+		return ww_shared_mutex_lock(m.get(), &it_);
 	}
 
 	// Calls fn under what was acquired, if that returned 0, and releases everything.
@@ -184,26 +299,36 @@ class context {
 	}
 
 public:
-	// If all contexts of the class are in use it waits for one, as ww_acquire_init does.
-	explicit context(struct ww_class &c, unsigned flags = 0 WW_AND_FROM_) noexcept
+	// If all contexts of the class are in use it waits for one, as ww_acquire_init does, or ww_acquire_init_until with limits.
+	explicit context(struct ww_class &c, limits how = {} WW_AND_FROM_) noexcept : limits_(how)
 	{
-		ww_acquire_init(&it_, &c);
-		ww_acquire_flags(&it_, flags);
+		if (how.until() || how.flags() & WW_INTERRUPTIBLE)
+			error_ = ww_acquire_init_until(&it_, &c, how.until());
+		else
+			ww_acquire_init(&it_, &c);
+		if (error_)
+			return;
+		ww_acquire_flags(&it_, how.flags());
 		ww_tries_begin_(&it_);
 	}
 	~context()
 	{
 		WW_NOWHERE_;
+		if (error_)
+			return;
 		unlock_all();
 		ww_acquire_fini(&it_);
 	}
+	// 0, or why it didn't begin, as it may only with limits: -ETIMEDOUT, -EINTR, -ENOMEM, or -EINVAL in a forked child.
+	[[nodiscard]] int error() const noexcept { return error_; }
 	context(const context &) = delete;
 	context &operator=(const context &) = delete;
 
-	// 0, or -EDEADLK, -EALREADY, -EINVAL, -ENOSPC, -ENOMEM, as ww_mutex_lock; after -EDEADLK call back_off().
+	// 0, or -EDEADLK, -EALREADY, -EINVAL, -ENOSPC, -ENOMEM, as ww_mutex_lock; after -EDEADLK call back_off(). With limits also
+	// -ETIMEDOUT and -EINTR.
 	[[nodiscard]] int lock(mutex &m WW_AND_FROM_) noexcept WW_SAFETY_(try_acquire_capability(false, m))
 	{
-		return ww_mutex_lock(m.get(), &it_);
+		return ask(m WW_AND_THERE_);
 	}
 	// Also -EINTR, if another thread called cancel().
 	[[nodiscard]] int lock_interruptible(mutex &m WW_AND_FROM_) noexcept WW_SAFETY_(try_acquire_capability(false, m))
@@ -224,6 +349,28 @@ public:
 	{
 		ww_mutex_unlock(m.get());
 	}
+	// The same of shared mutexes, as by ww_shared_mutex_lock_shared. All reads end with the context, or by unlock_all(). clang's
+	// analysis knows of no upgrade: it is given by assert_reads and assert_writes what is held.
+	[[nodiscard]] int lock_shared(shared_mutex &m WW_AND_FROM_) noexcept { return read(m WW_AND_THERE_); }
+	[[nodiscard]] bool try_lock_shared(shared_mutex &m WW_AND_FROM_) noexcept
+	{
+		return !error_ && ww_shared_mutex_trylock_shared(m.get(), &it_);
+	}
+	// Also of one that it reads: then nobody writes it in between.
+	[[nodiscard]] int lock(shared_mutex &m WW_AND_FROM_) noexcept { return write(m WW_AND_THERE_); }
+	[[nodiscard]] bool try_lock(shared_mutex &m WW_AND_FROM_) noexcept { return !error_ && ww_shared_mutex_trylock(m.get(), &it_); }
+	// What it writes it reads from now on, beside others.
+	void downgrade(shared_mutex &m WW_AND_FROM_) noexcept { ww_shared_mutex_downgrade(m.get(), &it_); }
+	void assert_reads(shared_mutex &m) const noexcept WW_SAFETY_(assert_shared_capability(m))
+	{
+		assert(ww_shared_mutex_is_read_by(m.get(), &it_));
+		(void)m;
+	}
+	void assert_writes(shared_mutex &m) const noexcept WW_SAFETY_(assert_capability(m))
+	{
+		assert(ww_shared_mutex_is_written_by(m.get(), &it_));
+		(void)m;
+	}
 	void unlock_all(WW_FROM_) noexcept { ww_acquire_unlock_all(&it_); }
 	// After -EDEADLK: releases everything. The next lock call first waits for the contended mutex.
 	void back_off() noexcept { ww_back_off_(&it_); }
@@ -238,11 +385,20 @@ public:
 	{
 		return acquire([&] {
 			for (mutex *m : list)
-				if (int r = ww_mutex_lock(m->get(), &it_))
+				if (int r = ask(*m WW_AND_THERE_))
 					return r;
 			return 0;
 		});
 	}
+
+	[[nodiscard]] int lock_all(std::initializer_list<mutex *> list WW_AND_FROM_)
+	{
+		return lock_all<std::initializer_list<mutex *>>(list WW_AND_THERE_);
+	}
+
+	// The same by a callable, which acquires what it likes by calls of this context, and returns the first error of these, or 0. It
+	// runs again after each -EDEADLK, with nothing held.
+	template <class Locks> [[nodiscard]] int lock_by(Locks &&locks) { return acquire(std::forward<Locks>(locks)); }
 
 	// The same for mutexes that are found while others are held: next(restart) returns the next mutex, or nullptr at the end.
 	// It may read what is protected by mutexes that it returned since restart was last true, and return one of these again.
@@ -251,7 +407,7 @@ public:
 	{
 		return acquire([&] {
 			for (mutex *m = next(true); m; m = next(false)) {
-				const int r = ww_mutex_lock(m->get(), &it_);
+				const int r = ask(*m WW_AND_THERE_);
 
 				if (r && r != -EALREADY)
 					return r;
@@ -266,20 +422,32 @@ public:
 	{
 		return under(lock_all(list WW_AND_THERE_), std::forward<Fn>(fn));
 	}
+	template <class Fn> auto with_all(std::initializer_list<mutex *> list, Fn &&fn WW_AND_FROM_)
+	{
+		return under(lock_all(list WW_AND_THERE_), std::forward<Fn>(fn));
+	}
 	template <class Next, class Fn> auto with_walk(Next &&next, Fn &&fn WW_AND_FROM_)
 	{
 		return under(lock_walk(std::forward<Next>(next) WW_AND_THERE_), std::forward<Fn>(fn));
 	}
+	template <class Locks, class Fn> auto with(Locks &&locks, Fn &&fn)
+	{
+		return under(lock_by(std::forward<Locks>(locks)), std::forward<Fn>(fn));
+	}
 };
 
-// With a context of its own.
-template <class List, class Fn> auto lock_all(struct ww_class &c, const List &list, Fn &&fn, unsigned flags = 0 WW_AND_FROM_)
+// With a context of its own: ww::lock_all(c, {&a, &b}, fn), with limits ww::lock_all(c, list, fn, 20ms).
+template <class List, class Fn> auto lock_all(struct ww_class &c, const List &list, Fn &&fn, limits how = {} WW_AND_FROM_)
 {
-	return context(c, flags WW_AND_THERE_).with_all(list, std::forward<Fn>(fn) WW_AND_THERE_);
+	return context(c, how WW_AND_THERE_).with_all(list, std::forward<Fn>(fn) WW_AND_THERE_);
 }
-template <class Next, class Fn> auto lock_walk(struct ww_class &c, Next &&next, Fn &&fn, unsigned flags = 0 WW_AND_FROM_)
+template <class Fn> auto lock_all(struct ww_class &c, std::initializer_list<mutex *> list, Fn &&fn, limits how = {} WW_AND_FROM_)
 {
-	return context(c, flags WW_AND_THERE_).with_walk(std::forward<Next>(next), std::forward<Fn>(fn) WW_AND_THERE_);
+	return context(c, how WW_AND_THERE_).with_all(list, std::forward<Fn>(fn) WW_AND_THERE_);
+}
+template <class Next, class Fn> auto lock_walk(struct ww_class &c, Next &&next, Fn &&fn, limits how = {} WW_AND_FROM_)
+{
+	return context(c, how WW_AND_THERE_).with_walk(std::forward<Next>(next), std::forward<Fn>(fn) WW_AND_THERE_);
 }
 
 // As it was called before version 4.

@@ -63,6 +63,7 @@ int ww_number_take(uint32_t *number, struct ww_class *c)
 		__atomic_store_n(&m->pool, p, __ATOMIC_RELEASE);
 	}
 	__atomic_fetch_add(&m->waiters, IS_TAKEN, __ATOMIC_RELAXED);
+	DEBUG(ww_debug_made(m));
 	return 0;
 }
 
@@ -84,7 +85,7 @@ int ww_number_put(uint32_t number, struct ww_class *c)
 	}
 	if (taken & IS_TAKEN)
 		return -EBUSY;
-	ww_debug_fault("ww_number_put", "nobody has taken the number, or it was put back before");
+	ww_debug_fault(c, "ww_number_put", "nobody has taken the number, or it was put back before");
 	return -EINVAL;
 }
 
@@ -105,7 +106,7 @@ struct ww_mutex *ww_number_asked(const char *call, uint32_t number, const struct
 	if (!m && r > 0)
 		end(call, no_such);
 	if (!m)
-		ww_debug_fault(call, x->own ? no_such : "the context has ended");
+		ww_debug_fault(NULL, call, x->own ? no_such : "the context has ended");
 	return m;
 }
 
@@ -161,7 +162,7 @@ int ww_number_unlock(uint32_t number, struct ww_acquire_ctx *x)
 		return -EBUSY;
 	r = ww_has_(&x->own->handle, number);
 	if (r && !is_let_go(x->own, r)) {
-		ww_debug_fault("ww_number_unlock", "the context doesn't hold the mutex");
+		ww_debug_fault(x->own->pool->class_, "ww_number_unlock", "the context doesn't hold the mutex");
 		return -EINVAL;
 	}
 	__atomic_store_n(&m->ctx, x, __ATOMIC_RELAXED);
@@ -200,7 +201,7 @@ int ww_number_lock_alone(uint32_t number, struct ww_class *c, const struct times
 	int r = mutex_in(c, number, &m);
 
 	if (r == -EINVAL)
-		ww_debug_fault("ww_number_lock_alone", no_such);
+		ww_debug_fault(c, "ww_number_lock_alone", no_such);
 	if (!r)
 		r = ww_mutex_lock_until(m, NULL, until);
 	if (!r)

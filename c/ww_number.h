@@ -77,7 +77,7 @@ int ww_number_unlock_further_(uint32_t number, struct ww_acquire_ctx *ctx, int r
 
 WW_INLINE_ int ww_number_lock(uint32_t number, struct ww_acquire_ctx *ctx)
 {
-	int r = __builtin_expect(!ctx->own, 0) ? -EINVAL : ww_first_of_lock_(ctx->gives, number, false);
+	int r = __builtin_expect(!ctx->own, 0) ? -EINVAL : ww_only_of_try_(ctx->gives, number);
 
 	if (__builtin_expect(r != 0, 0))
 		return ww_number_lock_further_(number, ctx, r);

@@ -38,7 +38,7 @@ static int first_poll(struct ww_mutex *m, struct ww_acquire_ctx *x, const struct
 	if (r)
 		return r;
 	DEBUG(ww_debug_is_polled(x->own));
-	return poll_on(m, x, waker, ww_lock_(&x->own->handle, m->number, true));
+	return poll_on(m, x, waker, ww_lock_(&x->own->handle, m->number, false));
 }
 
 int ww_mutex_lock_poll(struct ww_mutex *m, struct ww_acquire_ctx *x, const struct ww_waker *waker)
@@ -101,7 +101,7 @@ static int seek_on(struct ww_seek *me, const struct ww_waker *waker, ww_seat **s
 	if (served)
 		*s = me->seat_;
 	*me = (struct ww_seek){ 0 };
-	return served ? 0 : -ETIMEDOUT;
+	return !served ? -ETIMEDOUT : *s ? 0 : -EINTR;
 }
 
 static int seek(struct ww_class *c, struct ww_seek *me, const struct ww_waker *waker, ww_seat **s)
@@ -118,12 +118,12 @@ static int seek(struct ww_class *c, struct ww_seek *me, const struct ww_waker *w
 		return -EINVAL;
 	if (!waker)
 		return -ETIMEDOUT;
-	*me = (struct ww_seek){ .of_ = of_tasks(p), .waker_ = *waker };
+	*me = (struct ww_seek){ .of_ = of_tasks(p), .waker_ = *waker, .heeds_ = true };
 	if (!ww_queue_up(me))
 		return -EINPROGRESS;
 	*s = me->seat_;
 	*me = (struct ww_seek){ 0 };
-	return 0;
+	return *s ? 0 : -EINTR;
 }
 
 static int begin_by(struct ww_acquire_ctx *x, ww_seat *s, int r)

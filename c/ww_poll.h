@@ -7,7 +7,7 @@
  *
  * What a waker may do, and when it is called:
  *
- *	by whom		any thread, in a call that locks or releases a mutex, begins or ends a context or a wait, or cancels
+ *	by whom		any thread, in a call that locks or releases a mutex, begins or ends a context or a wait, or cancels; a poll too
  *	when		as soon as the poll begins, also before it has returned; so a caller that got -EINPROGRESS accesses neither
  *			the context nor the task any more, unless it knows that no other thread goes on with it
  *	how often	at most once for each -EINPROGRESS; maybe late, behind a poll that returned something else: only a
@@ -41,15 +41,15 @@ struct ww_seek {
 	struct ww_seats *of_;
 	struct ww_seat *seat_;
 	struct ww_waker waker_;
-	uint32_t served_;
+	uint32_t served_, heeds_;
 };
 
 /*
- * Begins a context, as ww_acquire_init_checked, but waits for one.  Tasks have contexts of their own, two for each processor
- * but at most 64, besides those of threads.  When one ends, the task that has waited longest is called, but others may begin
- * first: if the called one finds none free then, the next one that ends is its own, and nobody begins meanwhile.  If
- * ww_class_limit set how many contexts the class has, tasks and threads share these, and wait in one queue, in which nobody is
- * passed.  Without a waker (NULL) it ends the wait, or doesn't wait, and then seek may be NULL: it returns 0 if a context was
+ * Begins a context, as ww_acquire_init_checked, but waits for one.  Tasks may have as many at a time as end the most in a second,
+ * which is measured while one waits: two for each processor at first, and at most 896 of the 1,280 of the class.  One that ends
+ * goes to whoever begins next, but each 0.2 to 1 ms to the task that has waited longest; that may be called
+ * before, and then its polls look for one, of which those in vain call their own waker some times.  If ww_class_limit set how many
+ * contexts the class has, tasks and threads share these, and wait in one queue, in which nobody is passed.  Without a waker (NULL) it ends the wait, or doesn't wait, and then seek may be NULL: it returns 0 if a context was
  * begun, else -ETIMEDOUT.
  */
 WW_MUST_CHECK int ww_acquire_init_poll(struct ww_acquire_ctx *ctx, struct ww_class *ww_class, struct ww_seek *seek,

@@ -6,50 +6,50 @@
  * does so without a read-modify-write.  These are two bits of its `busy`, and what comes next:
  *
  *	busy		whose		what comes next, and by what
- *	0		nobody's	BUSY: any thread uses it, by an exchange that finds it so
- *	BUSY		its user's	0: the user is through, by an exchange; then it looks whether somebody waits for a seat
- *					BUSY, IS_KEPT: the user comes to keep it, by a store, under the lock `opening`
- *	IS_KEPT		its keeper's	BUSY, IS_KEPT: the keeper uses it, by a store
- *					0: the keeper stops keeping it (let_go), by a store, after it used it
- *	BUSY, IS_KEPT	its user's	IS_KEPT: the user is through, by a store if it is the keeper, and else by an exchange
- *					BUSY: the keeper stops keeping it, by an exchange
+ *	0		nobody's	BUSY: any thread uses it, by an exchange that finds it so (claims)
+ *	BUSY		its user's	0: the user is through, by an exchange (gives); then it looks whether somebody waits for a seat
+ *					BUSY, IS_KEPT: the user comes to keep it, by a store, under the lock `opening` (comes_to_keep)
+ *	IS_KEPT		its keeper's	BUSY, IS_KEPT: the keeper uses it, by a store (uses_own)
+ *					0: the keeper stops keeping it, as its user returned it meanwhile, by a store (leaves_returned)
+ *	BUSY, IS_KEPT	its user's	IS_KEPT: the user is through, by a store if it is the keeper (returns_own), else by an exchange (returns)
+ *					BUSY: the keeper stops keeping it (let_go), by an exchange (leaves_used)
+ *					0: the keeper does so, and used it itself, by a store (leaves_own)
  *
  * So two threads never use one seat.  One that is kept: only its keeper sets BUSY, and only its user clears it, so nothing
  * changes between the keeper's load that finds IS_KEPT alone and its store.  One that isn't: of the exchanges that find it free
  * one is the first; it may be made for another thread, which is taken out of the queue for it (serve).  No seat is lost: where
  * two threads may clear a bit each, both do so by exchanges, so whoever clears the second one knows it, and looks who waits.
  *
- * Whoever finds no seat free waits in a queue.  Threads get seats in turn: while somebody waits nobody else begins, and a seat
- * that is given is handed to whoever has waited longest.  Tasks have seats of their own, unless the class says how many contexts
- * it has, and handing each of these on would make each context a change of tasks.  So others may begin by it first.  A task that
- * waits is one of these:
+ * Whoever finds no seat free waits in a queue.  Threads get seats in turn: while one waits nobody else begins, and a seat that is
+ * given is handed to the one that has waited longest.  Tasks have a part of the seats (IS_SHARED), of which as many may be claimed
+ * as ww_gate.c finds; unless the class says how many contexts it has: then they are in the one queue with threads.  Handing each
+ * of these on would make each context a change of tasks.  So while tasks wait, for how long a seat is lent decides what comes next:
+ *
+ *	busy			what comes next, if its user is through
+ *	BUSY, IS_SHARED		BUSY, IS_SHARED: handed to the first in the queue, if it isn't lent any more; then it is lent anew (hands_on)
+ *				IS_SHARED: else (gives); anybody uses it, and the first in the queue is called, unless it was (calls)
+ *
+ * A task that waits is one of these, and who isn't the first in the queue WAITS:
  *
  *	WAITS	and its waker is there
- *	CALLED	a seat was given, and its waker called for that; it hasn't looked since.  If it finds none free, it WAITS again, or is
- *	DUE	if it is the first in the queue: then the next seat that is given is handed to it, and nobody begins meanwhile
- *	SERVED	it has a seat, and isn't in the queue any more; as a thread is, behind WAITS
+ *	CALLED	its waker was called; it looks for a seat.  If it finds none among a few, it looks again, by its own waker.  Having looked
+ *		often it WAITS again, but then it first says that nobody is called, and looks at all of them
+ *	SERVED	it has a seat, and isn't in the queue any more; as a thread is, behind WAITS.  If it was CALLED, the next one is
  *
- * IS_CALLED in the `busy` of a seat of tasks says that somebody is CALLED for it; it changes under the lock `queue` alone:
+ * So wherever nobody is amid a call, none of the seats that may be claimed is free while somebody waits, unless the first was
+ * called: who drops a call has looked at all, and who leaves passes it on.  tests/seats.py tries all that tasks may do by these tables,
+ * and the search of schedules asks that of the sources.
  *
- *	busy			what comes next
- *	0			BUSY: anybody uses it
- *	BUSY			0: given; then it is offered: handed to the first if that is DUE, else the first that WAITS is CALLED for it
- *	IS_CALLED		BUSY, IS_CALLED: anybody uses it
- *				BUSY: whoever was called looks, and uses it
- *				0: whoever was called leaves; then it is offered
- *	BUSY, IS_CALLED		IS_CALLED: given; then it is offered only if somebody is DUE
- *				BUSY: whoever was called looks, and uses any other seat that is free, or waits on; or it leaves
- *
- * So wherever nobody is amid a call, no seat is free while somebody is DUE, and none for which nobody is CALLED while somebody
- * WAITS.  tests/seats.py tries all that tasks may do by these tables, and the search of schedules asks that of the sources.
+ * crates/ww_seating proves that two never use one seat, and that none is lost, of such steps in any order, by the names in
+ * brackets; in the search each access of a `busy` has to be one of them (tests/interleave/seats.c).
  *
  * The next user sees what a user wrote in the seat.  Kept: the store or exchange for IS_KEPT releases; the keeper's load
  * (use_kept), and the load by the thread that frees the class, acquire.  Else all is sequentially consistent, so one of these
  * two sees the other:
  *
  *	a user that is through (ww_give_seat)	one that seeks a seat (ww_queue_up, look)
- *	busy = 0				seekers++, or due++
- *	seekers, due?				busy of each seat?
+ *	busy = 0				seekers++, or called = 0
+ *	seekers, called?			busy of each seat?
  */
 #define _GNU_SOURCE
 #include "ww_pool.h"
@@ -70,13 +70,21 @@ enum { MANY_MUTEXES = 65536, IN_A_LINE = 4, APART = 1024 };
 /* How many lines are enough for 65 locks, which a world has at least. */
 enum { LEAST_LINES = 17 };
 /*
- * If a class says no number of contexts: how many it has that no thread keeps, how many that threads may keep, and how many
- * seats tasks have for each processor, and at most (see ww_poll.h).  In the search of schedules there are few.
+ * If a class says no number of contexts: how many it has besides those that threads may keep, how many these are, and how many of the
+ * others tasks may have, at first for each processor, and at most.  In the search of schedules there are few.
  */
 #ifndef WW_FEW
-enum { MANY_CONTEXTS = 1024, MANY_KEPT = 256, EACH_TASKS = 2, MANY_TASKS = 64 };
+enum { MANY_CONTEXTS = 1024, MANY_KEPT = 256, EACH_TASKS = 2, MANY_TASKS = 896 };
 #else
-enum { MANY_CONTEXTS = WW_FEW, MANY_KEPT = WW_FEW, EACH_TASKS = WW_FEW, MANY_TASKS = WW_FEW };
+enum { MANY_CONTEXTS = WW_FEW + 1, MANY_KEPT = WW_FEW, EACH_TASKS = WW_FEW, MANY_TASKS = WW_FEW };
+#endif
+/* So many contexts of tasks are counted at least: those that await a timer take long, and differ little. */
+enum { COUNTED = 32 };
+/* While tasks wait, who comes looks at so few seats; and who was called looks so often before it looks at all. */
+#ifndef WW_FEW
+enum { A_FEW = 8, LOOKS = 16 };
+#else
+enum { A_FEW = 1, LOOKS = 1 };
 #endif
 /* One more seat, which no context has: see ww_is_released. */
 enum { SPARE = 1 };
@@ -159,7 +167,7 @@ static struct ww_pool *open_pool(uint64_t id)
 	return p;
 }
 
-static void serve(struct ww_seats *of, uint64_t id, ww_seat *s);
+static void serve(struct ww_seats *of, uint64_t id, ww_seat *s, bool hands);
 
 /* So many more seats are kept. Opening is locked; others read this without that, as a hint, and to see that it changed. */
 static void keeps_more(struct ww_pool *p, uint32_t more)
@@ -203,7 +211,7 @@ static void forget(void *mine)
 		p = let_go(kept);
 		pthread_mutex_unlock(&opening);
 		if (p)
-			serve(&p->threads, kept.id, kept.seat);
+			serve(&p->threads, kept.id, kept.seat, true);
 	}
 }
 
@@ -234,25 +242,31 @@ static void keep(struct ww_pool *p, ww_seat *s)
 	}
 	pthread_mutex_unlock(&opening);
 	if (left)
-		serve(&left->threads, last.id, last.seat);
+		serve(&left->threads, last.id, last.seat, true);
 }
 
 /* ---- seats that anybody may use ---- */
 
-/*
- * Any seat that is free.  The search begins at the one that this thread used last, or, where threads keep seats, at one where
- * others don't begin.  NULL only if at some moment during the call none was free: each was in use or kept in two passes, and
- * none was given, kept or let go in between.
- */
-static ww_seat *claim_any(const struct ww_seats *of)
+/* The seats in the order in which one looks: from this one on those before the limit, and then the others, the last one first. */
+static ww_seat *seat_at(const struct ww_seats *of, uint32_t limit, uint32_t from, uint32_t k)
 {
-	ww_seat *s = ww_mine.last.id == of->id ? ww_mine.last.seat : &of->seats[of->pool->may_keep ? ww_mine.thread % of->count : 0];
+	return &of->seats[k < limit ? (from + k) % limit : of->count - 1 - (k - limit)];
+}
+
+/*
+ * Any seat that is free, of so many.  NULL for all of them only if at some moment during the call none was free: each was in use or
+ * kept in two passes, and none was given, kept or let go in between.
+ */
+static ww_seat *claim_from(const struct ww_seats *of, uint32_t from, uint32_t many)
+{
+	uint32_t limit = __atomic_load_n(&of->limit, __ATOMIC_SEQ_CST), open = of == &of->pool->threads ? of->count : limit;
 	uint64_t before, seen = UINT64_MAX;
 
 	do {
 		before = seen;
 		seen = (uint64_t)__atomic_load_n(&of->pool->changed, __ATOMIC_SEQ_CST) << 48;
-		for (uint32_t k = 0; k < of->count; k++) {
+		for (uint32_t k = 0; k < many && k < open; k++) {
+			ww_seat *s = seat_at(of, limit, from, k);
 			uint32_t was;
 
 			if (claim(s, &was)) {
@@ -261,10 +275,19 @@ static ww_seat *claim_any(const struct ww_seats *of)
 				return s;
 			}
 			seen += was & IS_KEPT ? 0 : was / GIVEN_ONCE;
-			s = s + 1 < &of->seats[of->count] ? s + 1 : of->seats;
 		}
 	} while (seen != before);
 	return NULL;
+}
+
+/* The search begins at the one that this thread used last, or, where threads keep seats, at one where others don't begin. */
+static ww_seat *claim_any(const struct ww_seats *of, uint32_t many)
+{
+	const struct ww_pool *p = of->pool;
+	bool spreads = p->may_keep && of == &p->threads;
+	uint32_t from = ww_mine.last.id == of->id ? (uint32_t)(ww_mine.last.seat - of->seats) : spreads ? (uint32_t)ww_mine.thread : 0;
+
+	return claim_from(of, from, many);
 }
 
 /* The seat of the class that this thread keeps is put first, and is its own if nobody uses it; `keeps` says if there is one. */
@@ -292,10 +315,10 @@ COLD static ww_seat *any_seat(struct ww_pool *p, const struct ww_seats *of)
 	if (p->gone)
 		return NULL;
 	s = may_keep ? kept_seat(p, &keeps) : NULL;
-	if (s || is_barred(of, p))
+	if (s || is_barred(p))
 		return s;
-	s = claim_any(of);
-	if (s && may_keep && !keeps && __atomic_load_n(&p->kept, __ATOMIC_RELAXED) < p->may_keep)
+	s = claim_any(of, of == &p->tasks && has_seekers(of) ? A_FEW : UINT32_MAX);
+	if (s && s->of == of && may_keep && !keeps && __atomic_load_n(&p->kept, __ATOMIC_RELAXED) < p->may_keep)
 		keep(p, s);
 	return s;
 }
@@ -309,9 +332,9 @@ ww_seat *ww_other_seat(struct ww_pool *p)
 
 ww_seat *ww_seat_to_begin(struct ww_pool *p)
 {
-	ww_seat *s = claim_last(&p->threads, p, __atomic_load_n(&p->at_hand, __ATOMIC_RELAXED));
-
-	return LIKELY(s) ? s : is_crowded(p) ? NULL : any_seat(p, &p->threads);
+	if (is_crowded(p))
+		return ww_mine.seats[0].id == p->id && has_permit(p) ? use_kept(ww_mine.seats[0].seat) : NULL;
+	return ww_other_seat(p);
 }
 
 ww_seat *ww_task_seat(struct ww_pool *p) { return any_seat(p, of_tasks(p)); }
@@ -334,70 +357,147 @@ static struct ww_waker waker_of(struct ww_seek *it)
 	return waker;
 }
 
-/* The waiter changes from one of these to another. The queue is locked; a thread that waits looks without that. */
-static void move_to(struct ww_seats *of, struct ww_seek *it, uint32_t now)
-{
-	if ((it->served_ == DUE) != (now == DUE))
-		__atomic_fetch_add(&of->due, now == DUE ? 1 : -1u, __ATOMIC_SEQ_CST);
-	__atomic_store_n(&it->served_, now, __ATOMIC_RELEASE);
-}
-
-/* Takes the waiter at this place out. The queue is locked. */
-static void take_out(struct ww_seats *of, struct ww_seek **at)
-{
-	*at = (*at)->next_;
-	if (!*at)
-		of->end = at;
-	__atomic_fetch_sub(&of->seekers, 1, __ATOMIC_SEQ_CST);
-}
-
-/* The waiter at this place gets the seat, and may not exist any more afterwards. The queue is locked. */
-static struct ww_waker hand_to(struct ww_seats *of, struct ww_seek **at, ww_seat *s)
-{
-	struct ww_seek *it = *at;
-	struct ww_waker waker = waker_of(it);
-
-	take_out(of, at);
-	count(&of->served);
-	it->seat_ = s;
-	move_to(of, it, SERVED);
-	return waker;
-}
-
-/*
- * A seat was given: it is handed to the first in the queue, if that is a thread, or a task that is due one; else the first task
- * that waits is called for it, unless one was.  The queue is locked; what is returned is called with nothing locked.
- */
-static struct ww_waker offer(struct ww_seats *of, ww_seat *s)
+/* The first in the queue, if there is one, looks for a seat, at this one first. The queue is locked. */
+static struct ww_waker call_first(struct ww_seats *of, ww_seat *s)
 {
 	struct ww_seek *it = of->first;
-	uint32_t was;
 
-	if (it && (of == &of->pool->threads || it->served_ == DUE))
-		return claim(s, &was) ? hand_to(of, &of->first, s) : (struct ww_waker){ 0 };
-	while (it && it->served_ != WAITS)
-		it = it->next_;
-	if (!it || __atomic_load_n(&s->busy, __ATOMIC_SEQ_CST) & IS_CALLED)
+	__atomic_store_n(&of->called, !!it, __ATOMIC_SEQ_CST);
+	if (!it)
 		return (struct ww_waker){ 0 };
-	__atomic_fetch_add(&s->busy, IS_CALLED, __ATOMIC_SEQ_CST);
-	it->seat_ = s;
-	move_to(of, it, CALLED);
+	of->looks = 0;
+	it->seat_ = s ? s : of->seats;
+	it->served_ = CALLED;
 	return waker_of(it);
 }
 
-/* Others may have freed the class since the seat was given, and in a forked child nobody waits. */
-COLD static void serve(struct ww_seats *of, uint64_t id, ww_seat *s)
+/* Takes the waiter at this place out; if it was called, the next one is. The queue is locked; a thread that waits looks without that. */
+static struct ww_waker take_out(struct ww_seats *of, struct ww_seek **at, uint32_t now)
+{
+	struct ww_seek *it = *at;
+	bool was_called = it->served_ == CALLED;
+	ww_seat *s = it->seat_;
+
+	*at = it->next_;
+	if (!*at)
+		of->end = at;
+	__atomic_fetch_sub(&of->seekers, 1, __ATOMIC_SEQ_CST);
+	__atomic_store_n(&it->served_, now, __ATOMIC_RELEASE);
+	return was_called ? call_first(of, s) : (struct ww_waker){ 0 };
+}
+
+/* The waiter at this place gets the seat, and may not exist any more then. Its waker is called, or the next one's. The queue is locked. */
+static struct ww_waker hand_to(struct ww_seats *of, struct ww_seek **at, ww_seat *s)
+{
+	struct ww_seek *it = *at;
+	struct ww_waker waker = waker_of(it), next;
+
+	count(&of->served);
+	it->seat_ = s;
+	next = take_out(of, at, SERVED);
+	return waker.wake ? waker : next;
+}
+
+/* Whether a seat that is free, or given, is for the first in the queue. The queue is locked. */
+static bool is_for(const struct ww_seats *of, const ww_seat *s)
+{
+	const struct ww_pool *p = of->pool;
+
+	return of->first && (of == &p->threads || (!p->threads.first && s < &of->seats[of->limit]));
+}
+
+/*
+ * The seat was given: it is handed to the first in the queue, or that is called for it.  Others may have freed the class since then,
+ * and in a forked child nobody waits.
+ */
+COLD static void serve(struct ww_seats *of, uint64_t id, ww_seat *s, bool hands)
 {
 	struct ww_pool *p = of->pool;
 	struct ww_waker waker = { 0 };
+	uint32_t was;
 
 	if (p->gone || !has_seekers(of))
 		return;
 	pthread_mutex_lock(&p->queue);
-	if (__atomic_load_n(&p->id, __ATOMIC_RELAXED) == id)
-		waker = offer(of, s);
+	if (__atomic_load_n(&p->id, __ATOMIC_RELAXED) == id && is_for(of, s) && (hands ? claim(s, &was) : !of->called))
+		waker = hands ? hand_to(of, &of->first, s) : call_first(of, s);
 	pthread_mutex_unlock(&p->queue);
 	call_waker(waker);
+}
+
+/* ---- seats of tasks ---- */
+
+/* How often the seats that may be claimed were given, in all, times GIVEN_ONCE. The queue is locked. */
+static uint32_t given(const struct ww_seats *of)
+{
+	uint32_t sum = 0;
+
+	for (uint32_t k = 0; k < of->limit; k++)
+		sum += __atomic_load_n(&of->seats[k].busy, __ATOMIC_RELAXED) / GIVEN_ONCE * GIVEN_ONCE;
+	return sum;
+}
+
+/* Looks how many seats may be claimed; those that may from now on are handed to tasks that wait. */
+COLD static void look_at_gate(struct ww_seats *of, uint64_t now)
+{
+	struct ww_pool *p = of->pool;
+	uint64_t id = p->id;
+	uint32_t was, limit;
+
+	pthread_mutex_lock(&p->queue);
+	was = limit = of->limit;
+	if (now >= of->due) {
+		uint32_t sum = given(of);
+
+		of->begun += (sum - of->sum) / GIVEN_ONCE;
+		(void)ww_gate_look(&of->gate, now, of->begun, now);
+		__atomic_store_n(&of->due, now + of->gate.lease / 4, __ATOMIC_RELAXED);
+		limit = of->gate.width < of->count ? of->gate.width : of->count;
+		__atomic_store_n(&of->limit, limit, __ATOMIC_SEQ_CST);
+		of->sum = limit == was ? sum : given(of);
+	}
+	pthread_mutex_unlock(&p->queue);
+	for (uint32_t k = was; k < limit; k++)
+		serve(of, id, &of->seats[k], true);
+}
+
+/* While tasks wait the seat, whose user is through, is handed to the first of them if it isn't lent any more. */
+static bool hands_over(struct ww_seats *of, ww_seat *s)
+{
+	struct ww_pool *p = of->pool;
+	uint64_t now = ww_now();
+	struct ww_waker waker = { 0 };
+	bool hands;
+
+	if (now >= __atomic_load_n(&of->due, __ATOMIC_RELAXED))
+		look_at_gate(of, now);
+	if (now < s->lent)
+		return false;
+	pthread_mutex_lock(&p->queue);
+	hands = is_for(of, s);
+	if (hands) {
+		s->lent = now + of->gate.lease;
+		__atomic_fetch_add(&s->busy, GIVEN_ONCE, __ATOMIC_SEQ_CST);
+		waker = hand_to(of, &of->first, s);
+	}
+	pthread_mutex_unlock(&p->queue);
+	call_waker(waker);
+	return hands;
+}
+
+/* Its user is through with it, a task or a thread. */
+static void give_shared(ww_seat *s)
+{
+	struct ww_seats *of = s->of, *threads = &s->pool->threads;
+	uint64_t id = s->pool->id;
+
+	if (UNLIKELY(has_seekers(of)) && !s->pool->gone && hands_over(of, s))
+		return;
+	__atomic_fetch_add(&s->busy, GIVEN_ONCE - BUSY, __ATOMIC_SEQ_CST);
+	if (UNLIKELY(has_seekers(threads)))
+		serve(threads, id, s, true);
+	if (UNLIKELY(has_seekers(of)) && !__atomic_load_n(&of->called, __ATOMIC_SEQ_CST))
+		serve(of, id, s, false);
 }
 
 /* A seat may rest only for its keeper. */
@@ -420,19 +520,20 @@ void ww_give_seat(ww_seat *s)
 {
 	struct ww_seats *of = s->of;
 	uint64_t id = s->pool->id;
-	uint32_t was;
+	uint32_t busy;
 
 	if (UNLIKELY(s->ages)) {
 		give_rested(s);
 		return;
 	}
-	if (UNLIKELY(__atomic_load_n(&s->busy, __ATOMIC_RELAXED) & IS_KEPT)) {
-		give_kept(s);
+	busy = __atomic_load_n(&s->busy, __ATOMIC_RELAXED);
+	if (UNLIKELY(busy & (IS_KEPT | IS_SHARED))) {
+		(busy & IS_KEPT ? give_kept : give_shared)(s);
 		return;
 	}
-	was = __atomic_fetch_add(&s->busy, GIVEN_ONCE - BUSY, __ATOMIC_SEQ_CST);
-	if (UNLIKELY(has_seekers(of)) && (!(was & IS_CALLED) || has_due(of)))
-		serve(of, id, s);
+	__atomic_fetch_add(&s->busy, GIVEN_ONCE - BUSY, __ATOMIC_SEQ_CST);
+	if (UNLIKELY(has_seekers(of)))
+		serve(of, id, s, true);
 }
 
 /* Where it stands in the queue, or the end. The queue is locked. */
@@ -445,17 +546,24 @@ static struct ww_seek **place_of(struct ww_seats *of, const struct ww_seek *it)
 	return at;
 }
 
-/* Whoever was called looks, for the seat for which it was, or any other; it may find one for who is due. The queue is locked. */
-static struct ww_waker look(struct ww_seats *of, struct ww_seek *me)
+/*
+ * Whoever was called looks.  Who has looked often, or is to wait no more, looks at all seats, once it has said that nobody is called.  It gets a seat, or waits
+ * again, or it is to look once more, when its loop comes round: then its own waker is called.  The queue is locked.
+ */
+static struct ww_waker look(struct ww_seats *of, struct ww_seek *me, const struct ww_waker *again)
 {
-	ww_seat *s = me->seat_;
-	uint32_t was;
+	bool looks_on = of->looks++ < LOOKS && !ww_ends_waits(of->pool);
+	ww_seat *s;
 
-	__atomic_fetch_sub(&s->busy, IS_CALLED, __ATOMIC_SEQ_CST);
-	move_to(of, me, of->first == me ? DUE : WAITS);
-	if (!claim(s, &was))
-		s = claim_any(of);
-	return s ? hand_to(of, of->due ? &of->first : place_of(of, me), s) : (struct ww_waker){ 0 };
+	if (!looks_on) {
+		__atomic_store_n(&of->called, 0, __ATOMIC_SEQ_CST);
+		me->served_ = WAITS;
+	}
+	s = is_barred(of->pool) ? NULL : claim_from(of, (uint32_t)(me->seat_ - of->seats), looks_on ? A_FEW : UINT32_MAX);
+	if (!s)
+		return looks_on ? *again : (struct ww_waker){ 0 };
+	me->served_ = CALLED;
+	return hand_to(of, &of->first, s);
 }
 
 bool ww_is_served(struct ww_seek *me, const struct ww_waker *otherwise)
@@ -465,10 +573,13 @@ bool ww_is_served(struct ww_seek *me, const struct ww_waker *otherwise)
 	bool served;
 
 	pthread_mutex_lock(&p->queue);
+	me->waker_ = (struct ww_waker){ 0 };
 	if (me->served_ == CALLED)
-		waker = look(me->of_, me);
+		waker = look(me->of_, me, otherwise);
+	if (me->served_ != SERVED && ww_ends_waits(p))
+		waker = hand_to(me->of_, place_of(me->of_, me), NULL);
 	served = me->served_ == SERVED;
-	if (!served)
+	if (me->served_ == WAITS)
 		me->waker_ = *otherwise;
 	pthread_mutex_unlock(&p->queue);
 	call_waker(waker);
@@ -487,82 +598,111 @@ bool ww_leave_queue(struct ww_seek *me)
 	at = place_of(of, me);
 	waits = *at;
 	if (waits)
-		take_out(of, at);
-	if (waits && me->served_ == CALLED && !(__atomic_sub_fetch(&me->seat_->busy, IS_CALLED, __ATOMIC_SEQ_CST) & BUSY))
-		waker = offer(of, me->seat_);
-	if (waits)
-		move_to(of, me, WAITS);
+		waker = take_out(of, at, WAITS);
 	pthread_mutex_unlock(&p->queue);
 	call_waker(waker);
 	return waits;
 }
 
-/* Where it is barred no seat is free, except one whose last user is about to serve another. */
+static uint32_t patience = WW_PATIENCE;
+
+void ww_report_long_waits(unsigned int seconds) { __atomic_store_n(&patience, seconds, __ATOMIC_RELAXED); }
+
+uint32_t ww_patience(void) { return WW_PATIENCE > 0 ? __atomic_load_n(&patience, __ATOMIC_RELAXED) : 0; }
+
+/* Whether a wait has become long since this was called first, or returned true. */
+static bool is_long(struct timespec *next)
+{
+	bool is = next->tv_sec && ww_has_come(next);
+
+	if (is || !next->tv_sec) {
+		clock_gettime(CLOCK_MONOTONIC, next);
+		next->tv_sec += ww_patience();
+	}
+	return is;
+}
+
+#ifndef WW_DEBUG
+const struct timespec *ww_says_if_long(struct ww_pool *p, const struct timespec *until, struct timespec *next)
+{
+	char why[128];
+
+	if (until || !ww_patience())
+		return until;
+	if (is_long(next) && !__atomic_exchange_n(&p->is_told_of_lock, true, __ATOMIC_RELAXED)) {
+		snprintf(why, sizeof why, "it has lasted %u seconds; libww_debug says where its holder began", ww_patience());
+		say_of(p->class_, "a wait for a mutex", why);
+	}
+	return next;
+}
+#endif
+
+/* A context that is left without ww_acquire_fini keeps its seat. */
+static void tell_leak(const struct ww_seats *of)
+{
+	const struct ww_pool *p = of->pool;
+	char why[128];
+
+	snprintf(why, sizeof why, "all %u contexts have been in use for %u seconds; one that isn't ended by ww_acquire_fini stays in use",
+		 open_seats(of, p) - (of == &p->threads ? __atomic_load_n(&p->kept, __ATOMIC_RELAXED) : 0), ww_patience());
+	ww_debug_leak(of, why);
+}
+
+/* Nobody was handed a seat during a long wait, which is to be said once.  Each seat that is given is handed to somebody who waits. */
+static bool is_stuck(struct ww_seats *of, struct timespec *next, uint64_t *seen)
+{
+	uint64_t served = __atomic_load_n(&of->served, __ATOMIC_RELAXED), before = *seen;
+	bool waits_on = next->tv_sec;
+
+	if (!is_long(next) && waits_on)
+		return false;
+	*seen = served;
+	return waits_on && served == before && !__atomic_exchange_n(&of->pool->is_told, true, __ATOMIC_RELAXED);
+}
+
+/* No thread of theirs sleeps, so the next task that comes to wait looks whether the wait of those before is long. The queue is locked. */
+static bool tasks_are_stuck(struct ww_seats *of)
+{
+	if (of == &of->pool->threads || !ww_patience())
+		return false;
+	if (!of->first->next_)
+		of->long_ = (struct timespec){ 0 };
+	return is_stuck(of, &of->long_, &of->seen);
+}
+
+/* Who isn't the first in the queue finds no seat that isn't for another. */
 bool ww_queue_up(struct ww_seek *me)
 {
 	struct ww_seats *of = me->of_;
 	struct ww_pool *p = of->pool;
 	struct ww_seek **at;
 	ww_seat *s = NULL;
+	bool served, is_long_wait = false;
 
 	pthread_mutex_lock(&p->queue);
 	at = of->end;
 	__atomic_fetch_add(&of->seekers, 1, __ATOMIC_SEQ_CST);
 	*at = me;
 	of->end = &me->next_;
-	if (of->first == me || (of == &p->tasks && !of->due))
-		s = claim_any(of);
-	if (s) {
+	if (of->first == me && (of == &p->threads || !is_barred(p)))
+		s = claim_any(of, UINT32_MAX);
+	served = s || (me->heeds_ && ww_ends_waits(p));
+	if (served) {
 		(void)hand_to(of, at, s);
 	} else {
 		count(&of->sought);
+		is_long_wait = tasks_are_stuck(of);
 		DTRACE_PROBE1(ww, context_wait, p->class_);
 	}
 	pthread_mutex_unlock(&p->queue);
-	return s;
-}
-
-/*
- * After how many seconds of a wait a thread checks whether any seat was given meanwhile.  In the search of schedules this is 0,
- * and it doesn't, since a wait with a time would hide that a wake-up was lost.
- */
-#ifndef WW_PATIENCE
-#define WW_PATIENCE 10
-#endif
-
-/* A context that is left without ww_acquire_fini keeps its seat.  The thread is in the queue, so it must not end here. */
-static void tell_leak(const struct ww_seats *of)
-{
-	char why[128];
-	int may_end;
-
-	pthread_setcancelstate(PTHREAD_CANCEL_DISABLE, &may_end);
-	snprintf(why, sizeof why, "all %u contexts have been in use for %d seconds; one that isn't ended by ww_acquire_fini stays in use",
-		 of->count - __atomic_load_n(&of->pool->kept, __ATOMIC_RELAXED), WW_PATIENCE);
-	ww_debug_leak(of, why);
-	pthread_setcancelstate(may_end, NULL);
-}
-
-/*
- * Until when a thread that waits may sleep; by then, if nobody was handed a seat since it looked last, that is reported once.
- * Each seat that is given is handed to somebody who waits.
- */
-static void look_again(struct ww_seats *of, struct timespec *next, uint64_t *seen)
-{
-	uint64_t served = __atomic_load_n(&of->served, __ATOMIC_RELAXED);
-
-	if (next->tv_sec && !ww_has_come(next))
-		return;
-	if (next->tv_sec && served == *seen && !__atomic_exchange_n(&of->pool->is_told, true, __ATOMIC_RELAXED))
+	if (is_long_wait)
 		tell_leak(of);
-	*seen = served;
-	clock_gettime(CLOCK_MONOTONIC, next);
-	next->tv_sec += WW_PATIENCE;
+	return served;
 }
 
-COLD int ww_seek_seat(struct ww_pool *p, const struct timespec *until, ww_seat **s)
+COLD int ww_seek_seat(struct ww_pool *p, const struct timespec *until, bool heeds, ww_seat **s)
 {
-	struct ww_seek me = { .of_ = &p->threads, .waker_ = { .wake = wake_thread, .task = &me.served_ } };
+	struct ww_seek me = { .of_ = &p->threads, .heeds_ = heeds, .waker_ = { .wake = wake_thread, .task = &me.served_ } };
 	const struct timespec *end = until;
 	struct timespec next = { 0 };
 	uint64_t seen = 0;
@@ -574,16 +714,58 @@ COLD int ww_seek_seat(struct ww_pool *p, const struct timespec *until, ww_seat *
 	while (!__atomic_load_n(&me.served_, __ATOMIC_ACQUIRE)) {
 		if (until && ww_has_come(until) && ww_leave_queue(&me))
 			break;
-		if (WW_PATIENCE > 0 && !until) {
-			look_again(&p->threads, &next, &seen);
+		if (ww_patience() && !until) {
+			if (is_stuck(&p->threads, &next, &seen))
+				tell_leak(&p->threads);
 			end = &next;
 		}
 		ww_futex_wait(&me.served_, 0, end);
 	}
 	if (!me.seat_)
-		return -ETIMEDOUT;
+		return me.served_ ? -EINTR : -ETIMEDOUT;
 	is_user(me.seat_);
 	*s = me.seat_;
+	return 0;
+}
+
+/* ---- the end of all waits ---- */
+
+bool ww_ends_waits(const struct ww_pool *p) { return __atomic_load_n(&p->ends_waits, __ATOMIC_SEQ_CST); }
+
+/* Ends the waits in a queue; whoever was called for a seat looks by itself.  A waker is called with nothing locked. */
+static void end_seeking(struct ww_seats *of)
+{
+	struct ww_waker waker;
+
+	do {
+		struct ww_seek **at = &of->first;
+
+		waker = (struct ww_waker){ 0 };
+		pthread_mutex_lock(&of->pool->queue);
+		while (*at && !((*at)->heeds_ && (*at)->served_ != CALLED))
+			at = &(*at)->next_;
+		if (*at)
+			waker = hand_to(of, at, NULL);
+		pthread_mutex_unlock(&of->pool->queue);
+		call_waker(waker);
+	} while (waker.wake);
+}
+
+/* Said before anybody is woken, who looks at it after that. */
+int ww_class_cancel(struct ww_class *c)
+{
+	struct ww_pool *p;
+	int r = pool_of(c, &p);
+
+	if (!r && p->gone)
+		r = -EINVAL;
+	if (r)
+		return r;
+	__atomic_store_n(&p->ends_waits, true, __ATOMIC_SEQ_CST);
+	for (uint32_t k = 0; k < seats_of(p); k++)
+		ww_unpark(&p->seats[k]);
+	end_seeking(&p->threads);
+	end_seeking(&p->tasks);
 	return 0;
 }
 
@@ -616,7 +798,7 @@ static void in_child(void)
 	}
 	for (struct ww_pool *p = freed; p; p = p->next) {
 		p->queue = p->numbers = p->spare = p->crowd.lock = (pthread_mutex_t)PTHREAD_MUTEX_INITIALIZER;
-		p->crowd.asleep = p->crowd.waiting = 0;
+		p->crowd.waiting = 0;
 	}
 	pthread_mutex_unlock(&opening);
 }
@@ -695,12 +877,21 @@ static void keep_memory(struct ww_pool *p)
 	freed = p;
 }
 
-/* If more tasks than these have a context at a time, they retry more often than they make progress. */
-static uint32_t tasks_of(const struct ww_class *c)
+/* The queues of a class that is opened, which nobody uses yet. */
+static void open_seats_of(struct ww_pool *p)
 {
-	uint32_t tasks = EACH_TASKS * ww_processors();
+	uint32_t first = EACH_TASKS * ww_processors();
+	struct ww_seats *tasks = &p->tasks;
 
-	return c->contexts ? 0 : tasks < MANY_TASKS ? tasks : MANY_TASKS;
+	p->threads.count = (p->class_->contexts ? p->class_->contexts : MANY_CONTEXTS) + p->may_keep;
+	tasks->count = p->class_->contexts ? 0 : MANY_TASKS;
+	p->threads.limit = p->threads.count - tasks->count;
+	tasks->limit = first < tasks->count ? first : tasks->count;
+	tasks->sum = tasks->called = 0;
+	__atomic_store_n(&tasks->due, 0, __ATOMIC_RELAXED);
+	ww_gate_open(&tasks->gate, 1, first, tasks->count / 2, tasks->count, COUNTED);
+	__atomic_store_n(&p->threads.sought, 0, __ATOMIC_RELAXED);
+	__atomic_store_n(&tasks->sought, 0, __ATOMIC_RELAXED);
 }
 
 /* The handles of a new world are moved into the seats. */
@@ -708,7 +899,7 @@ static void fill_seats(struct ww_pool *p, ww_handle *handles)
 {
 	memset(p->seats, 0, (seats_of(p) + SPARE) * sizeof *p->seats);
 	p->threads.seats = p->seats;
-	p->tasks.seats = &p->seats[p->threads.count];
+	p->tasks.seats = &p->seats[p->threads.limit];
 	for (uint32_t k = seats_of(p) + SPARE; k--;) {
 		ww_seat *s = &p->seats[k];
 
@@ -717,6 +908,7 @@ static void fill_seats(struct ww_pool *p, ww_handle *handles)
 		ww_may_stop(s);
 		s->keeper = NO_THREAD;
 		s->of = s < p->tasks.seats ? &p->threads : &p->tasks;
+		s->busy = s < p->tasks.seats ? 0 : IS_SHARED;
 	}
 }
 
@@ -758,13 +950,12 @@ static int make_pool(struct ww_class *c, uint32_t may_keep, struct ww_pool **mad
 	p->mutexes = c->mutexes ? c->mutexes : MANY_MUTEXES;
 	p->lines = lines_for(p->mutexes);
 	p->locks = p->lines * IN_A_LINE;
-	p->threads.count = (c->contexts ? c->contexts : MANY_CONTEXTS) + may_keep;
-	p->tasks.count = tasks_of(c);
+	open_seats_of(p);
 	p->fresh = p->free = 0;
 	__atomic_store_n(&p->is_large, false, __ATOMIC_RELAXED);
-	__atomic_store_n(&p->threads.sought, 0, __ATOMIC_RELAXED);
-	__atomic_store_n(&p->tasks.sought, 0, __ATOMIC_RELAXED);
+	__atomic_store_n(&p->ends_waits, false, __ATOMIC_SEQ_CST);
 	__atomic_store_n(&p->is_told, false, __ATOMIC_RELAXED);
+	__atomic_store_n(&p->is_told_of_lock, false, __ATOMIC_RELAXED);
 	ww_crowd_open(p);
 	p->below = calloc(p->locks, sizeof *p->below);
 	p->seats = aligned_alloc(_Alignof(ww_seat), (seats_of(p) + SPARE) * sizeof *p->seats);
@@ -827,6 +1018,7 @@ COLD int ww_number_at_first(struct ww_mutex *m)
 		if (!r) {
 			__atomic_store_n(&m->number, number, __ATOMIC_RELAXED); /* who locks a list may look for it already */
 			__atomic_store_n(&m->pool, c->pool, __ATOMIC_RELEASE);
+			DEBUG(ww_debug_made(m));
 		}
 	}
 	pthread_mutex_unlock(&opening);
@@ -853,11 +1045,22 @@ void ww_class_init(struct ww_class *c, int is_wait_die, const char *name)
 	*c = (struct ww_class){ .is_wait_die = is_wait_die, .name = name };
 }
 
+static bool is_open(const struct ww_class *c, const char *call)
+{
+	bool is = __atomic_load_n(&c->pool, __ATOMIC_RELAXED);
+
+	if (is)
+		ww_debug_fault(c, call, "the class is open: this comes before its first use");
+	return is;
+}
+
 int ww_class_limit(struct ww_class *c, uint32_t mutexes, uint32_t contexts)
 {
-	if (mutexes > WW_MAX_LOCKS || contexts > WW_MAX_SEATS - SPARE)
+	if (mutexes > WW_MAX_LOCKS || contexts > WW_MAX_SEATS - SPARE) {
+		ww_debug_fault(c, "ww_class_limit", "a class has at most 16,777,216 mutexes and 4,094 contexts");
 		return -EINVAL;
-	if (__atomic_load_n(&c->pool, __ATOMIC_RELAXED))
+	}
+	if (is_open(c, "ww_class_limit"))
 		return -EBUSY;
 	c->mutexes = mutexes;
 	c->contexts = contexts;
@@ -868,7 +1071,7 @@ int ww_class_crowd(struct ww_class *c, uint32_t permits)
 {
 	if (permits > MANY_PERMITS && permits != WW_NO_CROWD)
 		return -EINVAL;
-	if (__atomic_load_n(&c->pool, __ATOMIC_RELAXED))
+	if (is_open(c, "ww_class_crowd"))
 		return -EBUSY;
 	c->permits = permits;
 	return 0;
@@ -884,6 +1087,15 @@ static bool is_idle(struct ww_pool *p)
 	return idle;
 }
 
+/* It stands here, so that a program without shared mutexes links nothing of ww_shared.c. */
+static void free_desks(struct ww_pool *p)
+{
+	for (uint32_t k = 0; k < MANY_BITS; k++)
+		for (struct ww_desk *d; (d = p->desks[k]); free(d))
+			p->desks[k] = d->next;
+	p->made = 0;
+}
+
 /* A thread that gave a seat may still look for a waiter to serve, but nobody is in the queues. */
 static void free_pool(struct ww_pool *p)
 {
@@ -893,6 +1105,7 @@ static void free_pool(struct ww_pool *p)
 		if (ww_close_(&p->seats[k].handle))
 			abort(); /* nobody has a seat of it */
 	}
+	free_desks(p);
 	free(p->numbered);
 	p->numbered = NULL;
 	keep_memory(p);
@@ -935,10 +1148,14 @@ void ww_class_stats(struct ww_class *c, struct ww_class_counts *counts)
 			.context_waits = __atomic_load_n(&p->threads.sought, __ATOMIC_RELAXED) +
 				__atomic_load_n(&p->tasks.sought, __ATOMIC_RELAXED),
 			.permit_waits = __atomic_load_n(&p->crowd.awaited, __ATOMIC_RELAXED),
+			.context_waiters = __atomic_load_n(&p->threads.seekers, __ATOMIC_RELAXED) +
+				__atomic_load_n(&p->tasks.seekers, __ATOMIC_RELAXED),
+			.task_contexts = open_seats(of_tasks(p), p),
 		};
 	for (uint32_t k = 0; p && k < seats_of(p); k++) {
 		counts->lock_waits += __atomic_load_n(&p->seats[k].waits, __ATOMIC_RELAXED);
 		counts->back_offs += __atomic_load_n(&p->seats[k].back_offs, __ATOMIC_RELAXED);
+		counts->contexts += __atomic_load_n(&p->seats[k].busy, __ATOMIC_RELAXED) & BUSY;
 	}
 	pthread_mutex_unlock(&opening);
 }

@@ -17,23 +17,34 @@
  *	pool number	mutex		who locks it first, under `opening`; who makes or destroys it	static
  *	own cancelled	context		its user; anybody cancels				cancel-once
  *	pool		class		who opens and frees it, under `opening`			free-and-use
- *	id at_hand	pool		who opens the class; a crowd's begin and end, under its lock	crowd-over
+ *	id at_hand	pool		who opens the class; a crowd's begin and end, under its lock	crowd-ends
  *	numbered	pool		who takes the first number, under `numbers`		number-again
  *	is_large	pool		who takes one, likewise					numbers
  *	taken fresh free below	pool	who takes and gives one, likewise			numbers-4
  *	kept changed	pool		who comes to keep a seat or lets one go, under `opening`	kept-end-3
- *	is_told		pool		who waits for long					mutex_leaks
+ *	ends_waits	pool		who cancels the class					class-cancel
+ *	is_told is_told_of_lock	pool	who waits for long					mutex_leaks
  *	next		pool		who opens and frees a class, under `opening`		free-3
- *	seekers due	seats		who waits, or hands a seat over, under `queue`		tasks-late-held
- *	sought served	seats		likewise						contexts-3
+ *	seekers called	seats		who waits, or hands a seat over, under `queue`		tasks-late-held
+ *	sought served looks	seats	likewise						contexts-3
  *	first end	seats		likewise						contexts-in-turn
+ *	limit due gate begun sum	seats	who gives a seat while tasks wait, under `queue`	tasks-wider
  *	served_ seat_ waker_	seek	likewise						poll-contexts-end
- *	asleep		crowd		who goes to sleep, and who wakes it			crowd-free
- *	backed_off	crowd		who backs off						mutex_crowd
- *	waiting		crowd		who waits for a permit					crowd-free
- *	harmless awaited ends term over off resting since slow	crowd	who looks at it, under its lock	crowd-slow-4
+ *	waiting		crowd		who stands in the line for a permit, and who began		crowd-free
+ *	begun		crowd		who begins contexts					crowd-checked
+ *	rests due	crowd		who looks at it, under its lock; others read it		crowd-ends
+ *	permits gate holds awaited rest	crowd	likewise						crowd-line-kept
+ *	seat ends	permit		likewise						crowd-stale
+ *	first next	crowd		who stands in the line, likewise				crowd-leaves
+ *	is_called	in_line		itself, and who calls it, likewise				crowd-line
+ *	awaits		seat		its user						ring
+ *	readers		shared mutex	each that reads it, and who writes it: see ww_shared.c	read-write
+ *	marks		desk		who has it: likewise					again
+ *	reads		desk		its seat's user						destroy-again
+ *	desks made	pool		who makes one, under `numbers`				one-bit
  *	first_		event		who wakes a task, and the loop that takes them		poll_wakers
  *	last_thread	copy		each thread, once					contexts
+ *	patience	copy		who sets it						mutex_leaks
  */
 #ifndef WW_POOL_H
 #define WW_POOL_H
@@ -59,38 +70,77 @@
 
 struct debug;
 
+/* See ww_shared.c. A seat's desk; what its user writes lies apart from what others read. */
+struct ww_desk {
+	struct ww_mutex mutex;
+	uint32_t reads;
+	uint32_t soiled; /* how many words of marks there are in `dirty`: those that aren't 0 */
+	struct ww_desk *next __attribute__((aligned(64))); /* with the same bit */
+	uint64_t bit;
+	uint32_t seat; /* its number */
+	uint32_t *dirty;
+	uint64_t marks[] __attribute__((aligned(64))); /* one for each number of the class */
+};
+enum { MANY_BITS = 64 };
+/* A bit of a mutex's `waiters`, beside their number: it is a desk's. */
+#define IS_DESK ((uint32_t)1 << 30)
+
+/* See ww_gate.c. */
+#define NO_LIMIT UINT32_MAX
+struct ww_gate {
+	uint32_t width, kept;	     /* how many may run now, and the width that is best so far */
+	uint32_t least, most;	     /* bounds of a width */
+	uint32_t before;	     /* the one before this */
+	uint32_t widest;	     /* the one that is tried first where there is no limit */
+	uint32_t many;		     /* so many contexts count for something */
+	uint32_t held, holds;	     /* for how many windows it was kept since the last try, and is at least */
+	bool tries, more;	     /* another width is tried; more, or fewer */
+	bool climbs, fell;	     /* no try was in vain yet; the last window of the width that is kept was far worse than those before */
+	bool settles;		     /* it has just changed, so no contexts are counted yet */
+	uint64_t since, begun, waited; /* when this window began, and what had been counted by then */
+	uint64_t rate;		     /* contexts a second, at the width that is kept */
+	uint64_t lease;		     /* how long a permit lasts */
+};
+
 /* See ww_crowd.c. */
 enum { MANY_PERMITS = 64 };
+struct ww_permit {
+	uint64_t ends; /* its lease; or when it was given back */
+	const ww_seat *seat; /* by which its thread begins contexts, if it keeps one */
+};
 struct ww_crowd {
-	uint32_t asleep __attribute__((aligned(64))); /* how many threads sleep in lock calls, and weren't woken yet */
-	uint32_t permits;
-	uint32_t backed_off; /* how many contexts did, while enough threads slept for a crowd */
-	uint64_t harmless; /* until then sleeping threads alone make no crowd */
-	uint32_t waiting;  /* how many wait for a permit: each on the word of that, which is always 0 */
-	uint32_t turns[MANY_PERMITS];
+	uint64_t begun __attribute__((aligned(64))); /* contexts */
+	uint64_t rests __attribute__((aligned(64))); /* until then there is no crowd, since the last one was of no use */
+	uint64_t due; /* when to look at the gate next */
+	uint32_t waiting; /* how many wait for a permit */
 	pthread_mutex_t lock; /* for what follows */
-	uint64_t ends[MANY_PERMITS]; /* when each permit ends, as far as it was promised */
-	uint64_t term, over; /* how long the last crowd lasts, and until when */
-	uint64_t off;	     /* for how long after it sleeping threads alone make none */
-	uint64_t resting;    /* until then there is no crowd at all, since permits were no help */
-	uint64_t since;	     /* when many_back_off was called last */
+	struct ww_in_line *first, **end; /* those that wait, in the order in which they came, and the last link */
+	struct ww_gate gate;
+	struct ww_permit permits[MANY_PERMITS];
+	uint64_t rest; /* how long the class rests after the next crowd that is of no use */
 	uint64_t awaited;
-	uint32_t slow; /* permits that began few contexts, less those that began more */
 };
 
 /*
- * Seats, and the queue of those that found none of them free.  A class has two of these: `threads`, and `tasks` for polls.  If it
- * says how many contexts it has, `tasks` is empty, and all are in the one queue.
+ * Seats, and the queue of those that found none of them free.  A class has two of these: `threads`, which are all of them, and
+ * `tasks`, the last ones, for polls too.  If it says how many contexts it has, `tasks` is empty, and all are in the one queue.
  */
 struct ww_seats {
 	struct ww_pool *pool;
 	uint64_t id; /* by which a thread knows that it used one of them last; NO_ID if threads don't come back to them */
 	ww_seat *seats;
 	uint32_t count;
-	uint32_t seekers, due;	       /* how many wait; and whether the first, a task, is to have the next seat that is given */
+	uint32_t limit;		       /* of tasks: so many of them may be claimed now; of threads: so many aren't those of tasks */
+	uint32_t seekers, called;      /* how many wait; and whether the first, a task, was called, and looks for a seat */
 	struct ww_seek *first, **end; /* the queue, in the order in which they came, and its last link */
 	uint64_t sought;	       /* how many have waited in all */
 	uint64_t served;	       /* and how many of these were handed a seat */
+	uint32_t looks;		       /* how often who was called has looked */
+	uint32_t sum;		       /* of the counts in `busy` of those that may be claimed, at the last look at the gate */
+	struct ww_gate gate;	       /* of tasks: see ww_gate.c */
+	uint64_t due, begun;	       /* when to look at it next; how many contexts have begun by then */
+	struct timespec long_;	       /* of tasks: when their wait is long, unless somebody is served until then; */
+	uint64_t seen;		       /* and how many were by the time that it began */
 } __attribute__((aligned(64)));
 
 /*
@@ -112,7 +162,8 @@ struct ww_pool {
 	struct ww_mutex *numbered; /* of ww_number.h: one for each number, once the first number was taken */
 	struct ww_seats threads, tasks;
 	pthread_mutex_t queue; /* the lock of both queues */
-	bool is_told;	       /* it was reported that all contexts of threads have been in use for long */
+	bool ends_waits;       /* all that something may end, for good */
+	bool is_told, is_told_of_lock; /* it was said that all contexts of threads have been in use for long; that a wait for a mutex is long */
 	/*
 	 * Of the numbers of `mutexes` mutexes the first `fresh` were given out at least once.  Those of them that are free again
 	 * are in a list: `free` is the first one plus one, and `below` has the next one of each, likewise.  The words of four
@@ -121,6 +172,9 @@ struct ww_pool {
 	 */
 	pthread_mutex_t numbers __attribute__((aligned(64)));
 	uint32_t mutexes, lines, locks, fresh, free, taken, *below;
+	/* How many seats have a desk, and these by their bits, in lists that only grow: changed under the lock `numbers`. */
+	uint32_t made;
+	struct ww_desk *desks[MANY_BITS];
 	/* The thread that holds it looks by the seat after those of contexts. */
 	pthread_mutex_t spare __attribute__((aligned(64)));
 	struct ww_crowd crowd;
@@ -132,14 +186,22 @@ struct ww_pool {
 /* The bits of a seat's `busy`: see ww_pool.c; above them is how often it was given since a thread kept it. */
 #define BUSY 1u
 #define IS_KEPT 2u
-#define IS_CALLED 4u
+#define IS_SHARED 4u
 #define GIVEN_ONCE 8u
 /* The value of `keeper`, if it has none. */
 #define NO_THREAD UINT64_MAX
 #define NO_ID UINT64_MAX
 
-/* The values of `served_` of one that seeks a seat: see ww_pool.c.  CALLED: for `seat_`; SERVED: it has that. */
-enum { WAITS, CALLED, DUE, SERVED };
+/*
+ * After how many seconds a wait is long.  In the search of schedules this is 0, and no wait is, since a wait with a time would
+ * hide that a wake-up was lost.
+ */
+#ifndef WW_PATIENCE
+#define WW_PATIENCE 10
+#endif
+
+/* The values of `served_` of one that seeks a seat: see ww_pool.c.  CALLED: it looks at `seat_` first; SERVED: it has that; without one its wait ends. */
+enum { WAITS, CALLED, SERVED };
 
 /* What each thread has for itself. */
 enum { KEPT = 10 };
@@ -151,13 +213,16 @@ struct ww_mine {
 	  last;		 /* one that it doesn't keep and used last, if it comes back to these */
 	uint64_t thread; /* a number that no other thread has, in any copy of the library; 0 until it takes a seat */
 	bool ends;	 /* it is about to end, and keeps no seat any more */
-	struct {
-		uint64_t id;		/* of the class whose permit it had last */
-		uint64_t ends;		/* when that permit ends; 0: it went on without one */
-		uint32_t place;		/* its index among the permits */
-		uint32_t contexts;	/* how many it began with that */
-		uint32_t waits, had_waited; /* how often it has waited for a lock, and had when the permit began */
+	struct ww_my_permit {
+		uint64_t id;		/* of the class for which it is, or was */
+		struct ww_permit *it;
+		uint64_t ends;		/* its lease; 0: it goes on without one */
+		uint64_t seen, brief;	/* when it last read the clock; and if that was so recently, it needn't soon */
+		uint32_t at_once;	/* how many contexts it begins until it reads the clock */
+		uint32_t begun;		/* and how many it has begun since it counted them */
 	} permit;
+	uint64_t usual;		 /* how long its waits last: see ww.c */
+	uint64_t waited, counted; /* the sum of its waits, since then: see ww_crowd.c */
 };
 WW_HIDDEN extern __thread struct ww_mine ww_mine __attribute__((tls_model("initial-exec")));
 
@@ -176,13 +241,14 @@ WW_HIDDEN ww_seat *ww_other_seat(struct ww_pool *p);
 WW_HIDDEN ww_seat *ww_seat_to_begin(struct ww_pool *p);
 /* Releases a seat, by a thread that isn't its keeper. */
 WW_HIDDEN void ww_give_seat(ww_seat *s);
-/* Waits for a seat, after all that wait already, until a time if that isn't NULL (-ETIMEDOUT); -EINVAL in a child. */
-WW_HIDDEN int ww_seek_seat(struct ww_pool *p, const struct timespec *until, ww_seat **s);
+/* Waits for a seat, after all that wait already, until a time if that isn't NULL (-ETIMEDOUT), or until the class ends waits that
+   heed that (-EINTR); -EINVAL in a child. */
+WW_HIDDEN int ww_seek_seat(struct ww_pool *p, const struct timespec *until, bool heeds, ww_seat **s);
 /* For polls: any seat that is free, unless it is another's turn; or NULL. */
 WW_HIDDEN ww_seat *ww_task_seat(struct ww_pool *p);
-/* Gets a seat immediately (true), or waits from now on, after all that wait already. */
+/* Gets a seat immediately (true), or NULL if it is to end, or waits from now on, after all that wait already. */
 WW_HIDDEN bool ww_queue_up(struct ww_seek *me);
-/* For polls: whether it has got a seat.  One that was called looks for it; if there is none, this is its waker from now on. */
+/* For polls: whether it has got a seat, or NULL likewise.  One that was called looks for it; if there is none, this is its waker from now on. */
 WW_HIDDEN bool ww_is_served(struct ww_seek *me, const struct ww_waker *otherwise);
 /* Stops waiting; false if it has got a seat. */
 WW_HIDDEN bool ww_leave_queue(struct ww_seek *me);
@@ -193,14 +259,38 @@ WW_HIDDEN int ww_may_lock(const char *call, struct ww_mutex *m, struct ww_acquir
 /* The mutex of a number, and what its lock call returns: see ww_number.c. */
 WW_HIDDEN struct ww_mutex *ww_number_asked(const char *call, uint32_t number, const struct ww_acquire_ctx *x, int r);
 WW_HIDDEN int ww_number_told(struct ww_mutex *m, const struct ww_acquire_ctx *x, int r);
+/* After how many seconds a wait is long; 0: never. */
+WW_HIDDEN uint32_t ww_patience(void);
 /* How many processors this thread may use, at most MANY_PERMITS. */
 WW_HIDDEN uint32_t ww_processors(void);
 WW_HIDDEN void ww_crowd_open(struct ww_pool *p);
-/* Called in a crowd before a context begins: waits for a permit, until a time if that isn't NULL. */
-WW_HIDDEN void ww_await_permit(struct ww_pool *p, const struct timespec *until);
-/* How many threads wait for one. */
-static inline uint32_t permit_seekers(const struct ww_pool *p) { return __atomic_load_n(&p->crowd.waiting, __ATOMIC_RELAXED); }
+/*
+ * Called in a crowd before a context begins: waits for a permit, until a time if that isn't NULL.  True if it stood in line: then it
+ * counts as one that waits, so that nobody frees the class, until ww_has_begun is called, once it has a seat.
+ */
+WW_HIDDEN bool ww_await_permit(struct ww_pool *p, const struct timespec *until);
+/* This thread has waited for a lock for so long. */
+WW_HIDDEN void ww_has_waited(struct ww_pool *p, uint64_t now, uint64_t took);
+/*
+ * At first so many, later at least and at most so many, or no limit, from which `widest` is tried; more than the first are tried first if
+ * that is wider, and else fewer.  They are counted until there are `many` or more.
+ */
+WW_HIDDEN void ww_gate_open(struct ww_gate *gate, uint32_t least, uint32_t first, uint32_t widest, uint32_t most, uint32_t many);
+/* By now so many contexts have begun; `waited` changes if somebody waits at the gate.  False once it is of no use. */
+WW_HIDDEN bool ww_gate_look(struct ww_gate *gate, uint64_t now, uint64_t begun, uint64_t waited);
+/* How many threads wait for one. Who frees the class at 0 sees the seats of those that did. */
+static inline uint32_t permit_seekers(const struct ww_pool *p) { return __atomic_load_n(&p->crowd.waiting, __ATOMIC_ACQUIRE); }
+static inline void ww_has_begun(struct ww_pool *p) { __atomic_sub_fetch(&p->crowd.waiting, 1, __ATOMIC_RELEASE); }
 static inline bool is_crowded(const struct ww_pool *p) { return __atomic_load_n(&p->at_hand, __ATOMIC_RELAXED) == CROWDED; }
+/* Whether this thread begins one more context with its permit, without a look at the clock. */
+static inline bool has_permit(const struct ww_pool *p)
+{
+	if (ww_mine.permit.id != p->id || !ww_mine.permit.at_once)
+		return false;
+	ww_mine.permit.at_once--;
+	ww_mine.permit.begun++;
+	return true;
+}
 /* Whether the mutex could be acquired. It may be out of date when it returns, unless nobody else uses the mutex. */
 WW_HIDDEN bool ww_is_released(struct ww_pool *p, struct ww_mutex *m);
 
@@ -222,13 +312,19 @@ static inline void count(uint64_t *counted)
 static inline uint32_t taken_numbers(const struct ww_pool *p) { return __atomic_load_n(&p->taken, __ATOMIC_ACQUIRE); }
 
 /* The number of seats that contexts may have. */
-static inline uint32_t seats_of(const struct ww_pool *p) { return p->threads.count + p->tasks.count; }
+static inline uint32_t seats_of(const struct ww_pool *p) { return p->threads.count; }
 
 /* The seats that polls use. */
 static inline struct ww_seats *of_tasks(struct ww_pool *p) { return p->tasks.count ? &p->tasks : &p->threads; }
 
 /* NULL if it has no number.  Otherwise the caller sees its number too, whichever thread gave it. */
 static inline struct ww_pool *pool_at(const struct ww_mutex *m) { return __atomic_load_n(&m->pool, __ATOMIC_ACQUIRE); }
+
+/*
+ * The context that holds it.  Only the mutex's holder writes `ctx` and `alone`, `ctx` relaxed: the lock orders one holder's accesses
+ * before the next one's, and for all others what they read is a hint.  `alone` leads others into the seat.
+ */
+static inline struct ww_acquire_ctx *holder_of(const struct ww_mutex *m) { return __atomic_load_n(&m->ctx, __ATOMIC_RELAXED); }
 
 /* The seat by which it is held without a context, or NULL: anything else that lies there is even. */
 static inline ww_seat *seat_of(const struct ww_mutex *m)
@@ -292,12 +388,13 @@ static inline bool claim(ww_seat *s, uint32_t *was)
 	return false;
 }
 
-static inline bool has_due(const struct ww_seats *of) { return __atomic_load_n(&of->due, __ATOMIC_SEQ_CST); }
+/* Whether one that comes has to wait, even if a seat is free: for threads, which get seats in turn. */
+static inline bool is_barred(const struct ww_pool *p) { return has_seekers(&p->threads); }
 
-/* Whether one that comes has to wait for others, even if a seat is free. */
-static inline bool is_barred(const struct ww_seats *of, const struct ww_pool *p)
+/* How many of the seats may be claimed. */
+static inline uint32_t open_seats(const struct ww_seats *of, const struct ww_pool *p)
 {
-	return of == &p->threads ? has_seekers(of) : has_due(of);
+	return of == &p->threads ? of->count : __atomic_load_n(&of->limit, __ATOMIC_SEQ_CST);
 }
 
 /* The seat that this thread used last, if it belongs to the class, or the tasks, with this number, and is free. */
@@ -305,8 +402,9 @@ static inline ww_seat *claim_last(const struct ww_seats *of, const struct ww_poo
 {
 	ww_seat *s = ww_mine.last.seat;
 	uint32_t was;
+	bool may = LIKELY(ww_mine.last.id == id) && LIKELY(!is_barred(p)) && (of == &p->threads || LIKELY(s < &of->seats[open_seats(of, p)]));
 
-	return LIKELY(ww_mine.last.id == id) && LIKELY(!is_barred(of, p)) && LIKELY(claim(s, &was)) ? s : NULL;
+	return may && LIKELY(claim(s, &was)) ? s : NULL;
 }
 
 /*
@@ -402,12 +500,16 @@ WW_HIDDEN int ww_lock_by(struct ww_mutex *m, struct ww_acquire_ctx *x, ww_seat *
 WW_HIDDEN int ww_lock_on(struct ww_mutex *m, struct ww_acquire_ctx *x, ww_seat *s, int r, const struct ww_wait *how);
 /* Makes all steps of a release after the first one, which returned r, not 0. */
 WW_HIDDEN int ww_release_on(ww_seat *s, int r);
+/* A trylock by a context: 0, or -EBUSY, or another error if the context may acquire nothing. */
+WW_HIDDEN int ww_try_by(struct ww_mutex *m, struct ww_acquire_ctx *x);
 /* Locks in a loop. */
 WW_HIDDEN int ww_lock_in_loop(struct ww_mutex *m, struct ww_acquire_ctx *x, const struct ww_wait *how);
 /* What a lock call in a loop returns, if the proved library returned r. */
 WW_HIDDEN int ww_looped(struct ww_mutex *m, struct ww_acquire_ctx *x, int r);
 /* Whether a lock call of a mutex that its context holds already succeeds: see ww_loop.c. */
 WW_HIDDEN bool ww_has_for(struct ww_acquire_ctx *x, struct ww_mutex *m, bool twice);
+/* Whether the context has waited for the mutex before the body of its loop asked for it, as that has yet to do. */
+static inline bool owes_it(const struct ww_acquire_ctx *x, const struct ww_mutex *m) { return x->state & IS_PRELOCKED && x->prelocked == m; }
 /* Removes the mutex from the list of what the context acquired. */
 static inline void unlist(struct ww_acquire_ctx *x, const struct ww_mutex *m)
 {
@@ -427,26 +529,31 @@ static inline void unlist(struct ww_acquire_ctx *x, const struct ww_mutex *m)
 #define ww_debug_leak(of, why) say_of((of)->pool->class_, "a wait for a context", why)
 #define ww_debug_left(p) NULL
 #define ww_debug_busy(left) ((void)(left))
-#define ww_debug_fault(call, why) ((void)(call), (void)(why))
-#define ww_debug_refuses(x) false
+#define ww_debug_fault(c, call, why) ((void)(c), (void)(call), (void)(why))
+#define ww_debug_unheld(m) ((void)(m), false)
+#define ww_debug_refuses(call, m, x) false
 #define ww_debug_told(m, x, r, injects) (r)
 #define ww_debug_injected(m, x) false
 #define ww_debug_lists() false
 #endif
 
-/* Writes a message, with the name of the class, if that isn't NULL. */
+/* Writes a message, with the name of the class, if that isn't NULL.  A thread that waits, which others know, doesn't end meanwhile. */
 __attribute__((cold)) static inline void say_of(const struct ww_class *c, const char *call, const char *why)
 {
+	int may_end;
+
+	pthread_setcancelstate(PTHREAD_CANCEL_DISABLE, &may_end);
 	fprintf(stderr, "%s: ", call);
 	if (c && c->name)
 		fprintf(stderr, "class \"%s\": ", c->name);
 	fprintf(stderr, "%s\n", why);
+	pthread_setcancelstate(may_end, NULL);
 }
 
 /* Ends the program with a message, with the name of the class, if that isn't NULL. */
 __attribute__((noreturn, cold)) static inline void end_of(const struct ww_class *c, const char *call, const char *why)
 {
-	ww_debug_fault(call, why);
+	ww_debug_fault(c, call, why);
 	say_of(c, call, why);
 	abort();
 }
@@ -458,12 +565,17 @@ static inline const char *told(int r)
 {
 	switch (r) {
 	case -ENOMEM: return "there is no memory to open it";
-	case -ENOSPC: return "all its mutexes are in use (one that is freed without ww_mutex_destroy keeps its place)";
+	case -ENOSPC: return "all its mutexes are in use: 65,536, or as many as ww_class_limit set (one that is freed without ww_mutex_destroy "
+			     "keeps its place)";
 	case -EAGAIN: return "all its contexts are in use";
 	default: return "it was opened before a fork, of which this is the child, or was never initialized";
 	}
 }
 
 /* Whether a thread can sleep until this time; NULL is forever. */
-static inline bool is_time(const struct timespec *at) { return !at || (at->tv_nsec >= 0 && at->tv_nsec < 1000000000); }
+static inline bool is_time(const struct timespec *at)
+{
+	DEBUG(ww_debug_time(at));
+	return !at || (at->tv_nsec >= 0 && at->tv_nsec < 1000000000);
+}
 #endif

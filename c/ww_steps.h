@@ -44,14 +44,12 @@ typedef struct {
 
 /*
  * What a step returns besides 0 and a negative errno: its call needs another step, by ww_go_on_.  Until the call has ended,
- * any other call with the handle but ww_heed_ returns -EBUSY.  With an empty handle each call returns -EINVAL, except
- * ww_idle_, ww_close_ and ww_held_, which return 0.
+ * any other call with the handle but ww_heed_, ww_look_ and ww_is_wounded_ returns -EBUSY.  With an empty handle each call returns
+ * -EINVAL, except ww_idle_, ww_close_ and ww_held_, which return 0.
  */
 enum {
-	WW_AGAIN = 1,	/* immediately: the seat may be inside a guard, where it holds up everybody else */
-	WW_STAYS = 2,	/* after as many pauses of the processor as ww_go_on_ wrote into rest */
+	WW_AGAIN = 1,	/* of ww_go_on_, immediately: the seat is inside a guard, where it holds up everybody else */
 	WW_SLEEPS = 3,	/* once somebody has woken the seat, to whom ww_next_wake_ named it */
-	WW_YIELDS = 4,	/* as WW_STAYS; during these pauses it is best to let other threads run */
 	WW_AWAITS = 5,	/* once the seat that is inside has left: after a pause, and after a short sleep if that lasts */
 };
 
@@ -99,13 +97,27 @@ WW_MUST_CHECK size_t ww_unlock_each_(ww_handle *seat, const uint32_t locks[WW_KE
  * tells nothing of later.  -EINVAL: no such lock.
  */
 WW_MUST_CHECK int32_t ww_is_free_(ww_handle *seat, uint32_t lock);
+/* What ww_look_ returns of a lock that nobody owns, and somebody waits for; and what it adds by the age of the owner's context. */
+enum { WW_NOBODY_ = 32768, WW_OLDER_ = 8192, WW_YOUNGER_ = 16384 };
+/*
+ * Returns 0 if nobody owns the lock or waits for it, or else 1 more than the number of its owner's seat, as one look at the lock's
+ * word tells; it acquires nothing, and tells nothing of later.  If both seats have contexts, WW_OLDER_ or WW_YOUNGER_ is added: what
+ * the owner's is beside this seat's.  It is possible also while a call is on its way.  -EINVAL: no such lock; -EBUSY: the seat is
+ * inside a guard, after WW_AGAIN of ww_go_on_.
+ */
+WW_MUST_CHECK int32_t ww_look_(ww_handle *seat, uint32_t lock);
+/*
+ * Returns 1 if the seat holds a lock and an older context has wounded its own: so a lock call returns -EDEADLK once it waits, unless
+ * its lock is released first.  Else 0.  It is possible when ww_look_ is.
+ */
+WW_MUST_CHECK int32_t ww_is_wounded_(ww_handle *seat);
 /* Returns 0 if the seat holds the lock, else -EINVAL. */
 WW_MUST_CHECK int32_t ww_has_(ww_handle *seat, uint32_t lock);
 /* Returns how many it holds. */
 size_t ww_held_(ww_handle *seat);
 
-/* Makes another step of the call that hasn't ended, and writes how many pauses come after it. -EINVAL: there is none. */
-WW_MUST_CHECK int32_t ww_go_on_(ww_handle *seat, uint32_t *rest);
+/* Makes another step of the call that hasn't ended. -EINVAL: there is none. */
+WW_MUST_CHECK int32_t ww_go_on_(ww_handle *seat);
 /*
  * After WW_SLEEPS, 0, an error, and ww_cancel_: returns the number of a seat that has to be woken, each once, and no other;
  * -EINVAL: there are no more.
@@ -119,8 +131,8 @@ int32_t ww_cancel_(ww_handle *seat, uint16_t victim);
 /*
  * From now on the wait of the call that hasn't ended heeds cancels, as if that had begun so: one that is pending ends it, by
  * the next steps.  So a seat ends its own wait: before the call ww_cancel_ cancels its own number, which stays pending while
- * the wait heeds none; then ww_heed_.  -EINVAL: no call is on its way; -EBUSY: the seat is inside a guard, as it may be after
- * WW_AGAIN but not after another answer to a lock call; or the call releases a lock.
+ * the wait heeds none; then ww_heed_.  -EINVAL: no call is on its way; -EBUSY: the seat is inside a guard, as it is after
+ * WW_AGAIN of ww_go_on_ and after no other answer to a lock call; or the call releases a lock.
  */
 int32_t ww_heed_(ww_handle *seat);
 

@@ -131,9 +131,10 @@ def typed(value, kind, spot):
 
 
 def keys(value, due, spot):
+    other = next((f", but {shown(it)}" for it in value if it not in due), "")
     for key in due:
         if key not in value:
-            raise Fault(11, spot, f'has no key "{key}"')
+            raise Fault(11, spot, f'has no key "{key}"{other}')
     for key in value:
         if key not in due:
             raise Fault(11, spot, f"has the key {shown(key)}, which isn't due there")

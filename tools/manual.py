@@ -109,9 +109,12 @@ def page(header, version):
         raise SystemExit(f"pages: {name}.h has no comment right above {', '.join(sorted(left))}")
     made = [f'.TH {name.upper()} 3 "" "libww {version}" "Wound/wait locks"']
     made += ['.\\" Written by tools/pages from the header: change its comments, not this page.', ".nh"]
-    made += [".SH NAME", f"{name} \\- {what}", ".SH SYNOPSIS", ".nf", f".B #include <{name}.h>", ".PP"]
+    debugs = name == "ww_mutex_debug"
+    included = [".B #define WW_DEBUG", ".B #include <ww_mutex.h>"] if debugs else [f".B #include <{name}.h>"]
+    made += [".SH NAME", f"{name} \\- {what}", ".SH SYNOPSIS", ".nf", *included, ".PP"]
     made += [line for _, calls, *_ in parts for it in calls for line in declared(*it)]
-    made += [".fi", ".PP", r"Link with \fI\-lww \-pthread\fP.", ".SH DESCRIPTION", *told(head[2:], ".PP")]
+    library = r"\-lww_debug" if debugs else r"\-lww"
+    made += [".fi", ".PP", rf"Link with \fI{library} \-pthread\fP.", ".SH DESCRIPTION", *told(head[2:], ".PP")]
     made += [".SH CALLS", "If nothing else is said, 0 is success, and an error a negative number of", ".BR errno (3)."]
     made += entries(parts)
     other = "ww_number" if name == "ww_mutex" else "ww_mutex"
@@ -137,7 +140,9 @@ def program(formats, version):
     made += ['.\\" Written by tools/pages from docs/FORMATS.md, which says more: change that, not this page.', ".nh"]
     made += [".SH NAME", r"ww_run \- run transactions under wound/wait locks, or replay a schedule of lock events"]
     made += [".SH SYNOPSIS", r"\fBww_run\fP < \fIINPUT\fP", ".SH DESCRIPTION", prose(head), ".PP", prose(reads)]
-    made += [".PP", r"FORMATS.md in \fIshare/doc/ww\fP says what an input may have, and what is printed.", ".SH EXIT STATUS"]
+    made += [".PP", r"FORMATS.md in \fIshare/doc/ww\fP says what an input may have, and what is printed. Of the tools in"]
+    made += [r"\fIshare/ww/tools\fP \fBexplain\fP says where an input is wrong, and why; \fBtrace\fP and \fBpicture\fP show what was"]
+    made += [r"printed; \fBjson\fP lays an input out.", ".SH EXIT STATUS"]
     for number, when, written in rows:
         made += [".TP", f".B {number}", prose(f"{when}: {written}.")]
     return "\n".join([*made, ".PP", prose(" ".join(status[2].split())), ".SH SEE ALSO", ".BR ww_mutex (3)", ""])

@@ -20,9 +20,7 @@ static int go_on(int seat)
 	int answer;
 
 	do {
-		uint32_t rest; /* nobody else runs meanwhile, so it needs none */
-
-		answer = ww_go_on_(&seats[seat], &rest);
+		answer = ww_go_on_(&seats[seat]);
 		for (int k; (k = ww_next_wake_(&seats[seat])) >= 0;)
 			woken[k]++;
 	} while (answer > 0 && answer != WW_SLEEPS);

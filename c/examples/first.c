@@ -55,6 +55,6 @@ int main(void)
 		pthread_join(threads[k], NULL);
 	for (int k = 0; k < 8; k++)
 		sum += bank[k].money;
-	printf("after 400,000 transfers the sum is %ld\n", sum);
+	printf("after 400,000 transfers the sum is %ld, and 0 is right\n", sum);
 	return sum != 0;
 }

@@ -5,7 +5,7 @@ import random
 import sys
 import threading
 
-sys.path.insert(0, os.path.join(os.path.dirname(os.path.abspath(__file__)), "../python"))  # where it isn't installed
+sys.path.append(os.path.join(os.path.dirname(os.path.abspath(__file__)), "../python"))  # where it isn't installed
 import ww
 
 LIBRARY = sys.argv[1] if sys.argv[1:] else None  # the installed one

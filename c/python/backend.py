@@ -32,7 +32,7 @@ def version():
 
 
 def pack(folder, library, platform, more=()):
-    """Writes the wheel of this library into the folder, and returns its name."""
+    """Writes the wheel of this library, and of the debug library if that lies beside it, into the folder, and returns its name."""
     number, tag = version(), f"py3-none-{platform}"
     info = f"{NAME}-{number}.dist-info"
     metadata = f"Metadata-Version: 2.1\nName: {NAME}\nVersion: {number}\nSummary: wound/wait mutexes over a proved core\nRequires-Python: >=3.9\n"
@@ -43,6 +43,9 @@ def pack(folder, library, platform, more=()):
         f"{info}/METADATA": metadata.encode(),
         f"{info}/WHEEL": f"Wheel-Version: 1.0\nGenerator: {NAME}\nRoot-Is-Purelib: false\nTag: {tag}\n".encode(),
     }
+    debug = library.replace("libww", "libww_debug")
+    if os.path.exists(debug):
+        files[f"ww/libww_debug.so.{number.split('.', maxsplit=1)[0]}"] = read(debug)
     files |= {f"{info}/{os.path.basename(it)}": read(it) for it in more}
     sums = {it: base64.urlsafe_b64encode(hashlib.sha256(text).digest()).rstrip(b"=").decode() for it, text in files.items()}
     record = "".join(f"{it},sha256={sums[it]},{len(text)}\n" for it, text in files.items()) + f"{info}/RECORD,,\n"
@@ -60,7 +63,7 @@ def pack(folder, library, platform, more=()):
 def build_wheel(wheel_directory, config_settings=None, metadata_directory=None):
     """Called by pip."""
     with tempfile.TemporaryDirectory() as out:
-        subprocess.run(["make", "-s", "-C", C, f"OUT={out}", f"{out}/libww.so"], check=True)
+        subprocess.run(["make", "-s", "-C", C, f"OUT={out}", f"{out}/libww.so", f"{out}/libww_debug.so"], check=True)
         platform = re.sub(r"[-.]", "_", sysconfig.get_platform())
         return pack(wheel_directory, f"{out}/libww.so", platform)
 

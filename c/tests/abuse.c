@@ -124,6 +124,16 @@ static void any(struct mine *m, unsigned op, unsigned n, bool heeds)
 		r = ww_is_free_(h, (uint8_t)n);
 		MUST(r == -EBUSY || (!m->pending && (r == -EINVAL ? n >= LOCKS : n >= LOCKS || !m->own[n])));
 		break;
+	case 13:
+		r = ww_look_(h, (uint8_t)n);
+		MUST(r == -EBUSY ? m->pending : n < NONE ? r >= 0 && r <= WW_NOBODY_ : r == -EINVAL);
+		MUST(r == -EBUSY || n >= LOCKS || !m->own[n] || r == (int)m->me + 1);
+		r = 0;
+		break;
+	case 14:
+		r = ww_is_wounded_(h);
+		MUST(r == 0 || r == 1 || (r == -EBUSY && m->pending));
+		break;
 	default:
 		r = turn(h);
 		ends(m, r);
@@ -159,6 +169,7 @@ static void empty_handles(ww_handle *h)
 	MUST(ww_begin_(h) == -EINVAL && ww_end_(h) == -EINVAL && ww_done_(h) == -EINVAL);
 	MUST(ww_lock_(h, 0, true) == -EINVAL && ww_lock_slow_(h, 0, false) == -EINVAL && ww_try_(h, 0) == -EINVAL);
 	MUST(ww_unlock_(h, 0) == -EINVAL && ww_has_(h, 0) == -EINVAL && ww_is_free_(h, 0) == -EINVAL && ww_heed_(h) == -EINVAL);
+	MUST(ww_look_(h, 0) == -EINVAL && ww_is_wounded_(h) == -EINVAL);
 	MUST(turn(h) == -EINVAL && ww_cancel_(h, 0) == -EINVAL && ww_next_wake_(h) == -EINVAL && !ww_idle_(h) && !ww_close_(h));
 }
 

@@ -6,7 +6,7 @@
  */
 #include "mutex_test.h"
 #include "../ww_number.h"
-#include "../ww_poll.h"
+#include "../ww_pool.h"
 #include <signal.h>
 
 enum { WORLDS = 2, TASKS = 7, OBJECTS = 4, LOCKS = 6, SAID = 64, LATEST = 24 };
@@ -17,11 +17,12 @@ struct task {
 	struct ww_acquire_ctx x;
 	struct ww_seek seek;
 	enum { ENDED, SEEKS, BEGUN } phase;
-	enum { NOT_LENT, LENT, CALLED, TAKEN } waker; /* TAKEN: back, so nobody calls it */
+	enum { NOT_LENT, LENT, WAS_CALLED, TAKEN } waker; /* TAKEN: back, so nobody calls it */
 	bool is_ended;	  /* what is in x may be used, and is refused; else it has never begun */
 	bool of_tasks;	  /* its context is one of those that tasks have for themselves */
-	enum { WAITS, IS_CALLED, DUE, SERVED } place; /* where it stands, while it seeks: see ww_pool.c */
-	const void *seat; /* for which it was called, or which it got, where tasks have contexts of their own */
+	unsigned place;	  /* WAITS, CALLED or SERVED: where it stands, while it seeks: see ww_pool.c */
+	int looks;	  /* how often it has looked since it was called */
+	const void *seat; /* which it got */
 	int polled;	  /* the lock for which it waits, or NOBODY */
 	int held[LOCKS];  /* the oldest first */
 	int count;
@@ -169,44 +170,21 @@ static void no_wait_for_what_is_free(int k)
 	IS(w->holder[k] != NOBODY || !lent || will_look);
 }
 
-static bool is_used(const void *seat)
-{
-	for (int j = 0; j < TASKS; j++) {
-		const struct task *t = &w->tasks[j];
-
-		if (t->phase == BEGUN ? t->x.own == seat : t->phase == SEEKS && t->place == SERVED && t->seat == seat)
-			return true;
-	}
-	return false;
-}
-
-/* The first in the queue that stands there, or is called for this seat, if that isn't NULL; or NULL. */
-static struct task *first_that(unsigned place, const void *seat)
-{
-	for (int j = 0; j < w->queued; j++) {
-		struct task *t = &w->tasks[w->queue[j]];
-
-		if (t->place == place && (!seat || t->seat == seat))
-			return t;
-	}
-	return NULL;
-}
+/* The first in the queue, or NULL. */
+static struct task *first(void) { return w->queued ? &w->tasks[w->queue[0]] : NULL; }
 
 /* Who was called, or has a context, was told so; and no context is free for which somebody waits whom nobody called. */
 static void no_wait_for_a_free_context(void)
 {
-	int called = 0;
-
 	for (int j = 0; j < TASKS; j++) {
 		const struct task *t = &w->tasks[j];
 
 		if (t->phase != SEEKS)
 			continue;
-		IS(t->waker == TAKEN || (t->waker == CALLED) == (t->place == IS_CALLED || t->place == SERVED));
-		called += t->place == IS_CALLED && !is_used(t->seat);
+		IS(t->waker == TAKEN || (t->waker == WAS_CALLED) == (t->place == CALLED || t->place == SERVED));
+		IS(t->place != CALLED || t == first());
 	}
-	IS(used() == w->contexts || !first_that(DUE, NULL));
-	IS(w->contexts - used() <= called || !first_that(WAITS, NULL));
+	IS(used() == w->contexts || !first() || first()->place == CALLED);
 }
 
 static void all_is_so(void)
@@ -251,7 +229,7 @@ static void wake(void *world, void *task)
 	struct ww_class_counts counts;
 
 	IS(t->waker == LENT);
-	t->waker = CALLED;
+	t->waker = WAS_CALLED;
 	ww_class_stats(&of->c, &counts);
 }
 static void never(void *world, void *task)
@@ -671,24 +649,34 @@ static void leaves_queue(const struct task *t)
 	w->queued = left;
 }
 
+/* The first one looks for a context, unless there is none. */
+static void is_to_look(void)
+{
+	if (!first())
+		return;
+	first()->place = CALLED;
+	first()->looks = 0;
+}
+
+/* It leaves the queue; if it was called, the next one is. */
 static void has_got(struct task *t, const void *seat)
 {
+	bool was_called = t->place == CALLED;
+
 	t->place = SERVED;
 	t->seat = seat;
 	leaves_queue(t);
+	if (was_called)
+		is_to_look();
 }
 
-/* A context ended, and its seat is free: in a limited class it is the first one's; else it is that of who is due, or offered. */
-static void is_given(const void *seat)
+/* A context ended: it is handed to the first one, in a limited class, or if it isn't lent; else that is called. */
+static void is_given(const void *seat, bool is_lent)
 {
-	struct task *first = first_that(w->is_limited ? WAITS : DUE, NULL);
-
-	if (first) {
-		has_got(first, seat);
-	} else if ((first = first_that(WAITS, NULL)) && !first_that(IS_CALLED, seat)) {
-		first->place = IS_CALLED;
-		first->seat = seat;
-	}
+	if (first() && !is_lent)
+		has_got(first(), seat);
+	else if (first() && first()->place == WAITS)
+		is_to_look();
 }
 
 /* A first call to begin one; r is what it returns if there is none. */
@@ -745,18 +733,21 @@ static void begin(struct task *t)
 	}
 }
 
-/* Whoever was called looks: for the seat for which it was, or any other. Returns whether it finds one. */
+/* Whoever was called looks; in vain, it looks so often again before it waits. Returns whether it finds one. */
+enum { LOOKS = 16 };
 static bool finds_one(struct task *t)
 {
-	if (t->place == IS_CALLED)
-		t->place = used() < w->contexts ? SERVED : w->queue[0] == id(t) ? DUE : WAITS;
+	if (t->place == CALLED && used() < w->contexts)
+		has_got(t, NULL);
+	else if (t->place == CALLED && t->looks++ == LOOKS)
+		t->place = WAITS;
 	return t->place == SERVED;
 }
 
 /* Another poll for a context. */
 static void seek_on(struct task *t)
 {
-	bool lent = !rarely(5), leaves = !lent && t->place == IS_CALLED && !is_used(t->seat);
+	bool lent = !rarely(5), leaves = !lent && t->place == CALLED;
 	struct ww_waker waker = { 0 };
 	int r;
 
@@ -773,16 +764,19 @@ static void seek_on(struct task *t)
 	t->phase = ENDED;
 	t->is_ended = true;
 	if (leaves)
-		is_given(t->seat);
+		is_to_look();
 	if (!r)
 		has_begun(t, !w->is_limited);
 }
 
 static void end_context(struct task *t)
 {
-	const void *seat = t->x.own;
+	ww_seat *seat = t->x.own;
+	bool is_lent = t->of_tasks && draw(2);
 	int r;
 
+	if (t->of_tasks)
+		seat->lent = is_lent ? UINT64_MAX : 0;
 	if (draw(2) || t->count) {
 		CALL(r, t, 0, ww_acquire_fini_checked(&t->x));
 		IS(r == (t->count ? -EINVAL : 0));
@@ -795,7 +789,7 @@ static void end_context(struct task *t)
 		return;
 	t->phase = ENDED;
 	if (w->is_limited || t->of_tasks)
-		is_given(seat);
+		is_given(seat, is_lent);
 }
 
 /* ---- calls that are refused, and change nothing ---- */
@@ -913,7 +907,7 @@ static void alone(int k)
 		}
 		w->holder[k] = NOBODY;
 		if (w->is_limited)
-			is_given(NULL);
+			is_given(NULL, false);
 		return;
 	}
 	if (locks)
@@ -974,7 +968,7 @@ static void cancel(struct task *t)
 	CALL(r, t, 0, ww_acquire_cancel(&t->x));
 	IS(r == (t->cancelled ? -EALREADY : 0));
 	t->cancelled = true;
-	IS(!lent || t->waker == CALLED);
+	IS(!lent || t->waker == WAS_CALLED);
 }
 
 static void sets(struct task *t)
@@ -1022,7 +1016,7 @@ static void step(void)
 			takes_back(t);
 		else if (rarely(4))
 			with_none(t);
-		else if (t->waker == CALLED || rarely(3)) /* those that are called come late, too */
+		else if (t->waker == WAS_CALLED || rarely(3)) /* those that are called come late, too */
 			seek_on(t);
 	} else if (t->polled != NOBODY) {
 		switch (draw(8)) {
@@ -1111,12 +1105,13 @@ static void close_world(void)
 	IS(!r);
 }
 
-/* How many contexts tasks have is found out by beginning them. */
+/* How many contexts tasks have is found out by beginning them, and stays so: nobody measures. */
 static int contexts_of_tasks(void)
 {
 	struct ww_acquire_ctx all[64];
 	int count = 0;
 
+	w->c.pool->tasks.due = UINT64_MAX;
 	while (count < 64 && !ww_acquire_init_poll(&all[count], &w->c, NULL, NULL))
 		count++;
 	for (int k = 0; k < count; k++)

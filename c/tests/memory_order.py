@@ -270,8 +270,8 @@ def arm_model(events, sb, rf, mo, lse):
 
 # ---- the sources ----
 
-SOURCES = ["ww.c", "ww_pool.h", "ww_pool.c", "ww_crowd.c", "ww_context.c", "ww_mutex.h", "ww_mutex.c", "ww_loop.c", "ww_number.h", "ww_number.c",
-           "ww_inside.h", "ww_poll.c", "ww_debug.h", "ww_debug.c"]
+SOURCES = ["ww.c", "ww_pool.h", "ww_pool.c", "ww_crowd.c", "ww_context.c", "ww_mutex_inline.h", "ww_mutex.c", "ww_loop.c", "ww_number.h", "ww_number.c",
+           "ww_inside.h", "ww_poll.c", "ww_shared.c", "ww_debug.h", "ww_debug.c"]
 SHORT = {"RELAXED": "rlx", "ACQUIRE": "acq", "RELEASE": "rel", "ACQ_REL": "ar", "SEQ_CST": "sc"}
 
 # Of each field, in each function that has it, in the order of the text: its accesses, and what orders them. Of a
@@ -279,7 +279,7 @@ SHORT = {"RELAXED": "rlx", "ACQUIRE": "acq", "RELEASE": "rel", "ACQ_REL": "ar", 
 TABLE = {
     # A token that was given is taken away before its thread looks at the state again, which the giver changed before.
     "token": {
-        "park": "load sc, load sc, exchange sc", "ww_unpark": "load sc, compare_exchange sc/sc",
+        "park": "load sc, load sc, store sc", "ww_unpark": "load sc, compare_exchange sc/sc",
         "is_parked": "load sc", "arm": "compare_exchange sc/sc, store sc", "ww_disarm": "compare_exchange sc/sc",
     },
     # Tasks that were woken, and what they wrote before.
@@ -296,7 +296,7 @@ TABLE = {
     # A mutex's holder alone writes these, and the lock orders holders; whoever else looks has only a glance, or takes the lock.
     "ctx": {
         "ww_mutex_is_held_by": "load rlx", "WW_HOLDS_": "store rlx", "WW_HOLDS_NO_MORE_": "store rlx",
-        "ww_mutex_unlock": "load rlx", "holder": "load rlx", "own": "store rlx", "release_all": "store rlx",
+        "ww_mutex_unlock": "load rlx", "holder_of": "load rlx", "own": "store rlx", "release_all": "store rlx",
         "ww_mutex_unlock_checked": "store rlx", "ww_number_told": "load rlx, store rlx", "ww_number_unlock": "store rlx",
     },
     # By it others look who uses the seat, which was said before.
@@ -314,11 +314,30 @@ TABLE = {
         "ww_mutex_end_": "load sc", "begin_wait": "fetch_add sc", "end_wait": "fetch_sub sc",
         "lock_by_any": "fetch_add sc, fetch_sub sc", "ww_number_put": "load sc, compare_exchange sc/sc",
         "ww_number_take": "fetch_add rlx",
+        "wait_first": "load rlx", # whether it is a desk's, which it always is
+    },
+    # A reader marks, and then looks whether the mutex is free; a writer has that, and then looks for bits, desks and marks. Of bits
+    # the same: who finds its mutex free again, after another had it, finds the bit that this one cleared gone.
+    "readers_": {"is_read": "load sc"},
+    "readers": {
+        "reads_at_once": "load sc, fetch_or sc, load sc", "read_held": "fetch_or sc",
+        "await_readers": "load sc, fetch_and sc", "write_by": "load sc",
+    },
+    "desks": {"make_desk": "store sc", "is_read": "load sc", "await_readers": "load sc"},
+    # What was read comes before a mark that is gone. Others than its own thread look at marks alone.
+    "marks": {
+        "mark": "exchange sc", "unmark": "store rel", "wipe": "store rel", "await_desk": "load sc", "reads_it": "load acq",
+        "is_marked": "load rlx", "reads_at_once": "load rlx", "read_held": "load rlx",
+    },
+    # Whoever sees a read sees that the marks from before it are gone.
+    "reads": {
+        "sit": "store rlx", "sit_for_certain": "store rlx", "reads_more": "store rel", "reads_it": "load acq",
+        "reads_on": "store rlx",
     },
     # All of an open class; and of a mutex the number, which its first lock may just have given it.
     "pool": {
         "pool_of": "load acq, load acq", "pool_at": "load acq", "open_now": "store rel", "ww_number_at_first": "store rel",
-        "ww_class_free": "store rel", "ww_class_limit": "load rlx", "ww_class_crowd": "load rlx", "ww_acquire_init": "load acq", "ww_acquire_init_checked": "load acq", "ww_acquire_init_poll": "load acq", "ww_mutex_lock": "load acq",
+        "ww_class_free": "store rel", "is_open": "load rlx", "ww_acquire_init": "load acq", "begin_by_any": "load acq", "ww_acquire_init_poll": "load acq", "ww_mutex_lock": "load acq",
         "ww_mutex_trylock": "load acq", "ww_mutex_end_": "store rel", "ww_number_take": "store rel",
     },
     # The mutexes of numbers, which are empty then.
@@ -329,60 +348,80 @@ TABLE = {
     "busy": {
         "use_kept": "load acq, store rlx", "give_seat": "store rel",
         "let_go": "compare_exchange ar/acq, store sc", "keep": "store sc", "claim": "load sc, compare_exchange sc/sc",
-        "give_kept": "compare_exchange sc/sc", "ww_give_seat": "load rlx, fetch_add sc", "is_idle": "load acq", "has_another": "load rlx",
-        "offer": "load sc, fetch_add sc", "look": "fetch_sub sc", "ww_leave_queue": "sub_fetch sc",
+        "give_kept": "compare_exchange sc/sc", "ww_give_seat": "load rlx, fetch_add sc", "is_idle": "load acq", "is_used": "load rlx",
+        "give_shared": "fetch_add sc", "hands_over": "fetch_add sc", "given": "load rlx", "ww_class_stats": "load rlx",
     },
+    # Who was called says first that nobody is, and then looks for a seat; whoever gives one looks the other way round.
+    "called": {"call_first": "store sc", "give_shared": "load sc", "look": "store sc"},
+    # Written under the lock of the queue. Who claims a seat by an older limit does what it might have done before.
+    "limit": {"look_at_gate": "store sc", "open_seats": "load sc", "claim_from": "load sc"},
     # Hints: whoever sees them late waits for a permit without need, for a while, or begins without one.
     "at_hand": {
-        "seat_at_hand": "load rlx", "ww_other_seat": "load rlx", "ww_seat_to_begin": "load rlx", "is_crowded": "load rlx", "be": "store rlx", "set_id": "store rlx",
+        "seat_at_hand": "load rlx", "ww_other_seat": "load rlx", "is_crowded": "load rlx", "be": "store rlx", "set_id": "store rlx",
     },
-    "asleep": {"ww_sleeps": "add_fetch rlx", "ww_sleeps_no_more": "sub_fetch rlx", "may_harm": "load rlx"},
-    "backed_off": {"ww_backs_off": "add_fetch rlx"},
-    "harmless": {"ww_crowd_open": "store rlx", "many_sleep": "load rlx", "disperse": "store rlx"},
+    "rests": {"ww_crowd_open": "store rlx", "ww_has_waited": "load rlx", "look": "store rlx"},
+    # Hints for who stays awake, for a while at most.
+    "awaits": {
+        "begin_wait": "store rlx", "end_wait": "store rlx", "is_in_cycle": "load rlx",
+    },
+    # Written under the crowd's lock, and a word for the futex to look at.
+    "is_called": {"call": "store rlx", "stand_in_line": "store rlx"},
+    # A count for the gate.
+    "begun": {"ww_await_permit": "fetch_add rlx", "look": "load rlx"},
     "awaited": {"ww_crowd_open": "store rlx", "ww_class_stats": "load rlx"},
-    # A count, of what a class that is freed may still have; nobody waits for it.
-    "waiting": {"find_permit": "add_fetch rlx", "await_permit": "sub_fetch rlx", "permit_seekers": "load rlx"},
+    # Whoever frees a class at 0 sees the seats, in use, of those that stood in the line.
+    "waiting": {"join": "add_fetch rlx", "ww_has_begun": "sub_fetch rel", "permit_seekers": "load acq"},
     # To all threads but the one that it names, or named, it is the same. Who may be the next keeper is a glance before the lock.
     "keeper": {"give_seat": "load rlx", "let_go": "store rlx", "keep": "store rlx"},
     # How many seats are kept, a hint; whoever sees that it didn't change between two passes saw in both that the same were.
     "kept": {"keeps_more": "store rlx", "any_seat": "load rlx", "tell_leak": "load rlx"},
-    "changed": {"keeps_more": "fetch_add sc", "claim_any": "load sc"},
+    "changed": {"keeps_more": "fetch_add sc", "claim_from": "load sc"},
     # Written before others see the class; whoever serves late finds nobody in the queue, or somebody who saw that.
     "id": {"set_id": "store rlx", "serve": "load rlx"},
     # Whoever gives a seat looks for seekers then; a seeker has said so before it looks for a seat.
-    "seekers": {"has_seekers": "load sc", "take_out": "fetch_sub sc", "ww_queue_up": "fetch_add sc", "ww_debug_seen": "load rlx, load rlx"},
-    # Whoever was called says first that it is due, and then looks for a seat; whoever gives one looks the other way round.
-    "due": {"move_to": "fetch_add sc", "has_due": "load sc"},
+    "seekers": {"has_seekers": "load sc", "take_out": "fetch_sub sc", "ww_queue_up": "fetch_add sc", "ww_debug_seen": "load rlx, load rlx", "ww_class_stats": "load rlx, load rlx"},
+    # When to look at a gate next, which is asked again under its lock.
+    "due": {
+        "ww_crowd_open": "store rlx", "look": "store rlx", "goes_on": "load rlx", "open_seats_of": "store rlx", "look_at_gate": "store rlx",
+        "hands_over": "load rlx",
+    },
     # Changed under the lock of numbers; whoever frees a class at 0 sees all that those wrote who had one.
-    "taken": {"ww_take_number": "fetch_add rlx", "ww_give_number": "fetch_sub rel", "taken_numbers": "load acq"},
+    "taken": {"ww_take_number": "fetch_add rlx", "ww_give_number": "fetch_sub rel", "taken_numbers": "load acq", "make_desk": "fetch_sub rel"},
     # The seat that is handed over, and all that goes with it.
-    "served_": {"move_to": "store rel", "ww_seek_seat": "load acq"},
+    "served_": {"take_out": "store rel", "ww_seek_seat": "load acq"},
     # Counts, which order nothing; and glances of the debug library. What a waiter in its list did before is ordered by its lock.
-    "sought": {"make_pool": "store rlx, store rlx", "ww_class_stats": "load rlx, load rlx"},
+    "sought": {"open_seats_of": "store rlx, store rlx", "ww_class_stats": "load rlx, load rlx"},
     "waits": {"ww_class_stats": "load rlx"},
     "back_offs": {"ww_class_stats": "load rlx"},
-    "is_told": {"make_pool": "store rlx", "look_again": "exchange rlx"},
-    "served": {"look_again": "load rlx"},
+    # Said before a waiter is woken, which looks at it after it took its token away, or was taken out of the queue under its lock.
+    "ends_waits": {"make_pool": "store sc", "ww_ends_waits": "load sc", "ww_class_cancel": "store sc"},
+    "is_told": {"make_pool": "store rlx", "is_stuck": "exchange rlx"},
+    "is_told_of_lock": {"make_pool": "store rlx", "ww_says_if_long": "exchange rlx"},
+    "patience": {"ww_report_long_waits": "store rlx", "ww_patience": "load rlx"},
+    "served": {"is_stuck": "load rlx"},
     "counted": {"count": "store rlx, load rlx", "tell": "fetch_add rlx"},
     "faults": {"ww_debug_faults": "load rlx"},
     "warnings": {"ww_debug_warnings": "load rlx"},
     "is_polled": {
         "user_of": "load rlx", "is_parked": "load rlx", "ww_debug_is_polled": "store rlx", "ww_debug_begun": "store rlx", "ww_debug_ended": "store rlx",
     },
+    "is_said": {"tell_if_unseen": "exchange rlx", "trace": "exchange rlx"},
+    "lies_at": {"ww_debug_made": "store rlx", "is_copy": "load rlx", "why_unheld": "load rlx, load rlx"},
     "told_of": {"is_new": "compare_exchange rlx/rlx"},
     "check_interval": {"ww_debug_check_interval": "store rlx", "ww_debug_waits": "load rlx", "ww_debug_sleeps": "load rlx"},
     "stamps": {"ww_debug_begun": "add_fetch rlx"},
     "endless_waits": {"ww_debug_waits": "add_fetch rlx"},
     "context": {"has": "load rlx", "ww_debug_begun": "store rlx, store rlx", "ww_debug_ended": "store rlx"},
+    "refused": {"has": "load rlx", "refuse": "store rlx", "ww_debug_told": "store rlx", "ww_debug_ended": "store rlx"},
     "stamp": {
         "use": "load rlx", "unuse_if_free": "load rlx", "has": "load rlx", "ww_debug_begun": "store rlx", "ww_debug_ended": "store rlx",
         "is_used": "load rlx", "ww_debug_leak": "load rlx, load rlx", "print_seat": "load rlx",
     },
     "wants": {
-        "has": "load rlx", "ww_debug_waits": "store rlx", "next_wait": "load rlx", "text_of_deadlock": "load rlx",
+        "has": "load rlx", "ww_debug_waits": "store rlx", "next_wait": "load rlx", "print_wait": "load rlx",
         "look_for_long_wait": "load rlx", "print_seat": "load rlx",
     },
-    "tid": {"ww_debug_waits": "store rlx", "text_of_deadlock": "load rlx, load rlx", "print_seat": "load rlx"},
+    "tid": {"use": "store rlx", "text_of_deadlock": "load rlx", "print_wait": "load rlx", "has_ended": "load rlx", "print_seat": "load rlx"},
     "endless": {"ww_debug_waits": "store rlx", "deadlock": "load rlx"},
     "held": {
         "unuse_if_free": "load rlx", "has": "load rlx", "ww_debug_begun": "store rlx",
@@ -392,11 +431,11 @@ TABLE = {
     "line": {"place_of": "load rlx", "set_place": "store rlx"},
     "seat": {
         "ww_debug_acquired": "store rlx", "ww_debug_released": "load rlx, store rlx", "look_for_long_wait": "load rlx",
-        "ww_debug_seen": "load rlx",
+        "ww_debug_seen": "load rlx", "why_unheld": "load rlx",
     },
     "thread": {
-        "use": "store rlx", "unuse_if_free": "store rlx", "has": "load rlx", "ww_debug_ended": "store rlx",
-        "ww_debug_acquired": "store rlx", "ww_debug_released": "load rlx, store rlx", "next_wait": "load rlx", "is_used": "load rlx",
+        "use": "store rlx", "unuse_if_free": "store rlx", "has": "load rlx, load rlx", "ww_debug_ended": "store rlx",
+        "ww_debug_acquired": "store rlx", "ww_debug_released": "load rlx, store rlx", "next_wait": "load rlx", "is_used": "load rlx", "has_ended": "load rlx", "print_seat": "load rlx",
     },
 }
 
@@ -424,11 +463,23 @@ PLAIN = {
     "threads->end": "by: memory_of_pool",
     "tasks->end": "by: memory_of_pool",
     "me->seat_": "queue: seek seek_on ww_seek_seat",
-    "me->served_": "queue: ",
+    "me->served_": "queue: ww_seek_seat",
     "me->waker_": "queue: ",
     "it->seat_": "queue: ",
     "it->served_": "queue: ",
     "of->due": "queue: ",
+    "of->called": "queue: ",
+    "of->looks": "queue: ",
+    "of->gate": "queue: ",
+    "of->begun": "queue: ",
+    "of->sum": "queue: ",
+    "of->limit": "queue: ",
+    "tasks->limit": "by: open_seats_of",
+    "threads->limit": "by: open_seats_of",
+    "tasks->sum": "by: open_seats_of",
+    "tasks->called": "by: open_seats_of",
+    # By the user of a seat, or under the lock by who hands it over.
+    "s->lent": "by: hands_over",
     "it->waker_": "queue: ",
     "waker_->wake": "queue: ",
     # Before others see the class; and a seek's before it is in the queue.
@@ -439,23 +490,25 @@ PLAIN = {
     "threads->seats": "by: fill_seats",
     "tasks->seats": "by: fill_seats",
     "of->count": "by: ",
-    "threads->count": "by: make_pool",
-    "tasks->count": "by: make_pool",
+    "threads->count": "by: open_seats_of",
+    "tasks->count": "by: open_seats_of",
     "me->of_": "by: ",
     "of_->pool": "by: ",
     "pool->id": "by: ",
     "pool->gone": "by: ",
     # Of a crowd. Before others see the class; in a forked child nobody else is there.
-    "crowd->asleep": "crowd: in_child",
-    "crowd->resting": "crowd: ww_crowd_open",
-    "crowd->since": "crowd: ww_crowd_open",
-    "crowd->term": "crowd: ww_crowd_open",
-    "crowd->over": "crowd: ww_crowd_open",
-    "crowd->off": "crowd: ww_crowd_open",
     "crowd->waiting": "crowd: in_child",
-    "crowd->ends": "crowd: ww_crowd_open",
-    "crowd->slow": "crowd: ww_crowd_open",
-    "crowd->permits": "by: ww_crowd_open",
+    "crowd->permits": "crowd: ww_crowd_open",
+    "crowd->rest": "crowd: ww_crowd_open",
+    "crowd->gate": "crowd: ",
+    "gate->holds": "crowd: ",
+    "crowd->first": "crowd: ww_crowd_open",
+    "crowd->end": "crowd: ww_crowd_open",
+    "crowd->awaited": "crowd: ",
+    "it->seat": "crowd: is_free",
+    "it->ends": "crowd: is_free is_stale",
+    "it->next": "crowd: ww_event_wake", # of a crowd; and of an event
+    "me->next": "crowd: ",
     # Before others see the class, by its pool.
     "p->seats": "by: make_pool",
     "p->class_": "by: make_pool",
@@ -470,6 +523,7 @@ PLAIN = {
     "p->copy": "by: make_pool",
     "p->may_keep": "by: make_pool",
     "s->keeper": "by: fill_seats",
+    "s->busy": "by: fill_seats",
     "p->mutexes": "by: make_pool",
     "p->gone": "by: in_child",
     "p->numbered": "by: free_pool",
@@ -480,6 +534,22 @@ PLAIN = {
     # By nobody, so by __atomic_* alone; but for number, which is given before `pool` is stored.
     "m->pool": "by: ",
     "m->number": "by: ww_number_take",
+    "mutex_->number": "by: ",
+    # Of a desk: before others see it, by its list; and what only who has it accesses.
+    "mutex->pool": "by: make_desk",
+    "mutex->waiters": "by: make_desk",
+    "mutex->number": "by: ",
+    "d->seat": "by: make_desk",
+    "d->next": "by: make_desk",
+    "d->bit": "by: make_desk",
+    "d->soiled": "by: mark unmark wipe",
+    "d->reads": "by: ",
+    "desk->reads": "by: ",
+    # Before others see the mutex.
+    "m->readers_": "by: ww_shared_mutex_init ww_shared_mutex_init_checked",
+    "p->made": "numbers: free_desks",
+    "p->desks": "numbers: free_desks",
+    "s->desk": "by: make_desk",
     "x->own": "by: ",
     # By the context's own thread, and of a class before others see it, or in a forked child.
     "x->pool": "by: begin_core close_or_open goes_by_hand may_be_older no_more of_seat",
@@ -605,8 +675,10 @@ def untold(folder):
     """Of the table at the head of ww_pool.h: what it lacks, has besides, or names that isn't there."""
     with open(os.path.join(folder, "ww_pool.h"), encoding="utf-8") as file:
         rows = [re.split(r"\t+", line[3:].rstrip()) for line in file.read().partition("*/")[0].split("\n") if line.startswith(" *\t")]
-    with open(os.path.join(folder, "tests/interleave/programs.c"), encoding="utf-8") as file:
-        programs = set(re.findall(r'^\t\{ "([\w-]+)", \{', file.read(), re.MULTILINE))
+    programs = set()
+    for name in ("programs", "shared"):
+        with open(os.path.join(folder, f"tests/interleave/{name}.c"), encoding="utf-8") as file:
+            programs |= set(re.findall(r'^\t\{ "([\w-]+)", \{', file.read(), re.MULTILINE))
     due, told = shared_words(folder), {word for row in rows[1:] for word in row[0].split()}
     for word in sorted(due ^ told):
         yield f"{word} is {'not' if word in due else 'without need'} in the table of ww_pool.h"
@@ -794,6 +866,54 @@ def given(gives):
     )
 
 
+def stood(begins):
+    """Whoever stood in the line for a permit uses a seat, against whoever frees the class."""
+    return (
+        [[W("busy", 1, "rlx"), X("w", "waiting", add(-1), begins)], [R("w", "waiting", "acq"), IF("w", 0, R("b", "busy", "acq"))]],
+        lambda r, f: r[1].get("b") == 0,
+        {"waiting": 1},
+    )
+
+
+def share(marks, looks, finds):
+    """A reader marks, and then looks whether the mutex is free; against a writer, which has it, and then looks for the mark."""
+    return (
+        [
+            [X("m", "mark", put(1), marks), R("l", "lock", looks), IF("l", 0, R("d", "data"))],
+            [X("l", "lock", swap(0, 1), "sc"), IF("l", 0, R("m", "mark", finds), IF("m", 0, W("data", 1)))],
+        ],
+        lambda r, f: r[0]["l"] == 0 and r[1].get("m") == 0,
+    )
+
+
+def shared_bit(looks_again):
+    """A reader whose bit is cleared and set again by another desk's reader, beside two writes; free are 0 and 2."""
+    last = [R("k", "lock", "sc"), IF("k", 2, R("d", "data"))] if looks_again else [R("d", "data")]
+    return (
+        [
+            [X("m", "mark", put(1), "sc"), R("l", "lock", "sc"), IF("l", 2, R("b", "bit", "sc"), IF("b", 1, *last))],
+            [X("l", "lock", swap(0, 1), "sc"), IF("l", 0, R("m", "mark", "sc"), IF("m", 0, X("c", "bit", put(0), "sc"), X("u", "lock", put(2), "sc")))],
+            [X("l", "lock", swap(2, 3), "sc"), IF("l", 2, R("b", "bit", "sc"), IF("b", 0, W("data", 1)))],
+            [X("b", "bit", put(1), "sc")],
+        ],
+        lambda r, f: r[0].get("d") is not None and f["data"] == 1,
+        {"bit": 1},
+    )
+
+
+def wiped(wipes):
+    """A mark is wiped by whoever has the desk next, and a writer that doesn't find it writes what was read."""
+    return (
+        [
+            [R("d", "data"), X("u", "desk", put(0), "sc")],
+            [X("k", "desk", swap(0, 2), "sc"), IF("k", 0, W("mark", 0, wipes))],
+            [R("m", "mark", "sc"), IF("m", 0, W("data", 1))],
+        ],
+        lambda r, f: r[0]["d"] == 1,
+        {"desk": 1, "mark": 1},
+    )
+
+
 def wrong():
     """What has to be found wrong: so these questions can be answered so."""
     yield "a seeker looks relaxed", seek("sc", "sc", "sc", "rlx")
@@ -807,6 +927,12 @@ def wrong():
     yield "a keeper looks relaxed", kept("ar", "rlx")
     yield "whoever comes second acquires nothing", let_go("rel", "rel")
     yield "a number is put back relaxed", given("rlx")
+    yield "whoever stood in the line says relaxed that it begins", stood("rlx")
+    yield "a reader marks by a release", share("rel", "sc", "sc")
+    yield "a reader looks relaxed whether the mutex is free", share("sc", "rlx", "sc")
+    yield "a writer looks relaxed for a mark", share("sc", "sc", "rlx")
+    yield "marks are wiped relaxed", wiped("rlx")
+    yield "a reader doesn't look at the word behind its bit", shared_bit(False)
 
 
 def ours():
@@ -835,6 +961,7 @@ def ours():
         [R("b", "busy", "acq"), R("o", "other", "acq"), IF("b", 0, IF("o", 0, R("h", "handle"), W("handle", 9)))],
     ], lambda r, f: r[2].get("h") == 0, {"busy": 1, "other": 1}
     yield "a class is freed once all numbers are put back", *given("rel")
+    yield "a class isn't freed while who stood in the line begins", *stood("rel")
     yield "a seat of a world goes from user to user", [
         [W("handle", 1), X("p", "taken", put(0), "rel")],
         [X("t", "taken", put(1), "acq"), IF("t", 0, R("h", "handle"))],
@@ -888,6 +1015,20 @@ def ours():
         [W("own", 0, "rlx"), W("cancelled", 0, "rlx")],
         [R("o", "own", "rlx"), IF("o", 5, X("c", "cancelled", put(1), "sc"), X("t", "token", put(1), "sc"))],
     ], lambda r, f: False, {"own": 5}
+    yield "a reader, and a writer", *share("sc", "sc", "sc")
+    yield "a mark is wiped", *wiped("rel")
+    yield "a reader whose bit another one sets", *shared_bit(True)
+    yield "a reader by a new desk, of which the bit was set before", [
+        [W("number", 5), W("desks", 1, "sc"), X("m", "mark", put(1), "sc"), R("l", "lock", "sc"), IF("l", 0, R("d", "data"))],
+        [X("l", "lock", swap(0, 1), "sc"), R("k", "desks", "sc"),
+         IF("k", 0, W("data", 1)), IF("k", 1, R("n", "number"), R("m", "mark", "sc"), IF("m", 0, W("data", 1)))],
+    ], lambda r, f: r[0]["l"] == 0 and f["data"] == 1 or r[1].get("n") == 0
+    yield "a reader of which the bit is cleared meanwhile, and the next writer", [
+        [X("m", "mark", put(1), "sc"), R("l", "lock", "sc"),
+         IF("l", 0, R("b", "bit", "sc"), IF("b", 1, R("d", "data"))), IF("l", 2, R("b", "bit", "sc"), IF("b", 1, R("d", "data")))],
+        [X("l", "lock", swap(0, 1), "sc"), IF("l", 0, R("m", "mark", "sc"), IF("m", 0, X("b", "bit", put(0), "sc"), X("u", "lock", put(2), "sc")))],
+        [X("l", "lock", swap(2, 3), "sc"), IF("l", 2, R("b", "bit", "sc"), IF("b", 0, W("data", 1)))],
+    ], lambda r, f: r[0].get("b") == 1 and f["data"] == 1 and r[0].get("d") is not None, {"bit": 1}
     yield "a cancel, against the wait", [
         [X("c", "cancelled", put(1), "sc"), X("t", "token", put(1), "sc")],
         [W("token", 0, "sc"), R("c", "cancelled", "sc")],

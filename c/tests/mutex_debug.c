@@ -7,16 +7,18 @@
 #define WW_DEBUG
 #endif
 #include "mutex_test.h"
+#include <sys/mman.h>
 #include <sys/wait.h>
 
 static DEFINE_WD_CLASS(c);
 static DEFINE_WW_CLASS(other);
 static struct ww_mutex a, b, its;
 static struct ww_acquire_ctx x, y; /* x is older; they hold a and b */
-static int line;
-
-/* So that the line of the call is known. */
-#define HERE(call) (line = __LINE__, (call))
+/* Of a child: the line of the call that is reported, and of the one that got -EDEADLK before. */
+static struct lines {
+	int here, asked;
+} *lines;
+#define HERE(call) (lines->here = __LINE__, (call))
 
 static void wrong_class(void) { MUST(HERE(ww_mutex_lock(&its, &x)) == -EINVAL); }
 static void after_done(void)
@@ -45,6 +47,7 @@ static void releases_all_without_a_loop(void)
 static void is_told(void)
 {
 	y.deadlock_inject_countdown = ~0u;
+	lines->asked = __LINE__ + 1;
 	MUST(ww_mutex_lock(&a, &y) == -EDEADLK);
 }
 static void another_after_deadlk(void)
@@ -56,6 +59,25 @@ static void holds_after_deadlk(void)
 {
 	is_told();
 	MUST(HERE(ww_mutex_lock(&a, &y)) == -EINVAL);
+}
+/* As after pthread_mutex_lock: nothing has looked at what the lock call returned. */
+static void unlocks_what_nobody_holds(void)
+{
+	is_told();
+	ww_mutex_unlock(&a);
+	HERE(ww_mutex_unlock(&a));
+}
+static void *unlocks_what_another_holds(void *arg)
+{
+	is_told();
+	HERE(ww_mutex_unlock(&a));
+	return arg;
+}
+static void unlocks_anothers(void) { end_thread(begin_thread(unlocks_what_another_holds, NULL)); }
+static void ends_without_looking(void)
+{
+	is_told();
+	HERE(ww_acquire_fini(&y));
 }
 static void another_first(void)
 {
@@ -90,9 +112,39 @@ static void told_without_need(void)
 	x.deadlock_inject_countdown = 0;
 	MUST(ww_mutex_lock(&its, &x) == -EINVAL);
 	ww_mutex_init(&its, &c);
+	lines->asked = __LINE__ + 1;
 	MUST(ww_mutex_lock(&its, &x) == -EDEADLK && !its.ctx);
 	MUST(HERE(ww_mutex_lock(&its, &x)) == -EINVAL);
 }
+
+static void locks_a_copy(void)
+{
+	struct ww_mutex copy = a;
+
+	MUST(HERE(ww_mutex_lock(&copy, &x)) == -EALREADY);
+}
+static void unlocks_a_copy(void)
+{
+	struct ww_mutex copy = b;
+
+	ww_mutex_unlock(&b);
+	copy.ctx = NULL;
+	HERE(ww_mutex_unlock(&copy));
+}
+static void unlocks_what_was_made_anew(void)
+{
+	ww_mutex_init(&a, &c);
+	HERE(ww_mutex_unlock(&a));
+}
+static void locks_by_garbage(void)
+{
+	static struct ww_acquire_ctx garbage;
+
+	memset(&garbage, 0x5a, sizeof garbage);
+	MUST(HERE(ww_mutex_lock(&its, &garbage)) == -EINVAL);
+}
+static void limits_late(void) { MUST(HERE(ww_class_limit(&c, 8, 8)) == -EBUSY && HERE(ww_class_crowd(&c, 8)) == -EBUSY); }
+static void limits_beyond(void) { MUST(HERE(ww_class_limit(&c, 1 << 25, 0)) == -EINVAL); }
 
 static void *is_to_end(void *arg)
 {
@@ -135,35 +187,32 @@ static void prepare(void)
 	MUST(!ww_mutex_lock(&a, &x) && !ww_mutex_lock(&b, &y));
 }
 
+/* $ is the place of the call that got -EDEADLK. */
 static void tells(void (*what)(void), const char *message)
 {
-	char said[16384], place[256];
-	int ends[2], lines[2], status;
+	char said[16384], place[512], asked[64] = "";
+	const char *at = strchr(message, '$');
+	int ends[2], status, length = (int)(at ? at - message : (ptrdiff_t)strlen(message));
 	ssize_t count, all = 0;
 	pid_t child;
 
-	MUST(!pipe(ends) && !pipe(lines) && (child = fork()) >= 0);
+	MUST(!pipe(ends) && (child = fork()) >= 0);
 	if (!child) {
 		dup2(ends[1], 2);
 		prepare();
 		what();
 		MUST(ww_debug_faults());
-		MUST(write(lines[1], &line, sizeof line) == sizeof line);
 		_exit(0);
 	}
 	close(ends[1]);
-	close(lines[1]);
 	while ((count = read(ends[0], said + all, sizeof said - 1 - (size_t)all)) > 0)
 		all += count;
 	said[all] = 0;
-	count = read(lines[0], &line, sizeof line);
 	close(ends[0]);
-	close(lines[0]);
 	MUST(waitpid(child, &status, 0) == child);
-	if (count == sizeof line)
-		snprintf(place, sizeof place, "mutex_debug.c:%d: %s\n", line, message);
-	else /* the call ended the program, which kept its line to itself */
-		snprintf(place, sizeof place, ": %s\n", message);
+	if (at)
+		snprintf(asked, sizeof asked, "tests/mutex_debug.c:%d", lines->asked);
+	snprintf(place, sizeof place, "mutex_debug.c:%d: %.*s%s\n", lines->here, length, message, asked);
 	if (!strstr(said, place) || (HAS_BACKTRACE && !strstr(strstr(said, place), "[0x"))) {
 		fprintf(stderr, "not told: %s\nbut %s\n", place, said);
 		exit(1);
@@ -293,33 +342,46 @@ static void prints_beside_others(void)
 	MUST(!ww_class_free(&busy) && !fclose(to));
 }
 
+#define NOT_LOOKED_AT "the context doesn't hold the mutex: nothing looked at the -EDEADLK that its lock returned at"
+
 int main(int count, char **words)
 {
+	lines = mmap(NULL, sizeof *lines, PROT_READ | PROT_WRITE, MAP_SHARED | MAP_ANONYMOUS, -1, 0);
+	MUST(lines != MAP_FAILED);
 	if (count > 1 && !strcmp(words[1], "waits")) {
 		MUST(!ww_class_limit(&c, 8, 4));
 		prepare();
 		prints(stdout);
 		return 0;
 	}
-	tells(wrong_class, "ww_mutex_lock: the context is of another class");
+	tells(wrong_class, "ww_mutex_lock: the mutex is of another class, or isn't initialized");
 	tells(after_done, "ww_mutex_lock: class \"c\": the context is done");
 	tells(tries_after_done, "ww_mutex_lock: class \"c\": the context is done");
-	tells(done_twice, "ww_acquire_done: the context is done, or has ended");
-	tells(fini_with_a_mutex, "ww_acquire_fini: the context still holds a mutex");
+	tells(done_twice, "ww_acquire_done: class \"c\": the context is done, or has ended");
+	tells(fini_with_a_mutex, "ww_acquire_fini: class \"c\": the context still holds a mutex");
+	tells(ends_without_looking, "ww_acquire_fini: class \"c\": the context still holds a mutex, and got -EDEADLK at $");
 	tells(releases_all_without_a_loop,
-	      "ww_acquire_unlock_all: outside ww_until_all_locked this call releases nothing");
-	tells(another_after_deadlk, "ww_mutex_lock: the context is of another class");
-	tells(holds_after_deadlk, "ww_mutex_lock: class \"c\": the context got -EDEADLK, and still holds a mutex");
-	tells(told_without_need, "ww_mutex_lock: class \"c\": the context got -EDEADLK, and still holds a mutex");
-	tells(another_first, "ww_mutex_lock: class \"c\": after -EDEADLK another mutex comes first");
-	tells(tries_another_first, "ww_mutex_lock: class \"c\": after -EDEADLK another mutex comes first");
+	      "ww_acquire_unlock_all: class \"c\": outside ww_until_all_locked this call releases nothing");
+	tells(another_after_deadlk, "ww_mutex_lock: the mutex is of another class, or isn't initialized");
+	tells(holds_after_deadlk, "ww_mutex_lock: class \"c\": the context still holds a mutex, and got -EDEADLK at $");
+	tells(told_without_need, "ww_mutex_lock: class \"c\": the context still holds a mutex, and got -EDEADLK at $");
+	tells(another_first, "ww_mutex_lock: class \"c\": after -EDEADLK another mutex comes first than that at which it came, at $");
+	tells(tries_another_first, "ww_mutex_lock: class \"c\": after -EDEADLK another mutex comes first than that at which it came, at $");
 	tells(slow_without_cause,
 	      "ww_mutex_lock_slow: no -EDEADLK of this mutex came before, or the context still holds a mutex");
-	tells(slow_ends, "ww_mutex_lock_slow: no -EDEADLK of this mutex came before, or the context still holds a mutex");
-	tells(destroys_held, "ww_mutex_destroy: somebody holds the mutex, or waits for it");
-	tells(told_by_a_thread_that_ends, "ww_mutex_destroy: somebody holds the mutex, or waits for it");
+	tells(slow_ends, "ww_mutex_lock_slow: class \"c\": no -EDEADLK of this mutex came before, or the context still holds a mutex");
+	tells(destroys_held, "ww_mutex_destroy: class \"c\": somebody holds the mutex, or waits for it");
+	tells(told_by_a_thread_that_ends, "ww_mutex_destroy: class \"c\": somebody holds the mutex, or waits for it");
 	tells(destroys_twice, "ww_mutex_destroy: the mutex isn't initialized");
+	tells(locks_a_copy, "ww_mutex_lock: class \"c\": the mutex is a copy of another one, or was moved");
+	tells(unlocks_a_copy, "ww_mutex_unlock: class \"c\": the mutex is a copy of another one, or was moved");
+	tells(unlocks_what_was_made_anew, "ww_mutex_unlock: class \"c\": the mutex was initialized once more while somebody held it");
+	tells(locks_by_garbage, "ww_mutex_lock: the context was never begun");
+	tells(limits_late, "ww_class_crowd: class \"c\": the class is open: this comes before its first use");
+	tells(limits_beyond, "ww_class_limit: class \"c\": a class has at most 16,777,216 mutexes and 4,094 contexts");
 	tells(unlocks_in_vain, "ww_mutex_unlock: nobody holds the mutex");
+	tells(unlocks_what_nobody_holds, "ww_mutex_unlock: class \"c\": " NOT_LOOKED_AT " $");
+	tells(unlocks_anothers, "ww_mutex_unlock: class \"c\": " NOT_LOOKED_AT " $");
 	tells(unlocked_by_another, "ww_mutex_unlock: class \"c\": another thread acquired the mutex");
 	goes_on();
 	prints_beside_others();

@@ -248,10 +248,10 @@ int main(void)
 	ends(unlocks_in_vain, "ww_mutex_unlock: nobody holds the mutex");
 	ends(slow_without_cause, "ww_mutex_lock_slow: class \"other\": no -EDEADLK of this mutex came before");
 	ends(slow_without_context, "ww_mutex_lock_slow: class \"c\": no -EDEADLK of this mutex came before");
-	ends(tries_another_class, "ww_mutex_trylock: class \"other\": the context is of another class");
+	ends(tries_another_class, "ww_mutex_trylock: class \"other\": the mutex is of another class, or isn't initialized");
 	ends(tries_nothing, "ww_mutex_trylock: the mutex isn't initialized");
 	ends(locks_what_is_destroyed, "ww_mutex_lock: the mutex isn't initialized");
-	ends(one_mutex_too_many, "ww_mutex_init: class \"small\": all its mutexes are in use (one that is freed without ww_mutex_destroy");
+	ends(one_mutex_too_many, "ww_mutex_init: class \"small\": all its mutexes are in use: 65,536, or as many as ww_class_limit set (one");
 	ends(class_of_nothing, "ww_acquire_init: class \"none\": it was opened before a fork, of which this is the child, or was never");
 	ends(loop_while_it_holds, "ww_until_all_locked: the context holds a mutex");
 	ends(inits_in_a_child, "ww_mutex_init: class \"c\": it was opened before a fork");

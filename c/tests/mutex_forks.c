@@ -26,7 +26,7 @@ static void in_parent(void)
 }
 static void in_child(void)
 {
-	alarm(15);
+	alarm(200);
 	if (locks)
 		ww_mutex_unlock(&m);
 	if (frees)
@@ -90,9 +90,9 @@ static void handlers_do_both(void)
 }
 
 static bool shut;
-int32_t __real_ww_go_on_(ww_handle *s, uint32_t *rest);
-int32_t __wrap_ww_go_on_(ww_handle *s, uint32_t *rest);
-int32_t __wrap_ww_go_on_(ww_handle *s, uint32_t *rest) { return shut ? WW_AWAITS : __real_ww_go_on_(s, rest); }
+int32_t __real_ww_go_on_(ww_handle *s);
+int32_t __wrap_ww_go_on_(ww_handle *s);
+int32_t __wrap_ww_go_on_(ww_handle *s) { return shut ? WW_AWAITS : __real_ww_go_on_(s); }
 
 static void never(void *loop, void *task) { MUST(!loop && task && false); }
 
@@ -132,7 +132,7 @@ static void in_program(void (*what)(void))
 
 	MUST(child >= 0);
 	if (!child) {
-		alarm(40);
+		alarm(200);
 		MUST(!ww_mutex_lock(&m, NULL));
 		ww_mutex_unlock(&m);
 		what();

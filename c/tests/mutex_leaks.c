@@ -1,8 +1,9 @@
 /*
  * Contexts that are left without ww_acquire_fini: a thread that waits for a context reports that after ten seconds, once, and
- * only if none was given meanwhile; and it goes on waiting.
+ * only if none was given meanwhile; and it goes on waiting.  So does the next task that comes to wait, and one that waits for a mutex, once a class.
  */
 #include "mutex_test.h"
+#include "../ww_poll.h"
 
 static struct ww_class c;
 static struct ww_acquire_ctx x;
@@ -162,6 +163,104 @@ static void is_to_end(void)
 	ends_again();
 }
 
+static void nothing(void *loop, void *task)
+{
+	(void)loop;
+	(void)task;
+}
+
+/* No thread sleeps for a task, so the next one that comes to wait says it, if none of those before it got a context. */
+static void is_said_of_tasks(void)
+{
+	static struct ww_acquire_ctx tasks[128], y;
+	static struct ww_seek seeks[4];
+	const struct ww_waker waker = { nothing, NULL, NULL };
+	unsigned count = 0;
+	char all[256];
+
+	__atomic_store_n(&ahead, -60, __ATOMIC_RELAXED);
+	ww_class_init(&c, 0, "it");
+	while (!ww_acquire_init_poll(&tasks[count], &c, &seeks[0], &waker))
+		count++;
+	snprintf(all, sizeof all, "a wait for a context: class \"it\": all %u contexts have been in use for 10 seconds; one that isn't "
+		 "ended by ww_acquire_fini stays in use\n", count);
+	is_later_by(11);
+	ww_acquire_fini(&tasks[0]);
+	MUST(!ww_acquire_init_poll(&tasks[0], &c, &seeks[0], &waker));
+	says("");
+	for (unsigned k = 0; k < 4; k++) {
+		MUST(ww_acquire_init_poll(&y, &c, &seeks[k], &waker) == -EINPROGRESS);
+		says(k == 2 ? all : "");
+		is_later_by(k < 1 ? 20 : 33 + (time_t)k);
+	}
+	for (unsigned k = 0; k < 4; k++)
+		MUST(ww_acquire_init_poll(&y, &c, &seeks[k], NULL) == -ETIMEDOUT);
+	while (count)
+		ww_acquire_fini(&tasks[--count]);
+	ends_again();
+}
+
+static const char is_long[] = "a wait for a mutex: class \"it\": it has lasted 10 seconds; libww_debug says where its holder began\n";
+
+static void *locks(void *arg)
+{
+	ww_mutex_lock(&a, NULL);
+	__atomic_store_n(&comes_back, true, __ATOMIC_RELAXED);
+	pthread_testcancel();
+	ww_mutex_unlock(&a);
+	return arg;
+}
+
+/* Threads wait for a mutex: one of them says it, or none; then each acquires it, also one that is cancelled during its message. */
+static void waits_for_a_mutex(unsigned count, bool is_to_end, const char *words)
+{
+	pthread_t threads[2];
+	void *how;
+
+	__atomic_store_n(&ahead, -60, __ATOMIC_RELAXED);
+	comes_back = false;
+	ww_class_init(&c, 0, "it");
+	ww_mutex_init(&a, &c);
+	ww_mutex_lock(&a, NULL);
+	for (unsigned k = 0; k < count; k++)
+		threads[k] = begin_thread(locks, NULL);
+	while (__atomic_load_n(&a.waiters, __ATOMIC_SEQ_CST) < count)
+		usleep(1000);
+	usleep(100000);
+	if (is_to_end)
+		MUST(!pthread_cancel(threads[0]));
+	is_later_by(9);
+	says("");
+	is_later_by(11);
+	says(words);
+	is_later_by(35);
+	says("");
+	ww_mutex_unlock(&a);
+	for (unsigned k = 0; k < count; k++)
+		MUST(!pthread_join(threads[k], &how) && __atomic_load_n(&comes_back, __ATOMIC_RELAXED) && (how == PTHREAD_CANCELED) == is_to_end);
+	if (is_to_end) /* it holds it still */
+		ww_mutex_unlock(&a);
+	MUST(!ww_mutex_destroy(&a));
+	ends_again();
+}
+
+/* No wait is long, and nobody says anything. */
+static void is_never_said(void)
+{
+	pthread_t thread;
+
+	ww_report_long_waits(0);
+	waits_for_a_mutex(2, false, "");
+	begins_anew();
+	thread = waits_for_one(NULL);
+	is_later_by(35);
+	says("");
+	ww_acquire_fini(&x);
+	end_thread(thread);
+	ends_again();
+	ww_report_long_waits(10);
+}
+
 static void *locks_until(void *until)
 {
 	MUST(ww_mutex_lock_until(&a, NULL, until) == -ETIMEDOUT);
@@ -195,7 +294,11 @@ int main(void)
 	is_said_once();
 	is_given_meanwhile();
 	is_to_end();
+	is_said_of_tasks();
 	has_a_time();
-	puts("mutex_leaks: it is said that no context comes back");
+	waits_for_a_mutex(2, false, is_long);
+	waits_for_a_mutex(1, true, is_long);
+	is_never_said();
+	puts("mutex_leaks: it is said that no context comes back, and that a wait for a mutex is long");
 	return 0;
 }

@@ -18,9 +18,9 @@ static uint32_t number;
 static bool held;
 
 static __thread unsigned shut;
-int32_t __real_ww_go_on_(ww_handle *s, uint32_t *rest);
-int32_t __wrap_ww_go_on_(ww_handle *s, uint32_t *rest);
-int32_t __wrap_ww_go_on_(ww_handle *s, uint32_t *rest) { return shut && shut-- ? WW_AWAITS : __real_ww_go_on_(s, rest); }
+int32_t __real_ww_go_on_(ww_handle *s);
+int32_t __wrap_ww_go_on_(ww_handle *s);
+int32_t __wrap_ww_go_on_(ww_handle *s) { return shut && shut-- ? WW_AWAITS : __real_ww_go_on_(s); }
 
 static void *holds(void *arg)
 {

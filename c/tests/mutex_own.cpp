@@ -353,6 +353,85 @@ static void storm(struct ww_class &c)
 	MUST(!all);
 }
 
+// What ends a wait: a time in each way, a cancel of the class, also of waits for a context; and nothing is held then.
+static void ends() WW_SAFETY_(no_thread_safety_analysis)
+{
+	using namespace std::chrono_literals;
+	mutex_class c(mutex_class::wound_wait, "c");
+	MUST(!c.limit(8, 2) && c.stats().lock_waits == 0);
+	mutex a(c), b(c, ww::numbered);
+	std::vector<mutex *> list{ &b, &a };
+	auto next = [&](bool starts) { return starts ? &b : b.is_locked() && !c.stats().permit_waits ? &a : nullptr; };
+	const auto soon = [] { return std::chrono::steady_clock::now() + 1ms; };
+
+	MUST(*ww::lock_all(c, { &a, &b }, [&] { return a.is_locked() && b.is_locked(); }) && !a.is_locked());
+	a.lock();
+	MUST(ww::lock_all(c, list, [] {}, 1ms).error() == -ETIMEDOUT && ww::lock_all(c, { &b, &a }, [] {}, soon()).error() == -ETIMEDOUT);
+	MUST(ww::lock_walk(c, next, [] {}, 1ms).error() == -ETIMEDOUT && !b.is_locked());
+	MUST(ww::lock_walk(c, next, [] {}, ww::limits(-1h)).error() == -ETIMEDOUT && !b.try_lock_for(-1s) == false);
+	b.unlock();
+	MUST(!a.try_lock_for(1ms) && !a.try_lock_until(soon()) && !std::unique_lock<mutex>(a, 1ms));
+	{
+		context x(c, 1ms), too_late(c, 1ms);
+		MUST(!x.error() && !x.lock(b) && x.lock(a) == -ETIMEDOUT && x.held() == 1);
+		MUST(too_late.error() == -ETIMEDOUT && too_late.lock(b) == -ETIMEDOUT && too_late.lock_all({ &b }) == -ETIMEDOUT);
+		MUST(too_late.with_all({ &b }, [] {}).error() == -ETIMEDOUT && too_late.lock_walk(next) == -ETIMEDOUT);
+	}
+	{
+		context x(c, ww::limits(std::chrono::hours::max(), WW_IGNORE_DUPLICATES));
+		std::thread waits([&] { MUST(x.lock_all({ &b, &b, &a }) == -EINTR && !x.held()); });
+
+		while (!c.stats().lock_waits)
+			std::this_thread::yield();
+		c.cancel();
+		waits.join();
+		MUST(context(c, WW_INTERRUPTIBLE).error() == -EINTR && x.lock(b) == 0);
+	}
+	a.unlock();
+	MUST(!context(c, WW_INTERRUPTIBLE).lock(a));
+}
+
+// Readers beside each other, an upgrade, and a writer that only reads in the end; by a callable that runs again after a back-off.
+static void readers(mutex_class &c)
+{
+	ww::shared_mutex a(c), b(c, ww::numbered);
+	std::atomic<long> runs{ 0 };
+	struct {
+		long of WW_GUARDED_BY(a);
+	} sum = { 0 };
+
+	{
+		context x(c), y(c, std::chrono::milliseconds(0));
+
+		MUST(!x.lock_shared(a) && !y.lock_shared(a) && y.lock(a) == -ETIMEDOUT && !y.try_lock(a) && y.try_lock_shared(b));
+		y.unlock_all();
+		MUST(!x.lock(a) && !y.try_lock_shared(a) && y.lock_shared(a) == -ETIMEDOUT);
+		x.downgrade(a);
+		MUST(y.try_lock_shared(a) && x.held() == 1);
+	}
+	const auto adds = [&] {
+		for (int k = 0; k < 500; k++) {
+			context x(c);
+			const auto both = [&] {
+				runs += !k;
+				if (const int r = x.lock_shared(a))
+					return r;
+				return k % 2 ? x.lock(b) : x.lock(a);
+			};
+
+			MUST(k % 2 ? !x.lock_by(both) : bool(x.with(both, [&] { x.assert_writes(a), sum.of++; })));
+		}
+	};
+	std::thread other(adds);
+
+	adds();
+	other.join();
+	context x(c);
+	MUST(!x.lock_shared(a));
+	x.assert_reads(a);
+	MUST(sum.of == 500 && runs >= 2);
+}
+
 int main()
 {
 	for (auto kind : { mutex_class::wound_wait, mutex_class::wait_die }) {
@@ -370,8 +449,10 @@ int main()
 		lists(own);
 		walks(own);
 		scopes(own);
+		readers(own);
 		storm(own);
 	}
+	ends();
 	lists(ww_class);
 	backs_off(ww_class);
 	forks();

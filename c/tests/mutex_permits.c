@@ -1,17 +1,15 @@
 /*
- * Permits of a crowd: a class has as many as it was told, each is used, by threads of that class alone, and the one that ends
- * first is the next.  Whoever has a time waits no longer; a class isn't freed while somebody waits for a permit; and a thread
- * of high priority doesn't wait behind one that gets no processor.  That there is a crowd, and until when permits last, is set
- * by hand here.  And no more threads are counted as asleep than there are.
+ * Each line of the tables of ww_crowd.c.  A crowd, and how many permits it has, for how long, is set by hand, so no load and no time
+ * decides what comes: where a thread has to be called it would otherwise sleep for longer than this test may take.
  */
-#include "mutex_test.h"
-#include "../ww_pool.h"
+#include "crowd.h"
 #include <semaphore.h>
+#include <sys/wait.h>
 
-enum { FAR = 8000, LATE = 5000 }; /* milliseconds: when a permit ends that nobody should wait for, and what is too late */
+/* In milliseconds: the lease of a permit for which nobody should wait; what is too late; and GRACE of ww_crowd.c. */
+enum { FAR = 8000, LATE = 5000, GRACE = 4 };
 
 static struct ww_class c, other;
-static sem_t begun, may_end;
 
 static uint64_t now(void)
 {
@@ -20,106 +18,295 @@ static uint64_t now(void)
 	return (uint64_t)at.tv_sec * 1000000000 + (uint64_t)at.tv_nsec;
 }
 
-static uint64_t waits(struct ww_class *of)
-{
-	struct ww_class_counts counts;
+static uint64_t ms(uint64_t count) { return count * 1000000; }
 
-	ww_class_stats(of, &counts);
-	return counts.permit_waits;
-}
+static uint32_t in_line(struct ww_class *of) { return permit_seekers(of->pool); }
+static bool has_one(void) { return ww_mine.permit.ends > now(); }
 
 /* ---- what is set by hand ---- */
 
-/* From now on its contexts take permits. */
 static void opens_crowded(struct ww_class *of, uint32_t permits)
 {
 	ww_class_init(of, 0, "crowded");
-	MUST(!ww_class_crowd(of, permits) && !ww_class_open(of) && of->pool->crowd.permits == permits);
-	of->pool->crowd.over = UINT64_MAX;
-	__atomic_store_n(&of->pool->at_hand, CROWDED, __ATOMIC_RELAXED);
+	MUST(!ww_class_open(of));
+	crowds(of, permits, ms(FAR));
 }
-static void ends_in(struct ww_class *of, unsigned permit, unsigned ms)
+
+/* From now on whoever has it, it is so long until its lease is over. */
+static void ends_in(struct ww_class *of, unsigned permit, uint64_t in)
 {
 	pthread_mutex_lock(&of->pool->crowd.lock);
-	of->pool->crowd.ends[permit] = now() + ms * (uint64_t)1000000;
+	of->pool->crowd.permits[permit] = (struct ww_permit){ .ends = now() + in };
 	pthread_mutex_unlock(&of->pool->crowd.lock);
 }
-static bool was_used(struct ww_class *of, unsigned permit) { return of->pool->crowd.ends[permit]; }
 
-/* ---- */
+/* This thread's lease is over. */
+static void is_over(struct ww_class *of)
+{
+	pthread_mutex_lock(&of->pool->crowd.lock);
+	ww_mine.permit.it->ends = ww_mine.permit.ends = now();
+	ww_mine.permit.at_once = 0;
+	pthread_mutex_unlock(&of->pool->crowd.lock);
+}
 
-static void *begins_and_ends(void *of)
+/* ---- threads ---- */
+
+static void begins_and_ends(struct ww_class *of)
 {
 	struct ww_acquire_ctx x;
 
 	ww_acquire_init(&x, of);
 	ww_acquire_fini(&x);
+}
+
+/* Whether it has a permit, then. If this thread was late, so that its time came before it stood in the line, once more. */
+static bool begins_within(struct ww_class *of, uint64_t in)
+{
+	uint64_t waits;
+
+	do {
+		struct timespec until = in_ms((long)in);
+		struct ww_acquire_ctx x;
+
+		waits = permit_waits(of);
+		MUST(!ww_acquire_init_until(&x, of, &until));
+		ww_acquire_fini(&x);
+	} while (in && is_crowded(of->pool) && !has_one() && permit_waits(of) == waits);
+	return has_one();
+}
+
+/* What a thread is to do, and did; it ends once it may. */
+static struct one {
+	struct ww_class *of;
+	uint64_t in;	 /* its time, or 0 */
+	bool keeps;	 /* a seat, before there is a crowd */
+	bool gives_back; /* its permit, once it may go on, and stays */
+	pthread_t thread;
+	sem_t keeps_one, may_begin, begun, may_go_on;
+	bool had;
+	unsigned place;
+} ones[8];
+static unsigned places;
+
+static void *one_begins(void *arg)
+{
+	struct one *me = arg;
+	struct timespec until = in_ms((long)me->in);
+	struct ww_acquire_ctx x;
+
+	if (me->keeps) {
+		begins_and_ends(me->of);
+		sem_post(&me->keeps_one);
+		sem_wait(&me->may_begin);
+	}
+	MUST(!ww_acquire_init_until(&x, me->of, me->in ? &until : NULL));
+	me->had = has_one();
+	me->place = __atomic_add_fetch(&places, 1, __ATOMIC_SEQ_CST);
+	sem_post(&me->begun);
+	sem_wait(&me->may_go_on);
+	ww_acquire_fini(&x);
+	if (me->gives_back) {
+		is_over(me->of);
+		(void)begins_within(me->of, 1);
+	}
 	return NULL;
 }
 
-/* How many milliseconds a begin with this time takes. */
-static unsigned begins_within(struct ww_class *of, unsigned ms)
+static struct one *begins(unsigned k, struct one what)
 {
-	struct timespec until = in_ms(ms);
-	struct ww_acquire_ctx x;
-	uint64_t from = now();
-	int r = ww_acquire_init_until(&x, of, &until);
-
-	MUST(!r || r == -ETIMEDOUT);
-	if (!r)
-		ww_acquire_fini(&x);
-	return (unsigned)((now() - from) / 1000000);
+	ones[k] = what;
+	MUST(!sem_init(&ones[k].keeps_one, 0, 0) && !sem_init(&ones[k].may_begin, 0, 0));
+	MUST(!sem_init(&ones[k].begun, 0, 0) && !sem_init(&ones[k].may_go_on, 0, 0));
+	ones[k].thread = begin_thread(one_begins, &ones[k]);
+	return &ones[k];
 }
 
-/* One after another: each has a permit of its own, and waits for none. */
-static void all_are_used(void)
+/* This one stands in the line, behind all that do so already. */
+static struct one *stands(unsigned k, struct one what)
+{
+	uint32_t before = in_line(what.of);
+	struct one *it = begins(k, what);
+
+	while (in_line(what.of) == before)
+		usleep(100);
+	return it;
+}
+
+/* Whether it began with a permit; it goes on. */
+static bool got_one(struct one *it)
+{
+	const struct timespec late = in_ms(LATE);
+
+	MUST(!sem_clockwait(&it->begun, CLOCK_MONOTONIC, &late));
+	sem_post(&it->may_go_on);
+	end_thread(it->thread);
+	return it->had;
+}
+
+/* ---- free: taken by who comes, if nobody stands in the line ---- */
+
+static void each_is_taken(void)
 {
 	enum { PERMITS = 5 };
+	uint64_t begun;
 
 	opens_crowded(&c, PERMITS);
 	for (unsigned k = 0; k < PERMITS; k++) {
-		unsigned used = 0;
+		unsigned taken = 0;
 
-		end_thread(begin_thread(begins_and_ends, &c));
-		for (unsigned j = 0; j < PERMITS; j++)
-			used += was_used(&c, j);
-		MUST(used == k + 1);
+		MUST(got_one(begins(k, (struct one){ .of = &c })) && !permit_waits(&c));
+		for (unsigned j = 0; j < MANY_PERMITS; j++)
+			taken += c.pool->crowd.permits[j].ends > now();
+		MUST(taken == k + 1);
 	}
-	MUST(!waits(&c));
-	for (unsigned k = 0; k < PERMITS; k++)
-		ends_in(&c, k, FAR);
-	MUST(begins_within(&c, 20) < LATE && waits(&c) == 1 && !ww_class_free(&c));
+	/* No more than these; who waits goes on at its time, and has none. */
+	for (uint64_t k = 0; k < 3; k++)
+		MUST(!begins_within(&c, 20) && permit_waits(&c) == k + 1 && !in_line(&c));
+	/* Who can't wait goes on at once. All are counted. */
+	begun = c.pool->crowd.begun;
+	for (unsigned k = 0; k < 3; k++) {
+		struct ww_acquire_ctx x;
+
+		MUST(!ww_acquire_init_checked(&x, &c));
+		ww_acquire_fini(&x);
+		MUST(!begins_within(&c, 0) && permit_waits(&c) == 3);
+	}
+	MUST(c.pool->crowd.begun == begun + 6 && !ww_class_free(&c));
 }
 
-/* The one that ends first; and no longer than the caller's time. */
-static void not_too_late(void)
+/* With a permit as many contexts as a thread likes, until its lease is over; each is counted. */
+static void for_many_contexts(void)
 {
-	for (unsigned first = 0; first < 3; first++) {
-		opens_crowded(&c, 3);
-		for (unsigned k = 0; k < 3; k++)
-			ends_in(&c, k, k == first ? 20 : 2 * FAR);
-		MUST(begins_within(&c, FAR) < LATE);
+	uint64_t begun;
+
+	opens_crowded(&c, 1);
+	begun = c.pool->crowd.begun;
+	for (unsigned k = 1; k < 1000; k++) {
+		begins_and_ends(&c);
+		MUST(c.pool->crowd.begun + ww_mine.permit.begun == begun + k && !permit_waits(&c) && has_one());
+	}
+	MUST(!ww_class_free(&c));
+}
+
+/* ---- returned as the next context begins behind its lease, to the first in the line ---- */
+
+static void in_turn(void)
+{
+	struct one *it[4];
+
+	opens_crowded(&c, 1);
+	begins_and_ends(&c);
+	places = 0;
+	for (unsigned k = 0; k < 4; k++)
+		it[k] = stands(k, (struct one){ .of = &c, .gives_back = true });
+	MUST(permit_waits(&c) == 4);
+	is_over(&c);
+	MUST(!begins_within(&c, 1)); /* it comes behind all of these */
+	for (unsigned k = 0; k < 4; k++)
+		MUST(got_one(it[k]) && it[k]->place == k + 1);
+	MUST(!ww_class_free(&c));
+}
+
+/* Two permits come to be free while the first one in the line rises: that calls the second one. */
+static void two_at_once(void)
+{
+	struct ww_in_line { /* as in ww_crowd.c */
+		struct ww_in_line *next;
+		uint32_t is_called;
+	} *first;
+	struct one *it[2];
+
+	opens_crowded(&c, 2);
+	ends_in(&c, 0, ms(FAR));
+	ends_in(&c, 1, ms(FAR));
+	for (unsigned k = 0; k < 2; k++)
+		it[k] = stands(k, (struct one){ .of = &c });
+	pthread_mutex_lock(&c.pool->crowd.lock);
+	c.pool->crowd.permits[0].ends = c.pool->crowd.permits[1].ends = now();
+	first = (void *)c.pool->crowd.first;
+	__atomic_store_n(&first->is_called, 1, __ATOMIC_RELAXED);
+	ww_futex_wake(&first->is_called);
+	pthread_mutex_unlock(&c.pool->crowd.lock);
+	MUST(got_one(it[0]) && got_one(it[1]) && !ww_class_free(&c));
+}
+
+/* The first in the line leaves at its time, as a permit comes to be free: that calls the second one. */
+static void who_leaves_calls(void)
+{
+	struct one *leaves, *stays;
+
+	opens_crowded(&c, 1);
+	ends_in(&c, 0, ms(FAR));
+	leaves = stands(0, (struct one){ .of = &c, .in = 50 });
+	stays = stands(1, (struct one){ .of = &c });
+	pthread_mutex_lock(&c.pool->crowd.lock);
+	usleep(60000);
+	c.pool->crowd.permits[0].ends = now();
+	pthread_mutex_unlock(&c.pool->crowd.lock);
+	MUST(!got_one(leaves) && got_one(stays) && !ww_class_free(&c));
+}
+
+/* One that comes takes none before those in the line, though one is free. */
+static void none_is_passed(void)
+{
+	struct one *it;
+
+	opens_crowded(&c, 1);
+	ends_in(&c, 0, ms(FAR));
+	it = stands(0, (struct one){ .of = &c });
+	ends_in(&c, 0, 0);
+	MUST(!begins_within(&c, 20) && got_one(it) && !ww_class_free(&c));
+}
+
+/* ---- free if its thread begins none and isn't amid one; and stale, whatever it does ---- */
+
+static void behind_its_lease(bool is_amid)
+{
+	bool waited = !is_amid;
+
+	for (unsigned tries = 0; !tries || !waited; tries++) { /* again if this thread was late */
+		struct one *holder;
+		uint64_t over;
+
+		MUST(tries < 100);
+		ww_class_init(&c, 0, "crowded");
+		MUST(!ww_class_open(&c));
+		holder = begins(0, (struct one){ .of = &c, .keeps = true });
+		sem_wait(&holder->keeps_one);
+		crowds(&c, 1, ms(FAR));
+		sem_post(&holder->may_begin);
+		sem_wait(&holder->begun);
+		MUST(holder->had && c.pool->crowd.permits[0].seat);
+		if (!is_amid) {
+			sem_post(&holder->begun);
+			MUST(got_one(holder));
+		}
+		crowds(&c, 1, ms(1)); /* so that who waits looks again soon */
+		pthread_mutex_lock(&c.pool->crowd.lock);
+		over = c.pool->crowd.permits[0].ends = now();
+		pthread_mutex_unlock(&c.pool->crowd.lock);
+		begins_and_ends(&c);
+		waited = permit_waits(&c) || !is_amid;
+		MUST(ww_mine.permit.it == &c.pool->crowd.permits[0] && permit_waits(&c) <= is_amid);
+		MUST(!permit_waits(&c) || ww_mine.permit.ends >= over + ms(GRACE));
+		if (is_amid) {
+			sem_post(&holder->may_go_on);
+			end_thread(holder->thread);
+		}
 		MUST(!ww_class_free(&c));
 	}
-	opens_crowded(&c, 1);
-	ends_in(&c, 0, FAR);
-	MUST(begins_within(&c, 20) < LATE && begins_within(&c, 0) < LATE);
-	MUST(!ww_class_free(&c));
 }
 
-/* Whoever waited until its time goes on without a permit, and has none for its next context either. */
-static void none_behind_its_time(void)
+/* Nobody puts it back: the first in the line looks for it long before it would be its turn. */
+static void first_looks_for_it(void)
 {
 	opens_crowded(&c, 1);
-	begins_and_ends(&c); /* with a permit, which lasts a moment */
-	ends_in(&c, 0, 100 * FAR);
-	for (uint64_t k = 0; k < 3; k++) {
-		while (waits(&c) == k)
-			(void)begins_within(&c, 20);
-		MUST(!ww_mine.permit.ends);
-	}
-	MUST(!ww_class_free(&c));
+	crowds(&c, 1, ms(FAR / 2));
+	ends_in(&c, 0, ms(50));
+	MUST(got_one(begins(0, (struct one){ .of = &c })) && !ww_class_free(&c));
 }
+
+/* ---- times, classes, contexts amid others ---- */
 
 /* A time that is centuries away is too early for no permit. */
 static void waits_for_ever(void)
@@ -128,8 +315,9 @@ static void waits_for_ever(void)
 	struct ww_acquire_ctx x;
 
 	opens_crowded(&c, 1);
-	ends_in(&c, 0, 20);
-	MUST(!ww_acquire_init_until(&x, &c, &never) && ww_mine.permit.ends);
+	crowds(&c, 1, ms(1));
+	ends_in(&c, 0, ms(20));
+	MUST(!ww_acquire_init_until(&x, &c, &never) && ww_mine.permit.it == c.pool->crowd.permits);
 	ww_acquire_fini(&x);
 	MUST(!ww_class_free(&c));
 }
@@ -140,205 +328,155 @@ static void of_its_class_alone(void)
 	for (unsigned k = 0; k < 20; k++) {
 		opens_crowded(&c, 1);
 		opens_crowded(&other, 1);
-		ends_in(&other, 0, FAR);
-		begins_and_ends(&c); /* with a permit, which lasts a moment */
-		MUST(begins_within(&other, 10) < LATE && waits(&other) == 1 && !waits(&c));
+		ends_in(&other, 0, ms(FAR));
+		begins_and_ends(&c);
+		MUST(has_one() && !begins_within(&other, 10) && permit_waits(&other) == 1 && !permit_waits(&c));
 		MUST(!ww_class_free(&c) && !ww_class_free(&other));
 	}
 }
 
-static void *begins_and_stays(void *of)
+/* Whoever runs a context, by the seat that it keeps, waits for none: others may wait for what it holds. */
+static void amid_a_context(void)
 {
-	struct timespec until = in_ms(500);
-	struct ww_acquire_ctx x;
+	struct ww_acquire_ctx x, y;
 
-	MUST(!ww_acquire_init_until(&x, of, &until));
-	sem_post(&begun);
-	sem_wait(&may_end);
+	ww_class_init(&c, 0, "crowded");
+	ww_acquire_init(&x, &c);
+	crowds(&c, 1, ms(FAR));
+	ends_in(&c, 0, ms(FAR));
+	ww_acquire_init(&y, &c);
+	MUST(!permit_waits(&c));
+	ww_acquire_fini(&y);
 	ww_acquire_fini(&x);
-	return NULL;
+	MUST(!begins_within(&c, 1) && permit_waits(&c) == 1 && !ww_class_free(&c));
 }
 
-/* The class has no mutex and no context, but somebody waits. */
+/* The class has no mutex and no context, but somebody stands in the line. */
 static void stays_while_one_waits(void)
 {
-	pthread_t thread;
+	struct one *it;
 
 	opens_crowded(&c, 1);
-	ends_in(&c, 0, 2 * FAR);
-	thread = begin_thread(begins_and_stays, &c);
-	while (!waits(&c))
-		usleep(100);
+	ends_in(&c, 0, ms(FAR));
+	it = stands(0, (struct one){ .of = &c, .in = 500 });
 	MUST(ww_class_free(&c) == -EBUSY);
-	sem_wait(&begun);
+	sem_wait(&it->begun);
 	MUST(ww_class_free(&c) == -EBUSY);
-	sem_post(&may_end);
-	end_thread(thread);
-	MUST(!ww_class_free(&c));
+	sem_post(&it->begun);
+	MUST(!got_one(it) && !ww_class_free(&c));
 }
 
-static void *begins_late(void *of)
-{
-	MUST(begins_within(of, 300) < LATE);
-	return NULL;
-}
+/* ---- when there is a crowd ---- */
 
-/* Once there is no crowd, whoever comes waits for no permit; those who wait get on all the same. */
-static void newcomers_go_on(void)
+/* A thread spent an eighth of its time in waits; not if the class has none, or is about to rest, or in a child. */
+static void begins_by_waits(void)
 {
-	pthread_t threads[4];
+	static const struct {
+		uint32_t said;
+		uint64_t each, apart; /* nanoseconds */
+		bool rests, begins;
+	} cases[] = {
+		{ 0, 10000, 20000, false, true },
+		{ 0, 10000, 70000, false, true },
+		{ 0, 10000, 100000, false, false },
+		{ 0, 100, 1000, false, true }, /* each costs a microsecond more */
+		{ 0, 100, 10000, false, false },
+		{ 3, 10000, 20000, false, true },
+		{ WW_NO_CROWD, 10000, 20000, false, false },
+		{ 0, 10000, 20000, true, false },
+	};
 
-	opens_crowded(&c, 1);
-	ends_in(&c, 0, 2 * FAR);
-	for (unsigned k = 0; k < 4; k++) {
-		threads[k] = begin_thread(begins_late, &c);
-		while (waits(&c) != k + 1)
-			usleep(100);
+	for (size_t k = 0; k < sizeof cases / sizeof *cases; k++) {
+		uint64_t at = now();
+
+		ww_class_init(&c, 0, "waits");
+		MUST(!ww_class_crowd(&c, cases[k].said) && !ww_class_open(&c));
+		if (cases[k].rests)
+			c.pool->crowd.rests = UINT64_MAX;
+		ww_mine.waited = 0;
+		ww_mine.counted = at;
+		for (unsigned i = 0; i < 100; i++)
+			ww_has_waited(c.pool, at += cases[k].apart, cases[k].each);
+		MUST(is_crowded(c.pool) == cases[k].begins);
+		MUST(!cases[k].begins || c.pool->crowd.gate.width == (cases[k].said ? 3 : 1));
+		MUST(!cases[k].said || !cases[k].begins || (c.pool->crowd.gate.least == 3 && c.pool->crowd.gate.most == 3));
+		MUST(!ww_class_free(&c));
 	}
-	__atomic_store_n(&c.pool->at_hand, c.pool->id, __ATOMIC_RELAXED);
-	for (unsigned k = 0; k < 10; k++)
-		end_thread(begin_thread(begins_and_ends, &c));
-	MUST(waits(&c) == 4);
+}
+
+/* A gate of no use ends it: all that stand in the line go on, though no permit is free. */
+static void ends_for_all(void)
+{
+	struct one *it[4];
+	uint64_t before;
+
+	opens_crowded(&c, 1);
+	for (unsigned k = 0; k < MANY_PERMITS; k++)
+		ends_in(&c, k, ms(FAR));
 	for (unsigned k = 0; k < 4; k++)
-		end_thread(threads[k]);
-	MUST(!ww_class_free(&c));
+		it[k] = stands(k, (struct one){ .of = &c });
+	/* A window of one permit is at its end, which is worse than no limit was. */
+	pthread_mutex_lock(&c.pool->crowd.lock);
+	c.pool->crowd.gate = (struct ww_gate){ .width = 1, .kept = NO_LIMIT, .least = 1, .widest = 1, .most = 1, .tries = true, .since = 1,
+		.waited = UINT64_MAX, .rate = UINT64_MAX / 4, .lease = ms(FAR), .holds = 1 };
+	c.pool->crowd.begun = 1000;
+	pthread_mutex_unlock(&c.pool->crowd.lock);
+	before = now();
+	MUST(!got_one(begins(4, (struct one){ .of = &c })) && !is_crowded(c.pool) && c.pool->crowd.rests > before);
+	for (unsigned k = 0; k < 4; k++)
+		MUST(!got_one(it[k]));
+	MUST(permit_waits(&c) == 4 && !in_line(&c) && !ww_class_free(&c));
 }
 
-/* At the end of its time a crowd goes on as long as many sleep. */
-static void ends_once_few_sleep(void)
+/* In a child there is none, whoever has its lock; and a call by a seat from before the fork returns. */
+static void none_in_a_child(void)
 {
-	opens_crowded(&c, 1);
-	c.pool->crowd.over = 1;
-	for (uint32_t asleep = 4; asleep; asleep--) {
-		__atomic_store_n(&c.pool->crowd.asleep, asleep, __ATOMIC_RELAXED);
-		end_thread(begin_thread(begins_and_ends, &c));
-		MUST(is_crowded(c.pool) == (asleep >= 2));
-	}
-	__atomic_store_n(&c.pool->crowd.asleep, 0, __ATOMIC_RELAXED);
-	MUST(!ww_class_free(&c));
-}
+	static struct ww_mutex m;
+	struct ww_acquire_ctx x, y;
+	struct one *it;
+	int status;
+	pid_t child;
 
-/*
- * A permit with which fewer than four contexts began, none of which waited, counts as slow, and one with more takes that back.  No
- * permit isn't counted.  When this thread's permit ends is set by hand.
- */
-static void are_judged(void)
-{
-	enum { FEW = 4 };
-
-	opens_crowded(&c, 16);
-	begins_and_ends(&c);
-	for (uint32_t contexts = 1; contexts < 2 * FEW - 1; contexts++) {
-		uint32_t slow = c.pool->crowd.slow;
-
-		ww_mine.permit.ends = 0;
-		begins_and_ends(&c);
-		MUST(c.pool->crowd.slow == slow && ww_mine.permit.ends);
-		ww_mine.permit.ends = UINT64_MAX;
-		for (uint32_t k = 1; k < contexts; k++)
-			begins_and_ends(&c);
-		ww_mine.permit.ends = 1;
-		begins_and_ends(&c);
-		MUST(c.pool->crowd.slow == (contexts < FEW ? slow + 1 : slow - 1));
-	}
-	MUST(!ww_class_free(&c));
-}
-
-/* ---- as many sleep as are counted ---- */
-
-enum { SLEEPERS = 2 };
-static struct ww_mutex m;
-static bool stop;
-
-static void *sleeps_often(void *arg)
-{
-	while (!__atomic_load_n(&stop, __ATOMIC_RELAXED)) {
-		struct ww_acquire_ctx x;
-
-		ww_acquire_init(&x, &c);
-		MUST(!ww_mutex_lock(&m, &x));
-		usleep(20); /* so others sleep meanwhile */
-		ww_mutex_unlock(&m);
-		ww_acquire_fini(&x);
-	}
-	return arg;
-}
-
-static void no_more_sleep_than_there_are(void)
-{
-	pthread_t threads[SLEEPERS];
-	uint64_t until = now() + 400000000;
-
-	ww_class_init(&c, 0, "sleeps");
-	MUST(!ww_class_crowd(&c, 64));
-	ww_mutex_init(&m, &c);
-	stop = false;
-	for (unsigned k = 0; k < SLEEPERS; k++)
-		threads[k] = begin_thread(sleeps_often, NULL);
-	while (now() < until)
-		for (unsigned k = 0; k < 1000; k++)
-			MUST(__atomic_load_n(&c.pool->crowd.asleep, __ATOMIC_RELAXED) <= SLEEPERS && !is_crowded(c.pool));
-	__atomic_store_n(&stop, true, __ATOMIC_RELAXED);
-	for (unsigned k = 0; k < SLEEPERS; k++)
-		end_thread(threads[k]);
-	MUST(!c.pool->crowd.asleep && !waits(&c) && !ww_mutex_destroy(&m) && !ww_class_free(&c));
-}
-
-/* One that is woken while it goes to sleep: it counts itself before anybody could count it as awake. The call comes by ld --wrap. */
-static __thread bool is_woken_then;
-static sem_t sleeps, was_woken;
-
-void __real_ww_sleeps(struct ww_pool *p);
-void __wrap_ww_sleeps(struct ww_pool *p);
-void __wrap_ww_sleeps(struct ww_pool *p)
-{
-	if (is_woken_then) {
-		is_woken_then = false;
-		sem_post(&sleeps);
-		sem_wait(&was_woken);
-		MUST(!__atomic_load_n(&p->crowd.asleep, __ATOMIC_RELAXED));
-	}
-	__real_ww_sleeps(p);
-}
-
-static void *goes_to_sleep(void *arg)
-{
-	struct ww_acquire_ctx x;
-
-	is_woken_then = true;
-	ww_acquire_init(&x, &c);
-	MUST(!ww_mutex_lock(&m, &x) && !is_woken_then);
-	ww_mutex_unlock(&m);
-	ww_acquire_fini(&x);
-	return arg;
-}
-
-static void counts_itself_first(void)
-{
-	struct ww_acquire_ctx x;
-	pthread_t thread;
-
-	ww_class_init(&c, 0, "wakes");
+	ww_class_init(&c, 0, "forks");
 	ww_mutex_init(&m, &c);
 	ww_acquire_init(&x, &c);
 	MUST(!ww_mutex_lock(&m, &x));
-	thread = begin_thread(goes_to_sleep, NULL);
-	sem_wait(&sleeps);
+	crowds(&c, 1, ms(FAR));
+	ends_in(&c, 0, ms(FAR));
+	it = stands(0, (struct one){ .of = &c });
+	__atomic_store_n(&c.pool->at_hand, c.pool->id, __ATOMIC_RELAXED);
+	ww_acquire_init(&y, &c);
+	pthread_mutex_lock(&c.pool->crowd.lock);
+	child = fork();
+	if (!child) {
+		alarm(200);
+		for (unsigned k = 0; k < 200; k++) {
+			ww_mine.counted = now();
+			if (ww_mutex_lock(&m, &y) != -EINVAL)
+				_exit(1);
+		}
+		_exit(ww_acquire_init_checked(&x, &c) != -EINVAL || ww_class_free(&c) || ww_acquire_init_checked(&x, &c) || ww_acquire_fini_checked(&x));
+	}
+	pthread_mutex_unlock(&c.pool->crowd.lock);
+	MUST(child > 0 && waitpid(child, &status, 0) == child && WIFEXITED(status) && !WEXITSTATUS(status));
 	ww_mutex_unlock(&m);
-	sem_post(&was_woken);
-	end_thread(thread);
+	ww_acquire_fini(&y);
 	ww_acquire_fini(&x);
-	MUST(!c.pool->crowd.asleep && !ww_mutex_destroy(&m) && !ww_class_free(&c));
+	ends_in(&c, 0, 0);
+	(void)begins_within(&c, 1);
+	crowds(&c, 1, ms(1));
+	(void)begins_within(&c, 1);
+	(void)got_one(it);
+	MUST(!ww_mutex_destroy(&m) && !ww_class_free(&c));
 }
 
-/* ---- threads of fixed priority, on one processor ---- */
+/* ---- threads of fixed priority, on one processor: stale, also if who is first gets no processor ---- */
 
 static uint64_t from, waited; /* nanoseconds */
 enum { LOW = 10, HIGH = 20, ENDS = 30, COMPUTES = 300, MOST = 150 }; /* priorities; and milliseconds */
 
-static void sleeps_till(unsigned ms)
+static void sleeps_till(uint64_t at)
 {
-	uint64_t at = from + ms * (uint64_t)1000000;
 	const struct timespec until = { .tv_sec = (time_t)(at / 1000000000), .tv_nsec = (long)(at % 1000000000) };
 
 	while (clock_nanosleep(CLOCK_MONOTONIC, TIMER_ABSTIME, &until, NULL) == EINTR)
@@ -346,7 +484,7 @@ static void sleeps_till(unsigned ms)
 }
 static void *computes(void *arg)
 {
-	while (now() < from + COMPUTES * (uint64_t)1000000)
+	while (now() < from + ms(COMPUTES))
 		;
 	return arg;
 }
@@ -354,10 +492,15 @@ static void *begins_high(void *of)
 {
 	uint64_t at;
 
-	sleeps_till(4);
+	sleeps_till(from + ms(4));
 	at = now();
 	begins_and_ends(of);
 	waited = now() - at;
+	return NULL;
+}
+static void *begins_low(void *of)
+{
+	begins_and_ends(of);
 	return NULL;
 }
 
@@ -387,10 +530,11 @@ static bool not_behind_who_cannot_run(void)
 	CPU_SET((size_t)sched_getcpu(), &one);
 	MUST(!sched_getaffinity(0, sizeof all, &all) && !sched_setaffinity(0, sizeof one, &one));
 	opens_crowded(&c, 1);
-	ends_in(&c, 0, ENDS);
+	crowds(&c, 1, ms(1));
+	ends_in(&c, 0, ms(ENDS));
 	from = now();
-	threads[0] = begin_thread(begins_and_ends, &c);
-	while (!waits(&c) && now() < from + ENDS * (uint64_t)1000000)
+	threads[0] = begin_thread(begins_low, &c);
+	while (!permit_waits(&c) && now() < from + ms(ENDS))
 		sched_yield();
 	from = now();
 	permitted = begins_at(&threads[1], SCHED_FIFO, HIGH, begins_high);
@@ -398,36 +542,32 @@ static bool not_behind_who_cannot_run(void)
 		MUST(begins_at(&threads[2], SCHED_FIFO, LOW, computes));
 		end_thread(threads[1]);
 		end_thread(threads[2]);
-		MUST(waited < MOST * (uint64_t)1000000);
+		MUST(waited < ms(MOST));
 	}
 	end_thread(threads[0]);
 	MUST(!ww_class_free(&c) && !sched_setaffinity(0, sizeof all, &all));
 	return permitted;
 }
 
-/* With a word, it counts sleepers alone. */
-int main(int count, char **words)
+int main(void)
 {
-	(void)words;
 	alarm(300);
-	if (count > 1) {
-		for (unsigned k = 0; k < 8; k++)
-			no_more_sleep_than_there_are();
-		return 0;
-	}
-	MUST(!sem_init(&begun, 0, 0) && !sem_init(&may_end, 0, 0));
-	MUST(!sem_init(&sleeps, 0, 0) && !sem_init(&was_woken, 0, 0));
-	all_are_used();
-	not_too_late();
-	none_behind_its_time();
+	each_is_taken();
+	for_many_contexts();
+	in_turn();
+	two_at_once();
+	who_leaves_calls();
+	none_is_passed();
+	behind_its_lease(false);
+	behind_its_lease(true);
+	first_looks_for_it();
 	waits_for_ever();
 	of_its_class_alone();
+	amid_a_context();
 	stays_while_one_waits();
-	newcomers_go_on();
-	ends_once_few_sleep();
-	are_judged();
-	no_more_sleep_than_there_are();
-	counts_itself_first();
+	begins_by_waits();
+	ends_for_all();
+	none_in_a_child();
 	if (!not_behind_who_cannot_run())
 		puts("mutex_permits: threads of fixed priority aren't permitted here, so none were tried");
 	puts("mutex_permits: as many as there are, for whom and as long as they are");

@@ -1,14 +1,12 @@
 /*
- * What a class has for each processor, on machines of other sizes: tasks have two contexts for each, at most 64, and a crowd
- * has a permit for each, at most 64.  All contexts of tasks are called for, wherever there are many.  How many processors the
- * thread may use comes by a wrapper (ld --wrap), which refuses a set that has no room for those of the machine, as the kernel
- * does.
+ * What a class has for each processor, on machines of other sizes, of up to 64 that count: tasks have two contexts for each at
+ * first.  All of these are handed over or called for, also where there are many.  How many processors the thread may use comes by a
+ * wrapper (ld --wrap), which refuses a set that has no room for those of the machine, as the kernel does.
  */
 #include "mutex_test.h"
-#include "../ww_poll.h"
 #include "../ww_pool.h"
 
-enum { MOST_CONTEXTS = 64 };
+enum { MOST_CONTEXTS = 128 };
 
 static size_t usable, of_machine; /* how many processors, the last ones of these */
 
@@ -58,22 +56,20 @@ static void none_is_lost(unsigned count)
 	}
 	for (unsigned k = 0; k < count; k++)
 		MUST(!begins(count - 1 - k, &all[k]));
-	/* Others begin before they look, so each gets the one for which it was called when that ends again. */
+	/* Whoever begins next may have them; so the first is called, and each that gets one calls the next. */
 	for (unsigned k = 0; k < count; k++)
 		MUST(begins(k, &x) == -EINPROGRESS && called[k] == 1);
 	for (unsigned k = 0; k < count; k++)
-		ww_acquire_fini(&all[k]);
-	for (unsigned k = 0; k < count; k++)
-		MUST(called[k] == 2 && !ww_acquire_init_poll(&all[k], &c, NULL, NULL));
-	for (unsigned k = 0; k < count; k++)
-		MUST(begins(k, &x) == -EINPROGRESS);
+		all[k].own->lent = UINT64_MAX;
 	for (unsigned k = count; k--;)
 		ww_acquire_fini(&all[k]);
 	for (unsigned k = 0; k < count; k++)
-		MUST(called[k] == 3 && !begins(k, &all[k]));
+		MUST(called[k] == 2 && (k + 1 == count || called[k + 1] == 1) && !begins(k, &all[k]));
+	for (unsigned k = 0; k < count; k++)
+		all[k].own->lent = 0;
 }
 
-static void has(size_t its, size_t processors, unsigned contexts, unsigned permits)
+static void has(size_t its, size_t processors, unsigned contexts)
 {
 	unsigned count = 0;
 
@@ -81,7 +77,8 @@ static void has(size_t its, size_t processors, unsigned contexts, unsigned permi
 	usable = its;
 	memset(all, 0, sizeof all);
 	ww_class_init(&c, 0, "sized");
-	MUST(!ww_class_limit(&c, 4, 0) && !ww_class_open(&c) && c.pool->crowd.permits == permits);
+	MUST(!ww_class_limit(&c, 4, 0) && !ww_class_open(&c));
+	c.pool->tasks.due = UINT64_MAX; /* nobody measures */
 	while (count <= MOST_CONTEXTS && !ww_acquire_init_poll(&all[count], &c, NULL, NULL))
 		count++;
 	MUST(count == contexts);
@@ -94,15 +91,15 @@ static void has(size_t its, size_t processors, unsigned contexts, unsigned permi
 
 int main(void)
 {
-	has(1, 1, 2, 1);
-	has(3, 8, 6, 3);
-	has(17, 20, 34, 17);
-	has(40, 40, 64, 40);
-	has(1024, 1024, 64, 64);
-	has(5, 1024, 10, 5);
-	has(2048, 2048, 64, 64);
-	has(20, 2048, 40, 20);
-	has(8192, 8192, 64, 64);
-	puts("mutex_processors: as many contexts of tasks and permits as are due");
+	has(1, 1, 2);
+	has(3, 8, 6);
+	has(17, 20, 34);
+	has(40, 40, 80);
+	has(1024, 1024, 128);
+	has(5, 1024, 10);
+	has(2048, 2048, 128);
+	has(20, 2048, 40);
+	has(8192, 8192, 128);
+	puts("mutex_processors: as many contexts of tasks as are due");
 	return 0;
 }

@@ -19,23 +19,29 @@ static __thread struct {
 	bool asked;
 	unsigned seen; /* a bit for each answer */
 } at;
-static __thread struct ww_acquire_ctx *cancelled_amid; /* behind each step that answers WW_AGAIN, as by another thread */
-static void (*behind_a_stay)(void); /* as another thread would, once */
-static __thread unsigned yielded; /* how often, */
-static __thread bool yields_long; /* and whether that takes a millisecond */
+static __thread struct ww_acquire_ctx *cancelled_amid; /* before the first step, and behind each that answers WW_AGAIN, as by another thread */
+static void (*before_a_step)(void); /* as another thread would, once */
 static __thread unsigned shut_out, slept; /* so many tries to go inside a guard are in vain; and how often it slept behind one */
 
 static bool has_to_ask(int32_t answer) { return answer <= 0 || answer == WW_SLEEPS; }
 static void does_anything_else(void) { MUST(at.answer != WW_AGAIN); }
 
-int32_t __real_ww_go_on_(ww_handle *seat, uint32_t *rest);
-int32_t __wrap_ww_go_on_(ww_handle *seat, uint32_t *rest);
-int32_t __wrap_ww_go_on_(ww_handle *seat, uint32_t *rest)
+int32_t __real_ww_go_on_(ww_handle *seat);
+int32_t __wrap_ww_go_on_(ww_handle *seat);
+int32_t __wrap_ww_go_on_(ww_handle *seat)
 {
 	int32_t r;
 
 	MUST(!at.seat || at.asked == has_to_ask(at.answer));
-	r = shut_out ? WW_AWAITS : __real_ww_go_on_(seat, rest);
+	if (cancelled_amid && has_to_ask(at.answer))
+		ww_acquire_cancel(cancelled_amid);
+	if (before_a_step) {
+		void (*what)(void) = before_a_step;
+
+		before_a_step = NULL;
+		what();
+	}
+	r = shut_out ? WW_AWAITS : __real_ww_go_on_(seat);
 	shut_out -= !!shut_out;
 	if (r == WW_AGAIN && cancelled_amid)
 		ww_acquire_cancel(cancelled_amid);
@@ -43,12 +49,6 @@ int32_t __wrap_ww_go_on_(ww_handle *seat, uint32_t *rest)
 	at.answer = r;
 	at.asked = false;
 	at.seen |= r > 0 ? 1u << r : 1;
-	if (r == WW_STAYS && behind_a_stay) {
-		void (*what)(void) = behind_a_stay;
-
-		behind_a_stay = NULL;
-		what();
-	}
 	return r;
 }
 
@@ -83,17 +83,6 @@ int __wrap_pthread_mutex_lock(pthread_mutex_t *mutex)
 	return __real_pthread_mutex_lock(mutex);
 }
 
-int __real_sched_yield(void);
-int __wrap_sched_yield(void);
-int __wrap_sched_yield(void)
-{
-	does_anything_else();
-	yielded++;
-	if (yields_long)
-		usleep(1000);
-	return __real_sched_yield();
-}
-
 long __real_syscall(long number, ...);
 long __wrap_syscall(long number, ...);
 long __wrap_syscall(long number, ...)
@@ -114,7 +103,6 @@ long __wrap_syscall(long number, ...)
 static void waits_in_vain(void)
 {
 	struct ww_acquire_ctx older, x;
-	unsigned stays = 1u << WW_STAYS | 1u << WW_YIELDS;
 
 	ww_acquire_init(&older, c);
 	ww_acquire_init(&x, c);
@@ -126,7 +114,6 @@ static void waits_in_vain(void)
 
 		MUST(ms < 100000 && ww_mutex_lock_until(&m, &x, &soon) == -ETIMEDOUT && at.asked);
 	}
-	MUST(at.seen & stays && at.seen & 1u << WW_AGAIN);
 	cancelled_amid = &x;
 	for (unsigned k = 0; k < 3; k++)
 		MUST(ww_mutex_lock_interruptible(&m, &x) == -EINTR && at.asked);
@@ -136,7 +123,7 @@ static void waits_in_vain(void)
 	ww_acquire_fini(&older);
 }
 
-/* Before most tries it sleeps, and doesn't only let others run: the one inside may be of a lower priority. */
+/* It doesn't stay awake for long, and doesn't only let others run: the one inside may be of a lower priority. */
 static void is_shut_out(void)
 {
 	struct ww_acquire_ctx older, x;
@@ -145,28 +132,9 @@ static void is_shut_out(void)
 	ww_acquire_init(&older, c);
 	ww_acquire_init(&x, c);
 	MUST(!ww_mutex_lock(&m, &older));
-	shut_out = 40;
+	shut_out = 1000;
 	slept = 0;
-	MUST(ww_mutex_lock_until(&m, &x, &soon) == -ETIMEDOUT && !shut_out && slept > 20);
-	ww_mutex_unlock(&m);
-	ww_acquire_fini(&x);
-	ww_acquire_fini(&older);
-}
-
-/* Once a yield has taken long, somebody else wants the processor: the call yields no more. */
-static void yields_once(void)
-{
-	struct ww_acquire_ctx older, x;
-	struct timespec soon = in_ms(1);
-
-	ww_acquire_init(&older, c);
-	ww_acquire_init(&x, c);
-	MUST(!ww_mutex_lock(&m, &older));
-	shut_out = 40;
-	yielded = 0;
-	yields_long = true;
-	MUST(ww_mutex_lock_until(&m, &x, &soon) == -ETIMEDOUT && !shut_out && yielded == 1);
-	yields_long = false;
+	MUST(ww_mutex_lock_until(&m, &x, &soon) == -ETIMEDOUT && !shut_out && slept > 200);
 	ww_mutex_unlock(&m);
 	ww_acquire_fini(&x);
 	ww_acquire_fini(&older);
@@ -185,8 +153,8 @@ static void is_awaited(void)
 	ww_acquire_init(&holder, c);
 	ww_acquire_init(&x, c);
 	MUST(!ww_number_take(&number, c) && !ww_number_lock(number, &holder));
-	behind_a_stay = is_released_just_then;
-	MUST(!ww_number_lock(number, &x) && !behind_a_stay);
+	before_a_step = is_released_just_then;
+	MUST(!ww_number_lock(number, &x) && !before_a_step);
 	MUST(ww_number_put(number, c) == -EBUSY && !ww_number_unlock(number, &x) && !ww_number_put(number, c));
 	ww_acquire_fini(&x);
 	ww_acquire_fini(&holder);
@@ -262,7 +230,6 @@ int main(void)
 		ww_mutex_init(&m, c);
 		waits_in_vain();
 		is_shut_out();
-		yields_once();
 		is_awaited();
 		in_a_storm();
 		MUST(!ww_mutex_destroy(&m) && !ww_class_free(c));

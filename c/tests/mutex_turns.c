@@ -198,7 +198,7 @@ static void fork_amid(pthread_mutex_t *m)
 		return;
 	ends_in_child = NULL;
 	if (!fork()) {
-		alarm(20);
+		alarm(200);
 		MUST(!polled.of_ || ww_poll_take_back(x, &polled));
 		ww_acquire_fini(x);
 		_exit(0);
@@ -343,7 +343,7 @@ static void freed_and_forked(void)
 	sem_post(&goes_on);
 	sem_wait(&stopped);
 	if (!fork()) {
-		alarm(20);
+		alarm(200);
 		_exit(!goes_well_in_child());
 	}
 	sem_post(&goes_on);
@@ -756,13 +756,13 @@ static void one_alone_is_kept(void)
 	MUST(!c->pool->kept && !ww_class_free(c));
 }
 
-/* ---- tasks, amid the end of another one's context: it is free already, and nobody was served by it yet ---- */
+/* ---- tasks, amid the end of another one's context: it is free already and nobody was called for it, or it is about to be handed over ---- */
 
 static struct task {
 	struct ww_acquire_ctx x;
 	struct ww_seek seek;
 	int calls;
-} due, called, late;
+} first, second, late;
 
 static void counts_calls(void *nothing, void *calls)
 {
@@ -775,47 +775,54 @@ static int polls(struct task *it)
 	return ww_acquire_init_poll(&it->x, c, &it->seek, &(struct ww_waker){ .wake = counts_calls, .task = &it->calls });
 }
 
-static void called_looks(void) { MUST(polls(&called) == -EINPROGRESS); }
+static void one_comes(void) { MUST(!ww_acquire_init_poll(&late.x, c, NULL, NULL)); }
+static void none_begins(void) { MUST(ww_acquire_init_poll(&late.x, c, NULL, NULL) == -ETIMEDOUT); }
+static void first_leaves(void) { MUST(ww_acquire_init_poll(&first.x, c, &first.seek, NULL) == -ETIMEDOUT); }
 
-static void others_come(void)
-{
-	struct ww_acquire_ctx x;
-
-	MUST(ww_acquire_init_poll(&x, c, NULL, NULL) == -ETIMEDOUT && polls(&late) == -EINPROGRESS);
-}
-
-/* Who was called and looks finds it for who is due one before, and calls that; and nobody passes who is due. */
-static void as_it_is_given(void)
+/* All are in use, and lent, and nobody measures how many there may be. */
+static struct ww_acquire_ctx *all_of_tasks(uint32_t *count)
 {
 	struct ww_acquire_ctx *all;
-	uint32_t count;
 
-	due = called = late = (struct task){ 0 };
+	first = second = late = (struct task){ 0 };
 	MUST(!ww_class_limit(c, 1, 0) && !ww_class_open(c));
-	count = c->pool->tasks.count;
-	all = calloc(count, sizeof *all);
-	MUST(all && count >= 2);
-	for (uint32_t k = 0; k < count; k++)
+	c->pool->tasks.due = UINT64_MAX;
+	*count = c->pool->tasks.limit;
+	all = calloc(*count, sizeof *all);
+	MUST(all && *count >= 2);
+	for (uint32_t k = 0; k < *count; k++) {
 		MUST(!ww_acquire_init_poll(&all[k], c, NULL, NULL));
-	MUST(polls(&due) == -EINPROGRESS && polls(&called) == -EINPROGRESS);
+		all[k].own->lent = UINT64_MAX;
+	}
+	return all;
+}
+
+/* Somebody else begins by it first; one that is handed over is nobody else's; and if who would be called leaves, another one is. */
+static void as_it_is_given(void)
+{
+	uint32_t count;
+	struct ww_acquire_ctx *all = all_of_tasks(&count);
+
+	MUST(polls(&first) == -EINPROGRESS && polls(&second) == -EINPROGRESS);
+	called_then = one_comes;
 	ww_acquire_fini(&all[0]);
-	MUST(due.calls == 1 && !called.calls);
-	ww_acquire_fini(&all[1]);
-	MUST(due.calls == 1 && called.calls == 1);
-	for (uint32_t k = 0; k < 2; k++)
-		MUST(!ww_acquire_init_poll(&all[k], c, NULL, NULL));
-	MUST(polls(&due) == -EINPROGRESS);
-	called_then = called_looks;
-	ww_acquire_fini(&all[0]);
-	MUST(!called_then && due.calls == 2 && !polls(&due) && polls(&called) == -EINPROGRESS);
-	called.calls = 0;
-	called_then = others_come;
-	ww_acquire_fini(&all[1]);
-	MUST(!called_then && called.calls == 1 && !late.calls && !polls(&called));
-	for (uint32_t k = 2; k < count; k++)
+	MUST(!called_then && first.calls == 1 && polls(&first) == -EINPROGRESS && !second.calls);
+	ww_acquire_fini(&late.x);
+	MUST(!polls(&first) && second.calls == 1);
+	c->pool->tasks.looks = UINT32_MAX;
+	MUST(polls(&second) == -EINPROGRESS && second.calls == 1 && !c->pool->tasks.called);
+	first.x.own->lent = 0;
+	called_then = none_begins;
+	ww_acquire_fini(&first.x);
+	MUST(!called_then && second.calls == 2 && !polls(&second));
+	first.calls = 0;
+	MUST(polls(&first) == -EINPROGRESS && polls(&late) == -EINPROGRESS);
+	second.x.own->lent = UINT64_MAX;
+	called_then = first_leaves;
+	ww_acquire_fini(&second.x);
+	MUST(!called_then && !first.calls && late.calls == 1);
+	for (uint32_t k = 1; k < count; k++)
 		ww_acquire_fini(&all[k]);
-	ww_acquire_fini(&called.x);
-	ww_acquire_fini(&due.x);
 	/* No context is in use, but one waits for one. */
 	MUST(late.calls == 1 && ww_class_free(c) == -EBUSY && !polls(&late));
 	ww_acquire_fini(&late.x);

@@ -5,7 +5,7 @@
 #ifndef WW_DEBUG
 #define WW_DEBUG
 #endif
-#include "mutex_test.h"
+#include "crowd.h"
 #include <sys/mman.h>
 #include <sys/syscall.h>
 #include <sys/wait.h>
@@ -171,6 +171,7 @@ static void wait_for_context(void)
 
 static void stays_open(void)
 {
+	is_thread(2);
 	AT(0, ww_acquire_init(&x, &c));
 	AT(1, ww_mutex_lock(&a, NULL));
 	for (unsigned k = 0; k < 2; k++)
@@ -341,6 +342,39 @@ static void waits_for_what_was_left(bool for_context)
 	awaits_warnings(1);
 }
 static void for_a_mutex(void) { waits_for_what_was_left(false); }
+
+/* The thread that held it has ended. */
+static void *leaves_a(void *arg)
+{
+	AT(0, ww_mutex_lock(&a, NULL));
+	return arg;
+}
+static void for_what_a_thread_left(void)
+{
+	__atomic_store_n(&ahead, 0, __ATOMIC_RELAXED);
+	ww_debug_check_interval(20);
+	end_thread(begin_thread(leaves_a, NULL));
+	MUST(!pthread_detach(begin_thread(waits_long, NULL)));
+	awaits_waiter(&a);
+	usleep(100000);
+	__atomic_store_n(&ahead, 11, __ATOMIC_RELAXED);
+	awaits_warnings(1);
+}
+
+/* A duration, and a time of the other clock, are no times of this one. */
+static void of_another_clock(void)
+{
+	struct timespec duration = { 5, 0 }, real;
+
+	__atomic_store_n(&ahead, 1000, __ATOMIC_RELAXED);
+	MUST(!clock_gettime(CLOCK_REALTIME, &real));
+	ww_mutex_lock(&a, NULL);
+	MUST(AT(0, ww_mutex_lock_until(&a, NULL, &duration)) == -ETIMEDOUT);
+	ww_mutex_unlock(&a);
+	MUST(!AT(1, ww_mutex_lock_until(&a, NULL, &real)));
+	ww_mutex_unlock(&a);
+	MUST(ww_debug_warnings() == 2);
+}
 static void for_a_context(void) { waits_for_what_was_left(true); }
 
 /* Each of two threads waits for a context, and has one: no cycle of mutexes, so only its time shows it. */
@@ -383,12 +417,12 @@ static void in_the_same_memory(void)
 /* Linked in place of the proved library's further steps: a thread that sleeps is woken, and for a while does nothing. */
 static bool is_slow;
 static __thread bool is_younger;
-int32_t __real_ww_go_on_(ww_handle *handle, uint32_t *rest);
-int32_t __wrap_ww_go_on_(ww_handle *handle, uint32_t *rest)
+int32_t __real_ww_go_on_(ww_handle *handle);
+int32_t __wrap_ww_go_on_(ww_handle *handle)
 {
 	if (is_younger && __atomic_load_n(&is_slow, __ATOMIC_RELAXED))
 		usleep(200000);
-	return __real_ww_go_on_(handle, rest);
+	return __real_ww_go_on_(handle);
 }
 
 static void *is_wounded(void *arg)
@@ -477,6 +511,7 @@ static void in_child(uint32_t contexts, uint32_t others, void (*what)(void))
 {
 	alarm(300);
 	MUST(!ww_class_limit(&c, 8, contexts) && !ww_class_limit(&d, 8, others));
+	MUST(!ww_class_crowd(&c, WW_NO_CROWD) && !ww_class_crowd(&d, WW_NO_CROWD)); /* which would come by how long waits take */
 	ww_mutex_init(&a, &c);
 	ww_mutex_init(&b, &c);
 	ww_mutex_init(&other, &d);
@@ -507,7 +542,7 @@ static void put_in_order(char *said, char *to)
 
 	strip(said);
 	for (char *line = strtok(said, "\n"); line && count < 64; line = strtok(NULL, "\n"))
-		if (!strstr(line, "[0x"))
+		if (!strstr(line, "[0x") && !strstr(line, "[link with -rdynamic"))
 			lines[count++] = line;
 	qsort(lines, count, sizeof *lines, by_words);
 	*to = 0;
@@ -574,6 +609,8 @@ static void tells(uint32_t contexts, uint32_t others, void (*what)(void), const 
 #define ALL_IN_USE(n) "all " n " contexts have been in use for 10 seconds; one that isn't ended by ww_acquire_fini stays in use; the oldest began at "
 #define NONE_LEFT "all are in use, and deadlocks through this wait are not detected; the thread has what began at "
 
+#define CLOCK "is it one of CLOCK_MONOTONIC, and no duration?\n"
+
 static void tells_warnings(void)
 {
 	tells(4, 4, second_context, "$1: ww_acquire_init: class \"c\": " OTHER_CONTEXT "$0\n"
@@ -582,6 +619,9 @@ static void tells_warnings(void)
 	tells(4, 4, without_context_beside_one, "$1: ww_mutex_lock: class \"c\": " BESIDE "$0\n");
 	tells(2, 2, wait_for_context, "$1: a wait for a context: class \"c\": " NONE_LEFT "$0\n");
 	tells(2, 2, for_a_mutex, "$1: a wait: class \"c\": it has lasted 10 seconds; mutex 0 is held by what began at $0\n");
+	tells(2, 2, for_what_a_thread_left, "$1: a wait: class \"c\": it has lasted 10 seconds; mutex 0 is held by what a thread that has "
+					    "ended left; it began at $0\n");
+	tells(2, 2, of_another_clock, "$0: a time limit: the time is long past: " CLOCK "$1: a time limit: the time is more than a year away: " CLOCK);
 	tells(1, 2, contexts_come_back, "$1: a wait for a context: class \"c\": " ALL_IN_USE("1") "$1\n");
 	tells(1, 2, for_a_context, "$1: a wait for a context: class \"c\": " ALL_IN_USE("1") "$0\n");
 	tells(4, 2, in_the_same_memory,
@@ -590,7 +630,7 @@ static void tells_warnings(void)
 	      "$2: ww_acquire_init: class \"c\": " OTHER_CONTEXT "$0\n");
 	tells(2, 2, stays_open,
 	      "$2: ww_class_free: class \"c\": 2 of 8 mutexes and 2 of 2 contexts in use, waits for a context: 0\n"
-	      "seat 0: context 1 began at $0\nseat 1: a lock without a context began at $1\nmutex 0 is held by seat 1\n");
+	      "seat 0: context 1 began at $0; ~2\nseat 1: a lock without a context began at $1; ~2\nmutex 0 is held by seat 1\n");
 }
 
 static void tells_deadlocks(void)
@@ -657,7 +697,8 @@ static void prints_what_is(void)
 	struct timespec now = in_ms(0);
 	pthread_t thread;
 
-	MUST(!ww_class_limit(&c, 8, 4) && !pthread_barrier_init(&all_hold, NULL, 2));
+	is_thread(2);
+	MUST(!ww_class_limit(&c, 8, 4) && !ww_class_crowd(&c, WW_NO_CROWD) && !pthread_barrier_init(&all_hold, NULL, 2));
 	ww_mutex_init(&a, &c);
 	ww_mutex_init(&b, &c);
 	prints(2, 0, "");
@@ -665,48 +706,19 @@ static void prints_what_is(void)
 	MUST(!ww_mutex_lock(&a, &x));
 	thread = begin_thread(acquires, NULL);
 	awaits_waiter(&a);
-	prints(2, 2, "seat 0: context 1 began at $0\nseat 1: a lock without a context began at $1; ~0 waits at $1 for mutex 0\n"
+	prints(2, 2, "seat 0: context 1 began at $0; ~2\nseat 1: a lock without a context began at $1; ~0 waits at $1 for mutex 0\n"
 		     "mutex 0 is held by seat 0\n");
 	ww_mutex_unlock(&a);
 	pthread_barrier_wait(&all_hold);
-	prints(2, 2, "seat 0: context 1 began at $0\nseat 1: a lock without a context began at $1\nmutex 0 is held by seat 1\n");
+	prints(2, 2, "seat 0: context 1 began at $0; ~2\nseat 1: a lock without a context began at $1; ~0\nmutex 0 is held by seat 1\n");
 	MUST(ww_mutex_lock_until(&a, &x, &now) == -ETIMEDOUT && ww_mutex_lock_until(&a, NULL, &now) == -ETIMEDOUT);
 	pthread_barrier_wait(&all_hold);
 	end_thread(thread);
-	prints(2, 1, "seat 0: context 1 began at $0\n");
+	prints(2, 1, "seat 0: context 1 began at $0; ~2\n");
 	ww_acquire_fini(&x);
 	MUST(!ww_mutex_destroy(&b));
 	prints(1, 0, "");
 	MUST(!ww_mutex_destroy(&a) && !ww_class_free(&c) && !ww_debug_warnings() && !ww_debug_faults());
-}
-
-/* Of a crowd, whose sleepers wait for a, it writes how many wait for a permit; at some time two of three do. */
-static bool is_over;
-
-static void *begins_on(void *arg)
-{
-	struct ww_acquire_ctx z;
-
-	while (!__atomic_load_n(&is_over, __ATOMIC_RELAXED)) {
-		ww_acquire_init(&z, &c);
-		ww_acquire_fini(&z);
-	}
-	return arg;
-}
-
-/* It falls asleep again and again, since a crowd that sleepers begin is soon over. */
-static void *acquires_a(void *arg)
-{
-	int r;
-
-	do {
-		struct timespec soon = in_ms(20);
-
-		r = ww_mutex_lock_until(&a, NULL, &soon);
-	} while (r == -ETIMEDOUT);
-	MUST(!r);
-	ww_mutex_unlock(&a);
-	return arg;
 }
 
 static bool is_printed(const char *words)
@@ -718,26 +730,41 @@ static bool is_printed(const char *words)
 	return is;
 }
 
+static void *begins_later(void *arg)
+{
+	struct ww_acquire_ctx z;
+
+	ww_acquire_init(&z, &c);
+	ww_acquire_fini(&z);
+	return arg;
+}
+
+static void permit_ends(uint64_t at)
+{
+	pthread_mutex_lock(&c.pool->crowd.lock);
+	c.pool->crowd.permits[0].ends = at;
+	pthread_mutex_unlock(&c.pool->crowd.lock);
+}
+
+/* How many permits a crowd has, and how many threads wait for one. */
 static void prints_crowd(void)
 {
-	pthread_t threads[5];
+	pthread_t threads[2];
 
-	MUST(!ww_class_limit(&c, 8, 0) && !ww_class_crowd(&c, 1));
-	ww_mutex_init(&a, &c);
-	ww_acquire_init(&x, &c);
-	MUST(!ww_mutex_lock(&a, &x) && !is_printed("crowd"));
-	for (unsigned k = 0; k < 5; k++)
-		threads[k] = begin_thread(k < 2 ? acquires_a : begins_on, NULL);
+	MUST(!ww_class_limit(&c, 8, 0) && !ww_class_crowd(&c, 0) && !ww_class_open(&c) && !is_printed("crowd"));
+	crowds(&c, 1, 1000000);
+	permit_ends(UINT64_MAX / 2);
+	for (unsigned k = 0; k < 2; k++)
+		threads[k] = begin_thread(begins_later, NULL);
 	while (!is_printed("waits for a context: 0; a crowd, permits: 1, waits for one: 2\n"))
 		usleep(100);
-	__atomic_store_n(&is_over, true, __ATOMIC_RELAXED);
-	ww_mutex_unlock(&a);
-	ww_acquire_fini(&x);
-	for (unsigned k = 0; k < 5; k++)
+	permit_ends(0);
+	for (unsigned k = 0; k < 2; k++)
 		end_thread(threads[k]);
-	MUST(!ww_mutex_destroy(&a) && !ww_class_free(&c) && !ww_class_crowd(&c, 0));
-	is_over = false;
+	MUST(!ww_class_free(&c));
 }
+
+static bool is_over;
 
 static void *prints_on(void *arg)
 {

@@ -4,6 +4,7 @@ import errno
 import gc
 import os
 import signal
+import subprocess
 import sys
 import threading
 import time
@@ -59,6 +60,97 @@ def wait_for(thread, name, ended=threading.Event()):
             frame = frame.f_back
         is_there = frame is not None
     time.sleep(0.1)
+
+
+def says_that_a_wait_is_long():
+    its = made()
+    a, (end, into), saved, said = ww.Mutex(its), os.pipe(), os.dup(2), b""
+
+    def waits():
+        with its.context() as one:
+            one.lock(a)
+
+    ww.report_long_waits(1, sys.argv[1])
+    os.dup2(into, 2)
+    with its.context() as one:
+        one.lock(a)
+        thread = threading.Thread(target=waits)
+        thread.start()
+        while not said.endswith(b"\n"):
+            said += os.read(end, 1000)
+    thread.join()
+    os.dup2(saved, 2)
+    assert b"it has lasted 1 seconds" in said
+    ww.report_long_waits(10, sys.argv[1])
+    for it in end, into, saved:
+        os.close(it)
+
+
+def says_why():
+    """What a message says, and what things are called."""
+    def why_of(call, *words, **named):
+        try:
+            call(*words, **named)
+        except OSError as error:
+            return error.strerror
+        return ""
+
+    its = ww.Class(mutexes=1, contexts=4, library=sys.argv[1], name="accounts")
+    a = ww.Mutex(its)
+    assert "16,777,216" in why_of(made, mutexes=2**24 + 1) and "Class(mutexes=" in why_of(ww.Mutex, its)
+    assert repr(its) == "<ww.Class 'accounts'>" and repr(a) == "<ww.Mutex of 'accounts', unlocked>"
+    with its.context() as one:
+        one.lock(a)
+        assert why_of(one.lock, a) == "the context holds this mutex already" and "1 mutexes" in repr(one) and repr(a).endswith(", locked>")
+        one.cancel()
+        assert why_of(one.cancel) == "a cancel is pending already"
+    assert its.stats() == ww.Counts(0, 0, 0, 0, 0, 0, 4) and ww.__version__.count(".") == 2
+
+
+def is_a_lock():
+    """As threading.Lock: with a time limit, or only if it is free; several are held, in any order."""
+    its = made()
+    a, b = ww.Mutex(its), ww.Mutex(its)
+    assert a.acquire() and b.acquire(blocking=False) and a.locked() and not beside(lambda: a.acquire(False))
+    assert not beside(lambda: a.acquire(timeout=0.01)) and is_raised(ww.Already, a.acquire) and is_raised(ValueError, b.acquire, False, 1)
+    a.release()
+    b.release()
+    assert beside(lambda: a.acquire(timeout=60) and not a.release()) and fault_of(a.release) == errno.EINVAL
+    with a:
+        assert not beside(lambda: a.acquire(timeout=0))
+
+
+def ends_all_waits():
+    """A cancel of the class ends each wait, by a context and for one, and those that begin later."""
+    its, faults = made(contexts=2), []
+    a = ww.Mutex(its)
+
+    def waits():
+        faults.append(fault_of(a.acquire))
+
+    with its.context() as one:
+        one.lock(a)
+        threads = [threading.Thread(target=waits) for _ in range(2)]
+        for thread in threads:
+            thread.start()
+        while its.stats().lock_waits < 1 or its.stats().context_waits < 1:
+            time.sleep(0.001)
+        its.cancel()
+        for thread in threads:
+            thread.join()
+        assert beside(lambda: fault_of(a.acquire)) == errno.EINTR
+    assert faults == [errno.EINTR] * 2
+    with a:
+        pass
+
+
+def debugs():
+    """With WW_DEBUG the reports name the lines of the program."""
+    program = "import sys, ww\nits = ww.Class(library=sys.argv[1], name='its')\nwith its.context() as one:\n    with its.context() as two:\n        pass\n"
+    words = [sys.executable, "-c", program, sys.argv[1]]
+    environment = {**os.environ, "WW_DEBUG": "1", "PYTHONPATH": os.path.dirname(os.path.dirname(ww.__file__))}
+    told = subprocess.run(words, env=environment, stderr=subprocess.PIPE, text=True, check=True).stderr
+    assert '<string>:4: ww_acquire_init: class "its": two contexts' in told and "began at <string>:3" in told and "-DWW_DEBUG" not in told
 
 
 def refuses_classes():
@@ -501,6 +593,75 @@ def keeps_nothing(kind):
     assert answers == [True, False]
 
 
+def reads(kind):
+    """Readers beside each other, or one writer; what ends reads; upgrades of two at once, of which one backs off."""
+    c = made(kind, 8, 4)
+    one, other = ww.SharedMutex(c), ww.SharedMutex(c)
+
+    def can(call, *words):
+        def tries():
+            with c.context() as context:
+                return fault_of(getattr(context, call), *words, timeout=0) == 0
+
+        return beside(tries)
+
+    with c.context() as context:
+        context.read(one, other)
+        assert one in context and can("read", one) and not can("lock", one)
+        context.read(one)
+        context.lock(one)
+        assert not can("read", one) and fault_of(context.lock, one) == errno.EALREADY
+        context.unlock(other)
+        assert one in context and other not in context and not can("read", one)
+        context.downgrade(one)
+        assert can("read", one) and not can("lock", one) and fault_of(context.downgrade, one) == errno.EINVAL
+        context.unlock(one)
+        assert can("lock", one) and can("lock", other) and fault_of(context.unlock, one) == errno.EINVAL
+        context.lock(one)
+        assert not can("read", one)
+        context.downgrade(one)
+        context.unlock_all()
+        assert can("lock", one) and is_raised(TypeError, context.read, ww.Mutex(c))
+        context.read(one)
+        assert beside(lambda: is_raised(TimeoutError, begins_writing, c, one, other)) and not can("lock", one) and can("lock", other)
+    with one:
+        assert not can("read", one)
+    counts, both = [0, 0], threading.Barrier(2)
+
+    def adds():
+        def body(context):
+            context.read(one)
+            before = counts[0]
+            if not first.is_set():
+                both.wait()
+                first.set()
+            context.lock(one)
+            assert counts[0] == before
+            counts[0] += 1
+
+        first = threading.Event()
+        for _ in range(50):
+            c.run(body)
+        counts[1] += 1
+
+    threads = [threading.Thread(target=adds) for _ in range(2)]
+    for it in threads:
+        it.start()
+    for it in threads:
+        it.join()
+    assert counts == [100, 2]
+
+
+def begins_writing(c, one, other):
+    """What it reads stays so where it can't write it."""
+    with c.context() as context:
+        context.read(one)
+        try:
+            context.lock(other, one, timeout=0)
+        finally:
+            assert one in context and other not in context
+
+
 def forks():
     """A child has none of it, and makes its own."""
     buffers = made()
@@ -517,6 +678,11 @@ def forks():
 
 signal.signal(signal.SIGINT, signal.default_int_handler)
 refuses_classes()
+says_that_a_wait_is_long()
+says_why()
+is_a_lock()
+ends_all_waits()
+debugs()
 refuses_others()
 gives_numbers_back()
 frees_cycles()
@@ -526,6 +692,6 @@ waits_in_turn()
 ends_behind_a_cancel()
 forks()
 for each in KINDS:
-    for test in (refuses_mutexes, refuses_again, ends_in_time, is_called_off, hears_interrupts, resolves, backs_off_by_itself, keeps_nothing):
+    for test in (refuses_mutexes, refuses_again, ends_in_time, is_called_off, hears_interrupts, resolves, backs_off_by_itself, keeps_nothing, reads):
         test(each)
 print("mutexes in Python: each refusal is told, and each wait ends as it should")

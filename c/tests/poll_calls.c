@@ -4,7 +4,7 @@
  */
 #include "mutex_test.h"
 #include "../ww_number.h"
-#include "../ww_poll.h"
+#include "../ww_pool.h"
 #include "../ww_steps.h"
 #include <sys/wait.h>
 
@@ -176,7 +176,7 @@ static bool begins_at_once(struct ww_acquire_ctx *ctx)
 	return !r;
 }
 
-/* ---- contexts of tasks: others may begin by one for which somebody was called, who gets the next one that ends then ---- */
+/* ---- contexts of tasks ---- */
 
 enum { SEEKERS = 3 };
 static struct ww_seek seeks[SEEKERS];
@@ -185,11 +185,17 @@ static int called[SEEKERS];
 
 static int looks(unsigned k, struct ww_acquire_ctx *ctx) { return ww_acquire_init_poll(ctx, c, &seeks[k], &wakers[k]); }
 
-/* Both contexts are in use, and so many tasks wait. */
+/* Its seat goes to whoever begins next, or to the one that waits longest; so that no pause of the machine decides. */
+static void is_lent(struct ww_acquire_ctx *ctx, bool is) { ctx->own->lent = is ? UINT64_MAX : 1; }
+
+/* Both contexts are in use, and lent, and so many tasks wait. */
 static void all_in_use(struct ww_acquire_ctx both[2], unsigned waiting)
 {
-	for (unsigned k = 0; k < 2; k++)
+	c->pool->tasks.due = UINT64_MAX; /* and nobody measures */
+	for (unsigned k = 0; k < 2; k++) {
 		MUST(begins_at_once(&both[k]));
+		is_lent(&both[k], true);
+	}
 	MUST(!begins_at_once(&y));
 	for (unsigned k = 0; k < waiting; k++) {
 		seeks[k] = (struct ww_seek){ 0 };
@@ -198,7 +204,29 @@ static void all_in_use(struct ww_acquire_ctx both[2], unsigned waiting)
 	}
 }
 
-/* Whoever ends one calls the first that wasn't called yet, once for each context; who comes in time has it. */
+static void end_both(struct ww_acquire_ctx both[2])
+{
+	ww_acquire_fini(&both[0]);
+	ww_acquire_fini(&both[1]);
+}
+
+/* One that isn't lent any more is handed to whoever waits longest; and then it is lent. */
+static void handed_in_turn(void)
+{
+	struct ww_acquire_ctx both[2];
+
+	all_in_use(both, 2);
+	is_lent(&both[1], false);
+	ww_acquire_fini(&both[1]);
+	MUST(called[0] == 1 && !called[1] && !begins_at_once(&y) && !ww_poll_take_back(&y, &seeks[0]));
+	MUST(looks(1, &y) == -EINPROGRESS && !looks(0, &both[1]) && both[1].own->lent > 0);
+	is_lent(&both[0], false);
+	ww_acquire_fini(&both[0]);
+	MUST(called[1] == 1 && !looks(1, &both[0]));
+	end_both(both);
+}
+
+/* One that is lent is anybody's. The first is called, and no other, until it has one; then the next one is. */
 static void called_in_turn(void)
 {
 	struct ww_acquire_ctx both[2];
@@ -206,82 +234,87 @@ static void called_in_turn(void)
 	all_in_use(both, 3);
 	ww_acquire_fini(&both[0]);
 	MUST(called[0] == 1 && !called[1] && begins_at_once(&both[0]));
-	ww_acquire_fini(&both[0]);
-	MUST(called[0] == 1 && !called[1] && begins_at_once(&both[0]));
-	/* By the other seat; so the second is before the first, which doesn't look. */
+	end_both(both);
+	MUST(called[0] == 1 && !called[1] && !ww_poll_take_back(&y, &seeks[0]));
+	MUST(!looks(0, &both[0]) && called[1] == 1 && !called[2]);
+	MUST(!looks(1, &both[1]) && called[2] == 1);
+	/* A third finds none: it looks again, by its own waker, until it waits as it did before. */
+	for (int last = 0; called[2] != last;) {
+		last = called[2];
+		MUST(called[2] < 1000 && looks(2, &y) == -EINPROGRESS);
+	}
+	MUST(called[2] > 1 && ww_poll_take_back(&y, &seeks[2]) && looks(2, &y) == -EINPROGRESS);
+	called[2] = 0;
 	ww_acquire_fini(&both[1]);
-	MUST(called[0] == 1 && called[1] == 1 && !called[2] && !ww_poll_take_back(&y, &seeks[1]));
-	MUST(!looks(1, &both[1]));
-	/* The first comes too late. When that context ends it has it, and others have none. */
-	MUST(looks(0, &x) == -EINPROGRESS && called[0] == 1 && looks(0, &x) == -EINPROGRESS);
-	ww_acquire_fini(&both[0]);
-	MUST(called[0] == 2 && !called[2] && !begins_at_once(&y));
-	MUST(looks(2, &y) == -EINPROGRESS && !looks(0, &both[0]));
-	/* Who was called, and ends its wait, calls another. */
-	wakers[0] = counts_in(&called[0]);
-	MUST(looks(0, &x) == -EINPROGRESS && !called[0]);
-	ww_acquire_fini(&both[0]);
-	MUST(called[2] == 1 && !called[0]);
-	if (!ww_acquire_init_poll(&y, c, &seeks[2], NULL))
-		ww_acquire_fini(&y);
-	MUST(called[0] == 1 && called[2] == 1 && !looks(0, &both[0]) && !begins_at_once(&y));
-	ww_acquire_fini(&both[0]);
+	MUST(called[2] == 1 && begins_at_once(&both[1]));
+	is_lent(&both[1], false);
 	ww_acquire_fini(&both[1]);
+	MUST(called[2] == 1 && !looks(2, &both[1]));
+	end_both(both);
 }
 
-/* Two were called. If the second takes one and ends, one is free for which nobody was called: so the third is. */
-static void called_for_another_seat(void)
-{
-	struct ww_acquire_ctx both[2];
-
-	all_in_use(both, 3);
-	ww_acquire_fini(&both[0]);
-	ww_acquire_fini(&both[1]);
-	MUST(called[0] == 1 && called[1] == 1 && !called[2]);
-	MUST(!looks(1, &both[1]));
-	ww_acquire_fini(&both[1]);
-	MUST(called[0] == 1 && called[1] == 1 && called[2] == 1);
-	MUST(!looks(0, &both[0]) && !looks(2, &both[1]));
-	ww_acquire_fini(&both[0]);
-	ww_acquire_fini(&both[1]);
-}
-
-/* Who came too late gets the next one that ends, whichever that is, and nobody begins meanwhile. */
-static void late_ones_get_the_next(void)
+/* Who was called, and leaves, calls the next one; so does one that is handed another, or finds one at its last look. */
+static void passes_on_its_call(void)
 {
 	struct ww_acquire_ctx both[2];
 
 	all_in_use(both, 2);
 	ww_acquire_fini(&both[0]);
 	ww_acquire_fini(&both[1]);
-	MUST(called[0] == 1 && called[1] == 1 && begins_at_once(&both[0]) && begins_at_once(&both[1]));
-	MUST(looks(0, &x) == -EINPROGRESS);
-	ww_acquire_fini(&both[1]);
-	MUST(called[0] == 2 && called[1] == 1 && !begins_at_once(&y));
-	MUST(looks(1, &y) == -EINPROGRESS && called[1] == 1 && !looks(0, &both[1]));
-	ww_acquire_fini(&both[0]);
-	MUST(called[1] == 2 && !begins_at_once(&y) && !looks(1, &both[0]));
-	ww_acquire_fini(&both[0]);
-	ww_acquire_fini(&both[1]);
-}
-
-/* One is called for a context, and leaves once that is another's: when that one ends, a third is called. */
-static void free_ones_are_offered(void)
-{
-	struct ww_acquire_ctx both[2];
-
+	MUST(called[0] == 1 && !called[1]);
+	c->pool->tasks.looks = UINT32_MAX;
+	MUST(!looks(0, &both[0]) && called[1] == 1 && !looks(1, &both[1]));
+	end_both(both);
 	all_in_use(both, 3);
 	ww_acquire_fini(&both[0]);
+	MUST(called[0] == 1 && !called[1]);
+	if (!ww_acquire_init_poll(&y, c, &seeks[0], NULL))
+		ww_acquire_fini(&y);
+	MUST(called[1] == 1 && !called[2] && begins_at_once(&both[0]));
+	is_lent(&both[1], false);
 	ww_acquire_fini(&both[1]);
-	MUST(begins_at_once(&both[0]) && begins_at_once(&both[1]));
-	MUST(looks(0, &x) == -EINPROGRESS && !called[2]);
-	ww_acquire_fini(&both[1]);
-	MUST(called[0] == 2 && ww_acquire_init_poll(&y, c, &seeks[1], NULL) == -ETIMEDOUT && !called[2]);
-	ww_acquire_fini(&both[0]);
-	MUST(called[0] == 2 && called[1] == 1 && called[2] == 1);
-	MUST(!looks(0, &both[0]) && !looks(2, &both[1]));
-	ww_acquire_fini(&both[0]);
-	ww_acquire_fini(&both[1]);
+	MUST(called[1] == 1 && called[2] == 1 && !looks(1, &both[1]));
+	MUST(ww_acquire_init_poll(&y, c, &seeks[2], NULL) == -ETIMEDOUT);
+	end_both(both);
+}
+
+/* What may not be claimed any more is nobody's; what may be from now on is whose who waits. */
+static void as_many_as_the_gate_says(void)
+{
+	struct ww_acquire_ctx both[2], more, *in = &both[0], *out = &both[1];
+	bool is_first;
+	struct ww_seats *tasks = &c->pool->tasks;
+	struct ww_gate gate;
+
+	do { /* until this thread comes back to the first one, and then to the other one */
+		MUST(begins_at_once(&both[0]) && begins_at_once(&both[1]));
+		is_first = both[0].own == tasks->seats;
+		end_both(both);
+	} while (is_first);
+	all_in_use(both, 3);
+	MUST(both[0].own == tasks->seats);
+	gate = tasks->gate;
+	tasks->limit = 1;
+	is_lent(in, false);
+	is_lent(out, false);
+	ww_acquire_fini(out);
+	MUST(!called[0] && looks(0, &y) == -EINPROGRESS && !begins_at_once(&y));
+	ww_acquire_fini(in);
+	MUST(called[0] == 1 && !called[1] && !looks(0, in) && !begins_at_once(&y));
+	tasks->gate = (struct ww_gate){
+		.width = 1, .kept = 3, .least = 1, .widest = 3, .most = 3, .tries = true, .more = true, .since = 1, .rate = UINT64_MAX / 4,
+		.begun = tasks->begun - 1000,
+	};
+	tasks->due = 0;
+	is_lent(in, true);
+	ww_acquire_fini(in);
+	tasks->due = UINT64_MAX;
+	MUST(called[1] == 1 && called[2] == 1 && !looks(1, in) && !looks(2, out));
+	MUST(begins_at_once(&more) && !begins_at_once(&y));
+	ww_acquire_fini(&more);
+	tasks->limit = 2;
+	tasks->gate = gate;
+	end_both(both);
 }
 
 /* A class isn't freed while a task waits for a context, also if it was called, and none is in use. */
@@ -307,10 +340,10 @@ static void by_contexts_of_their_own(void)
 	CPU_SET((size_t)sched_getcpu(), &one);
 	MUST(!sched_getaffinity(0, sizeof all, &all) && !sched_setaffinity(0, sizeof one, &one) && !ww_class_open(c));
 	MUST(!sched_setaffinity(0, sizeof all, &all));
+	handed_in_turn();
 	called_in_turn();
-	called_for_another_seat();
-	late_ones_get_the_next();
-	free_ones_are_offered();
+	passes_on_its_call();
+	as_many_as_the_gate_says();
 	stays_while_one_waits();
 	MUST(!ww_class_free(c));
 }
@@ -482,7 +515,7 @@ static void in_a_child(void)
 	if (!child) {
 		struct ww_seek its = { 0 };
 
-		alarm(60);
+		alarm(200);
 		MUST(ww_mutex_lock_poll(&m[0], &y, &w) == -EINVAL && ww_mutex_lock_poll(&m[1], &y, &w) == -EINVAL);
 		MUST(ww_number_lock_poll(number, &y, &w) == -EINVAL && ww_mutex_lock_poll(&m[0], &z, &w) == -EINVAL);
 		MUST(ww_poll_take_back(&none, &seek) && ww_acquire_init_poll(&none, c, &seek, &w) == -EINVAL);
@@ -524,35 +557,70 @@ static void by_numbers_and_not_in_loops(void)
 	ends(&x);
 }
 
-/* Tasks have contexts of their own where the class says no number: threads find all of theirs, and the other way round. */
+/* A thread that finds none of the share of threads keeps none of the others. */
+static void *begins_beside(void *of)
+{
+	struct ww_acquire_ctx mine;
+
+	ww_acquire_init(&mine, of);
+	ww_acquire_fini(&mine);
+	return NULL;
+}
+
+static void keeps_none_of_tasks(struct ww_class *of, struct ww_acquire_ctx *all, unsigned share)
+{
+	pthread_t thread;
+	uint32_t changed;
+
+	for (unsigned k = 0; k < share; k++)
+		MUST(!ww_acquire_init_checked(&all[k], of));
+	changed = of->pool->changed;
+	MUST(of->pool->kept == 1 && !pthread_create(&thread, NULL, begins_beside, of) && !pthread_join(thread, NULL));
+	MUST(of->pool->kept == 1 && of->pool->changed == changed);
+	while (share)
+		ww_acquire_fini(&all[--share]);
+}
+
+/*
+ * Where the class says no number threads have all contexts but those that tasks use, which are at most so many as the gate says, and a share
+ * that tasks never use.
+ */
 static void beside_threads(void)
 {
+	enum { ALL = 1280, SHARE = 384 };
 	static struct ww_class many;
-	static struct ww_acquire_ctx all[1280], of_tasks[64];
+	static struct ww_acquire_ctx all[ALL], of_tasks[ALL];
 	static struct ww_seek waits;
 	int calls = 0;
 	struct ww_waker w = { count_calls, &many, &calls };
-	unsigned tasks = 0;
+	unsigned tasks = 0, threads;
 
 	ww_class_init(&many, c == &wait_die, "many");
-	MUST(!ww_class_limit(&many, 8, 0));
-	while (tasks < 64 && ww_acquire_init_poll(&of_tasks[tasks], &many, &waits, &w) != -EINPROGRESS)
+	MUST(!ww_class_limit(&many, 8, 0) && !ww_class_open(&many));
+	many.pool->tasks.due = UINT64_MAX;
+	keeps_none_of_tasks(&many, all, SHARE);
+	while (ww_acquire_init_poll(&of_tasks[tasks], &many, &waits, &w) != -EINPROGRESS)
 		tasks++;
-	MUST(tasks && tasks % 2 == 0 && tasks <= 64);
-	if (tasks < 64) { /* and one waits */
-		for (unsigned k = 0; k < 1280; k++)
-			MUST(!ww_acquire_init_checked(&all[k], &many));
-		MUST(ww_acquire_init_checked(&x, &many) == -EAGAIN);
-		ww_acquire_fini(&all[0]);
-		MUST(!calls);
-		for (unsigned k = 1; k < 1280; k++)
-			ww_acquire_fini(&all[k]);
-		MUST(!calls && ww_class_free(&many) == -EBUSY);
-		ww_acquire_fini(&of_tasks[tasks - 1]);
-		MUST(calls == 1 && !ww_acquire_init_poll(&of_tasks[tasks - 1], &many, &waits, &w));
-	}
-	for (unsigned k = 0; k < tasks; k++)
-		ww_acquire_fini(&of_tasks[k]);
+	MUST(tasks == many.pool->tasks.limit);
+	for (threads = 0; !ww_acquire_init_checked(&all[threads], &many);) /* and one waits */
+		threads++;
+	MUST(threads == ALL - tasks);
+	while (threads)
+		ww_acquire_fini(&all[--threads]);
+	MUST(!calls && ww_class_free(&many) == -EBUSY);
+	ww_acquire_fini(&of_tasks[tasks - 1]);
+	MUST(calls == 1 && !ww_acquire_init_poll(&of_tasks[tasks - 1], &many, &waits, &w));
+	many.pool->tasks.limit = many.pool->tasks.count;
+	while (!ww_acquire_init_poll(&of_tasks[tasks], &many, NULL, NULL))
+		tasks++;
+	MUST(tasks == ALL - SHARE);
+	while (!ww_acquire_init_checked(&all[threads], &many))
+		threads++;
+	MUST(threads == SHARE);
+	while (tasks)
+		ww_acquire_fini(&of_tasks[--tasks]);
+	while (threads)
+		ww_acquire_fini(&all[--threads]);
 	MUST(!ww_class_free(&many));
 }
 

@@ -1,30 +1,36 @@
 #!/usr/bin/env python3
 """All that tasks may do by the tables at the head of ww_pool.c, where they wait for contexts: seats.py.
 
-A model of ww_give_seat, ww_queue_up, ww_is_served and ww_leave_queue, of few tasks and seats: each access of a seat's `busy`,
-of `seekers` or of `due` is a step, and what changes under the lock `queue` alone is one with the step that it belongs to.  From
-the beginning it makes each step that any task may make, in every order, so also polls that come late or never, and asks of each
+A model of give_shared, ww_queue_up, ww_is_served and ww_leave_queue, of few tasks, threads and seats: each access of a seat's `busy`,
+of `seekers`, `called` or `limit` is a step, and what changes under the lock `queue` alone is one with the step that it belongs to.  From
+the beginning it makes each step that any of them may make, in every order, so also polls that come late or never, and asks of each
 state that it reaches:
-- a seat has one user at most, and one that is CALLED for it just where it says so;
-- if nobody is amid a call: no seat is free while somebody is DUE, nor one for which nobody is CALLED while somebody WAITS;
-- whoever has looked in vain as the first is passed by few that begin.
+- a seat has one user at most, and only the first in the queue is CALLED, just where `called` says so;
+- if nobody is amid a call: none of the seats that may be claimed is free while a thread waits, or while a task waits and none is CALLED;
+- whoever is the first in the queue is passed by few that begin, since a seat is lent to others once before it is handed over;
+- a seat that may not be claimed any more gets no new user.
 Then it leaves out one rule after another, and has to find a state that isn't so: else the model would say nothing.
 """
 import sys
 
-IDLE, LOOKS, SEEKS, SCANS, USES, GIVES, SERVES, QUEUED = range(8)  # what a task does
-WAITS, CALLED, DUE = "WAITS", "CALLED", "DUE"  # one that is QUEUED
+IDLE, LOOKS, SEEKS, SCANS, USES, GIVES, SERVES, CALLS, QUEUED, WIDENS = range(10)  # what one does
+WAITS, CALLED = "WAITS", "CALLED"  # a task that is QUEUED
 NOBODY = None
+WIDTHS = (1, 2)  # how many seats may be claimed, by turns, if there are so many
+LOOKS_ON = 1  # how often one that was called looks before it drops the call
 
 RULES = {
     "seeks": "whoever comes to wait counts itself before it looks at the seats",
-    "bars": "nobody begins while somebody is due",
     "asks": "a user that is through looks whether somebody waits",
-    "asks due": "also where somebody is called for its seat, if one is due",
-    "one": "nobody is called for a seat for which somebody is",
-    "due": "whoever looks and finds its seat in use is due one, if it is the first",
-    "clears": "whoever leaves is called no more",
-    "offers": "and offers the seat, if that is free, to another",
+    "hands": "a seat that was lent to others is handed to the first in the queue",
+    "stays": "a seat that is handed over isn't set free",
+    "clears": "who was called and looks no more says so before it looks at all seats",
+    "all": "then it looks at all seats",
+    "passes": "who was called and has got a seat passes the call on",
+    "leaves": "who was called and leaves passes the call on",
+    "limit": "a claim heeds how many seats may be claimed",
+    "serves": "seats that may be claimed from now on are handed to who waits",
+    "threads": "nobody else begins while a thread waits",
 }
 
 
@@ -36,161 +42,239 @@ def put(them, k, it):
     return them[:k] + (it,) + them[k + 1:]
 
 
+class State:
+    """
+    Of each seat its user and whether it was lent since it was handed over; how many may be claimed; the queue of tasks: who, WAITS or
+    CALLED, and how many have passed it since it was first; whether `called` says that somebody is; how often that one has looked; the queue
+    of threads, and how many have passed its first; who holds the lock; and what each does.
+    """
+
+    __slots__ = ("seats", "width", "queue", "called", "looks", "threads", "passed", "lock", "them")
+
+    def __init__(self, *all_):
+        for name, value in zip(self.__slots__, all_):
+            setattr(self, name, value)
+
+    def key(self):
+        return tuple(getattr(self, name) for name in self.__slots__)
+
+    def but(self, **changed):
+        return State(*(changed.get(name, getattr(self, name)) for name in self.__slots__))
+
+    def does(self, t, what, s=0):
+        return self.but(them=put(self.them, t, (what, s)))
+
+
 class Model:
-    """
-    A state: of each seat its user, and whether somebody is CALLED for it; the queue, in which each one says for which seat it is
-    CALLED, and how many have passed it since it looked in vain as the first, or None; who holds its lock; and what each task does.
-    """
+    """So many seats; tasks, and behind them threads, which may use all of them; whether the width changes."""
 
-    def __init__(self, seats, tasks, without=None):
-        self.seats, self.tasks = seats, tasks
+    def __init__(self, seats, tasks, threads, changes, without=None):
+        self.count, self.tasks, self.changes = seats, tasks, changes
+        self.keeps_turns = not (changes or threads)  # else seats are set free for what has come to an end since
         self.has = {rule: rule != without for rule in RULES}
-        self.begin = ((NOBODY, False),) * seats, (), NOBODY, ((IDLE, 0),) * tasks
+        width = 1 if changes else seats
+        self.begin = State(((NOBODY, False),) * seats, width, (), False, 0, (), 0, NOBODY, ((IDLE, 0),) * (tasks + threads))
 
-    def hand(self, words, queue, them, k, s):
-        """Who stands there in the queue gets the seat, and goes on when it polls next."""
-        who = queue[k][0]
-        if words[s][0] is not NOBODY:
-            raise Wrong(f"two use one seat: {words} {queue} {them}")
-        return put(words, s, (who, words[s][1])), queue[:k] + queue[k + 1:], put(them, who, (USES, s))
+    def is_task(self, t):
+        return t < self.tasks
 
-    def offer(self, words, queue, them, s):
-        dues = [k for k, it in enumerate(queue) if it[1] == DUE]
-        if dues:
-            return self.hand(words, queue, them, dues[0], s) if words[s][0] is NOBODY else (words, queue, them)
-        waits = [k for k, it in enumerate(queue) if it[1] == WAITS]
-        if not waits or (words[s][1] and self.has["one"]):
-            return words, queue, them
-        who, _, _, passed = queue[waits[0]]
-        return put(words, s, (words[s][0], True)), put(queue, waits[0], (who, CALLED, s, passed)), them
+    def is_open(self, state, t, s):
+        return not self.is_task(t) or s < state.width or not self.has["limit"]
+
+    def is_free(self, state, t, s):
+        return state.seats[s][0] is NOBODY and self.is_open(state, t, s)
+
+    def is_barred(self, state, t):
+        return bool(state.threads) and self.has["threads"] and t not in state.threads
+
+    def uses(self, state, t, s):
+        """It gets the seat."""
+        if state.seats[s][0] is not NOBODY:
+            raise Wrong(f"two use one seat: {state.key()}")
+        if self.is_task(t) and s >= state.width:
+            raise Wrong(f"a task gets a seat that may not be claimed: {state.key()}")
+        return state.but(seats=put(state.seats, s, (t, state.seats[s][1]))).does(t, USES, s)
+
+    def call(self, state):
+        """The first in the queue, if there is one, is called."""
+        if not state.queue:
+            return state.but(called=False)
+        who, _, passed = state.queue[0]
+        return state.but(queue=put(state.queue, 0, (who, CALLED, passed)), called=True, looks=0)
+
+    def out(self, state, t, passes):
+        """It isn't in its queue any more; if it was called, the next one is."""
+        if not self.is_task(t):
+            return state.but(threads=tuple(it for it in state.threads if it != t), passed=0)
+        k = [it[0] for it in state.queue].index(t)
+        was_called = state.queue[k][1] == CALLED
+        state = state.but(queue=state.queue[:k] + state.queue[k + 1:])
+        if not was_called:
+            return state
+        return self.call(state) if self.has[passes] else state.but(called=False)
+
+    def hand(self, state, t, s):
+        return self.uses(self.out(state, t, "passes"), t, s)
+
+    def passed(self, state, t):
+        """One that isn't in the queue begins: few do before the first in it, or before a thread that waits."""
+        if state.threads and state.passed == len(state.them):
+            raise Wrong(f"a thread is passed again and again: {state.key()}")
+        if state.threads:
+            state = state.but(passed=state.passed + 1)
+        if not (state.queue and self.is_task(t) and self.keeps_turns):
+            return state
+        who, is_, passed = state.queue[0]
+        if passed >= 2 * self.count:
+            raise Wrong(f"somebody is passed again and again: {state.key()}")
+        return state.but(queue=put(state.queue, 0, (who, is_, passed + 1)))
 
     def moves(self, state):
-        words, queue, lock, them = state
-        for t in range(self.tasks):
-            what, s = them[t]
-            if what == IDLE and (not self.is_due(queue) or not self.has["bars"]):
-                yield words, queue, lock, put(them, t, (LOOKS, 0))
+        for t, (what, s) in enumerate(state.them):
+            if what == IDLE:
+                if not self.is_barred(state, t):
+                    yield state.does(t, LOOKS)
+                if state.lock is NOBODY:
+                    yield self.seeks(state, t)
             elif what == LOOKS:
                 yield from self.begins(state, t)
-            elif what == IDLE and lock is NOBODY:
-                yield words, self.stands(queue, t), t, put(them, t, (SEEKS, 0))
-            elif what in (SEEKS, SCANS) and lock == t:
+            elif what in (SEEKS, SCANS) and state.lock == t:
                 yield from self.scans(state, t, what, s)
             elif what == USES:
                 yield from self.gives(state, t, s)
             elif what == GIVES:
-                asks = queue and self.has["asks"]
-                asks = asks and (not words[s][1] or (self.has["asks due"] and self.is_due(queue)))
-                yield words, queue, lock, put(them, t, (SERVES, s) if asks else (IDLE, 0))
-            elif what == SERVES and lock is NOBODY:
-                words_, queue_, them_ = self.offer(words, queue, put(them, t, (IDLE, 0)), s)
-                yield words_, queue_, lock, them_
-            elif what == QUEUED and lock is NOBODY:
+                yield self.asks(state, t, s)
+            elif what == SERVES and state.lock is NOBODY:
+                yield self.serves(state, t, s)
+            elif what == CALLS and state.lock is NOBODY:
+                done = state.does(t, IDLE)
+                yield self.call(done) if state.queue and not state.called else done
+            elif what == WIDENS and state.lock is NOBODY:
+                yield self.widened(state, t, s)
+            elif what == QUEUED and state.lock is NOBODY:
                 yield from self.polls(state, t)
-                yield from self.leaves(state, t)
+                yield self.out(state, t, "leaves").does(t, IDLE)
 
-    def is_due(self, queue):
-        return any(it[1] == DUE for it in queue)
+    def seeks(self, state, t):
+        return (self.stands(state, t) if self.has["seeks"] else state).but(lock=t).does(t, SEEKS)
 
-    def stands(self, queue, t):
-        return queue + (((t, WAITS, 0, None),) if self.has["seeks"] else ())
-
-    def passed(self, queue):
-        queue = tuple((who, is_, s, passed if passed is None else passed + 1) for who, is_, s, passed in queue)
-        if any((passed or 0) > self.tasks for _, _, _, passed in queue):
-            raise Wrong(f"somebody is passed again and again: {queue}")
-        return queue
+    def stands(self, state, t):
+        if t in state.threads or any(it[0] == t for it in state.queue):
+            return state
+        if self.is_task(t):
+            return state.but(queue=state.queue + ((t, WAITS, 0),))
+        return state.but(threads=state.threads + (t,))
 
     def begins(self, state, t):
         """By a seat that is free; or it finds none, and stands in the queue."""
-        words, queue, lock, them = state
-        for s, (user, called) in enumerate(words):
-            if user is NOBODY:
-                yield put(words, s, (t, called)), self.passed(queue), lock, put(them, t, (USES, s))
-        if lock is NOBODY and all(user is not NOBODY for user, _ in words):
-            yield words, self.stands(queue, t), t, put(them, t, (SEEKS, 0))
+        free = [s for s in range(self.count) if self.is_free(state, t, s)]
+        for s in free:
+            yield self.uses(self.passed(state, t), t, s)
+        if not free and state.lock is NOBODY:
+            yield self.seeks(state, t)
+
+    def is_first(self, state, t):
+        return not any(it[0] != t for it in state.queue[:1]) if self.is_task(t) else state.threads[:1] in ((), (t,))
 
     def scans(self, state, t, what, s):
-        """It looks at one seat after another: as it comes to wait, or after it was called in vain."""
-        words, queue, lock, them = state
-        if s < self.seats and (words[s][0] is not NOBODY or (what == SEEKS and self.is_due(queue))):
-            yield words, queue, lock, put(them, t, (what, s + 1))
-        elif s < self.seats:
-            k = [it[0] for it in queue].index(t) if any(it[0] == t for it in queue) else None
-            if what == SCANS:
-                k = next((k for k, it in enumerate(queue) if it[1] == DUE), k)
-            there = put(them, t, (QUEUED, 0))
-            if k is None:
-                yield put(words, s, (t, words[s][1])), queue, NOBODY, put(them, t, (USES, s))
-            else:
-                words_, queue_, them_ = self.hand(words, queue, there, k, s)
-                yield words_, queue_, NOBODY, them_
+        """It looks at one seat after another: as it comes to wait as the first, or having dropped its call."""
+        may = self.is_first(state, t) and not self.is_barred(state, t)
+        if s < self.count and may and self.is_free(state, t, s):
+            state = self.stands(state, t)
+            if what == SCANS:  # it was called: so the call passes on
+                state = state.but(queue=put(state.queue, 0, (t, CALLED, 0)))
+            yield self.hand(state, t, s).but(lock=NOBODY)
+        elif s < self.count and may and (what == SEEKS or self.has["all"]):
+            yield state.does(t, what, s + 1)
         else:
-            queue_ = queue if any(it[0] == t for it in queue) else queue + ((t, WAITS, 0, None),)
-            yield words, queue_, NOBODY, put(them, t, (QUEUED, 0))
+            state = self.stands(state, t)
+            if what == SCANS and not self.has["clears"]:
+                state = state.but(called=False, queue=put(state.queue, 0, (t, WAITS, state.queue[0][2])))
+            yield state.but(lock=NOBODY).does(t, QUEUED)
 
     def gives(self, state, t, s):
-        words, queue, lock, them = state
-        if words[s][0] != t:
-            raise Wrong(f"two use one seat: {state}")
-        yield put(words, s, (NOBODY, words[s][1])), queue, lock, put(them, t, (GIVES, s))
+        """It is through: it may come to look at the gate first."""
+        if state.seats[s][0] != t:
+            raise Wrong(f"two use one seat: {state.key()}")
+        lent = state.seats[s][1]
+        if self.changes and state.queue and state.lock is NOBODY:
+            width = WIDTHS[state.width == WIDTHS[0]]
+            yield state.but(width=width).does(t, WIDENS, s)
+        if state.queue and not state.threads and lent and self.has["hands"] and state.lock is NOBODY:
+            if s < state.width:
+                who = state.queue[0][0]
+                if not self.has["stays"]:
+                    yield self.out(state, who, "passes").but(seats=put(state.seats, s, (NOBODY, False))).does(who, USES, s).does(t, IDLE)
+                    return
+                state = state.but(seats=put(state.seats, s, (NOBODY, False))).does(t, IDLE)
+                yield self.hand(state, who, s)
+                return
+        elif state.queue and not state.threads and lent and self.has["hands"]:
+            return  # it waits for the lock
+        yield state.but(seats=put(state.seats, s, (NOBODY, bool(state.queue)))).does(t, GIVES, s)
+
+    def asks(self, state, t, s):
+        if not self.has["asks"]:
+            return state.does(t, IDLE)
+        if state.threads:
+            return state.does(t, SERVES, s)
+        return state.does(t, CALLS if state.queue and not state.called else IDLE)
+
+    def serves(self, state, t, s):
+        """A thread that waits gets the seat, if it is free; then it looks for tasks."""
+        done = state.does(t, CALLS if state.queue and not state.called else IDLE)
+        return self.hand(done, state.threads[0], s) if state.threads and state.seats[s][0] is NOBODY else done
+
+    def widened(self, state, t, s):
+        """Those that may be claimed from now on are handed to who waits; and then it gives its own."""
+        state = state.does(t, USES, s)
+        for free in range(state.width):
+            if self.has["serves"] and state.queue and not state.threads and state.seats[free][0] is NOBODY:
+                state = self.hand(state, state.queue[0][0], free)
+        return state
 
     def polls(self, state, t):
-        words, queue, lock, them = state
-        k = [it[0] for it in queue].index(t)
-        _, is_, s, passed = queue[k]
-        if is_ != CALLED:
+        """Who was called looks at a seat, and then at all."""
+        if not state.queue or state.queue[0][:2] != (t, CALLED):
             return
-        words = put(words, s, (words[s][0], False))
-        if words[s][0] is NOBODY:
-            if self.is_due(queue):
-                queue = put(queue, k, (t, WAITS, 0, passed))
-                k = next(k for k, it in enumerate(queue) if it[1] == DUE)
-            words_, queue_, them_ = self.hand(words, queue, them, k, s)
-            yield words_, queue_, lock, them_
-        else:
-            is_due = k == 0 and self.has["due"]
-            queue = put(queue, k, (t, DUE if is_due else WAITS, 0, (passed or 0) if k == 0 else passed))
-            yield words, queue, t, put(them, t, (SCANS, 0))
-
-    def leaves(self, state, t):
-        words, queue, lock, them = state
-        k = [it[0] for it in queue].index(t)
-        _, is_, s, _ = queue[k]
-        queue, them = queue[:k] + queue[k + 1:], put(them, t, (IDLE, 0))
-        if is_ == CALLED and self.has["clears"]:
-            words = put(words, s, (words[s][0], False))
-            if words[s][0] is NOBODY and self.has["offers"]:
-                words, queue, them = self.offer(words, queue, them, s)
-        yield words, queue, lock, them
+        if state.looks < LOOKS_ON:
+            if not self.is_barred(state, t) and self.is_free(state, t, 0):
+                yield self.hand(state, t, 0)
+            else:
+                yield state.but(looks=state.looks + 1)
+            return
+        if self.has["clears"]:
+            state = state.but(called=False, queue=put(state.queue, 0, (t, WAITS, state.queue[0][2])))
+        yield state.but(lock=t).does(t, SCANS)
 
     def look(self, state):
-        words, queue, lock, them = state
-        for s, (_, called) in enumerate(words):
-            if sum(it[1] == CALLED and it[2] == s for it in queue) != called:
-                raise Wrong(f"it says that somebody is called, or one is and it doesn't say so: {state}")
-        if any(what in (LOOKS, SEEKS, SCANS, GIVES, SERVES) for what, _ in them):
+        """What is so in each state; of what it waits for, only where nobody is amid a call."""
+        if [it[1] for it in state.queue[1:] if it[1] == CALLED]:
+            raise Wrong(f"one is called that isn't the first: {state.key()}")
+        if any(what in (LOOKS, SEEKS, SCANS, GIVES, SERVES, CALLS, WIDENS) for what, _ in state.them):
             return
-        if self.is_due(queue) and any(user is NOBODY for user, _ in words):
-            raise Wrong(f"a seat is free, and somebody is due one: {state}")
-        if any(it[1] == WAITS for it in queue) and (NOBODY, False) in words:
-            raise Wrong(f"a seat is free, somebody waits, and nobody was called: {state}")
+        if state.called != (state.queue[:1] != () and state.queue[0][1] == CALLED):
+            raise Wrong(f"it says that somebody is called, or one is and it doesn't say so: {state.key()}")
+        if state.threads and any(user is NOBODY for user, _ in state.seats):
+            raise Wrong(f"a seat is free, and a thread waits: {state.key()}")
+        if state.queue and not state.called and any(user is NOBODY for user, _ in state.seats[:state.width]):
+            raise Wrong(f"a seat is free, somebody waits, and nobody was called: {state.key()}")
 
     def search(self):
         """How many states it reaches, each of which is right; or Wrong."""
-        seen, new = {self.begin}, [self.begin]
+        seen, new = {self.begin.key()}, [self.begin]
         while new:
             state = new.pop()
             self.look(state)
             for it in self.moves(state):
-                if it not in seen:
-                    seen.add(it)
+                if it.key() not in seen:
+                    seen.add(it.key())
                     new.append(it)
         return len(seen)
 
 
 def main():
-    sizes = (1, 3), (1, 4), (2, 4)
+    sizes = (1, 3, 0, False), (2, 3, 0, False), (2, 2, 0, True), (1, 2, 1, False), (2, 2, 1, False)
     try:
         states = sum(Model(*size).search() for size in sizes)
     except Wrong as why:

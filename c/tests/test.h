@@ -19,11 +19,10 @@
 
 static inline unsigned next(unsigned *x) { return (*x = *x * 1664525u + 1013904223u) >> 8; }
 
-/* The next step of a call, which wakes nobody and rests for nothing. */
+/* The next step of a call, which wakes nobody. */
 static inline int turn(ww_handle *h)
 {
-	uint32_t rest;
-	int r = ww_go_on_(h, &rest);
+	int r = ww_go_on_(h);
 
 	while (ww_next_wake_(h) >= 0)
 		;

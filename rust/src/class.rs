@@ -57,6 +57,7 @@ pub trait Class: Sized + 'static {
     ///
     /// In a forked child, if the class was opened before the fork.
     #[inline]
+    #[track_caller]
     fn run<R>(body: impl FnMut(&Tx<Self>) -> Result<R, Error>) -> Result<R, Error> {
         Options::new().run(body)
     }
@@ -102,6 +103,7 @@ pub trait Class: Sized + 'static {
     ///
     /// As [`run`](Class::run).
     #[inline]
+    #[track_caller]
     fn try_run<R, E: From<Error>>(body: impl FnMut(&Tx<Self>) -> Result<R, E>) -> Result<R, E> {
         Options::new().try_run(body)
     }
@@ -150,6 +152,45 @@ pub trait Class: Sized + 'static {
         Options::new()
     }
 
+    /// Ends each wait of the class's contexts with [`Cancelled`](Error::Cancelled), of threads and of tasks, also the waits
+    /// for a context; and each later one immediately. What needn't wait goes on, and so does [`Mutex::lock`], which can't fail.
+    /// So a program that ends needs no list of what waits.
+    ///
+    /// ```
+    /// # use ww_mutex::{class, Class, Error, Mutex};
+    /// class!(struct Boxes: WoundWait);
+    /// static BOX: Mutex<Boxes, u64> = Mutex::new(0);
+    ///
+    /// let held = BOX.lock();
+    /// std::thread::scope(|scope| {
+    ///     let waiting = scope.spawn(|| Boxes::run(|tx| tx.lock(&BOX).map(|value| *value)));
+    ///     Boxes::cancel()?;
+    ///     assert_eq!(waiting.join().unwrap(), Err(Error::Cancelled));
+    ///     Ok::<(), Error>(())
+    /// })?;
+    /// # drop(held);
+    /// # Ok::<(), Error>(())
+    /// ```
+    ///
+    /// [`Mutex::lock`]: crate::Mutex::lock
+    ///
+    /// # Errors
+    ///
+    /// [`Error::OutOfMemory`], if this opens the class.
+    ///
+    /// # Panics
+    ///
+    /// In a forked child, if the class was opened before the fork.
+    fn cancel() -> Result<(), Error> {
+        Self::raw().cancel()
+    }
+
+    /// How often its contexts backed off and waited, and how many there are.
+    #[must_use]
+    fn counts() -> Counts {
+        Self::raw().counts()
+    }
+
     /// Allocates the class's memory now, and not at its first use: 52 bytes for each mutex that it may have, and 0.8 to
     /// 1.3 KiB for each context.
     ///
@@ -159,6 +200,26 @@ pub trait Class: Sized + 'static {
     fn open() -> Result<(), Error> {
         Self::raw().open()
     }
+}
+
+/// Counts since a class was opened, and how many contexts it has now.
+#[derive(Clone, Copy, Debug, Default, PartialEq, Eq)]
+#[non_exhaustive]
+pub struct Counts {
+    /// Lock calls that returned [`Deadlock`](Error::Deadlock), without those that the debug library forced.
+    pub back_offs: u64,
+    /// Lock calls that waited, be it for a moment.
+    pub lock_waits: u64,
+    /// Waits for a context of the class.
+    pub context_waits: u64,
+    /// Waits for a permit, when far more threads than processors sleep.
+    pub permit_waits: u64,
+    /// Contexts that are in use now.
+    pub contexts: u64,
+    /// Calls and tasks that wait for one now.
+    pub context_waiters: u64,
+    /// How many contexts tasks may have at a time now.
+    pub task_contexts: u64,
 }
 
 /// What a [`Class`] has at run time: a static of its own, opened at its first use and never freed.
@@ -294,6 +355,23 @@ impl RawClass {
     fn put(&'static self, number: Number) -> c_int {
         // SAFETY: the class is static; no mutex has the number, which was taken, and is put back once.
         unsafe { ffi::ww_number_put(number.index(), self.get()) }
+    }
+
+    fn cancel(&'static self) -> Result<(), Error> {
+        // SAFETY: the class is static, and never freed.
+        match unsafe { ffi::ww_class_cancel(self.get()) } {
+            0 => Ok(()),
+            answer => Err(error::of_making(answer)),
+        }
+    }
+
+    fn counts(&'static self) -> Counts {
+        let mut counts = ffi::ww_class_counts::default();
+        // SAFETY: the class is static, and `counts` lives for the call.
+        unsafe { ffi::ww_class_stats(self.get(), &raw mut counts) };
+        let ffi::ww_class_counts { back_offs, lock_waits, context_waits, permit_waits, .. } = counts;
+        let ffi::ww_class_counts { contexts, context_waiters, task_contexts, .. } = counts;
+        Counts { back_offs, lock_waits, context_waits, permit_waits, contexts, context_waiters, task_contexts }
     }
 
     pub(crate) fn open(&'static self) -> Result<(), Error> {

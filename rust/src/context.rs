@@ -3,12 +3,11 @@
 use crate::class::RawClass;
 use crate::guard::Holder;
 use crate::number::Number;
-use crate::{clock, error, ffi, own, Canceller, Class, Error, Kind, Mutex, MutexGuard};
+use crate::{clock, error, ffi, own, place, Canceller, Class, Error, Kind, Mutex, MutexGuard, SharedMutex};
 use core::cell::{Cell, OnceCell, UnsafeCell};
 use core::ffi::c_int;
 use core::mem::MaybeUninit;
 use core::ptr;
-use std::thread;
 use std::time::{Duration, Instant};
 
 /// From `begin` to `end` it isn't moved or borrowed exclusively, since the library has its address.
@@ -29,6 +28,8 @@ struct Rare {
     contended: Cell<Option<Number>>,
     /// It was locked first, and the body hasn't asked for it yet.
     prelocked: Cell<Option<Number>>,
+    /// That was at a shared mutex, or at one who reads it: the library knows where.
+    awaits: Cell<bool>,
 }
 
 impl Rare {
@@ -46,6 +47,10 @@ struct Limits {
 }
 
 impl Limits {
+    fn until(&self) -> *const ffi::timespec {
+        self.until.as_ref().map_or(ptr::null(), |(_, until)| ptr::from_ref(until))
+    }
+
     fn is_cancelled(&self) -> bool {
         self.canceller.as_ref().is_some_and(Canceller::is_cancelled)
     }
@@ -106,24 +111,26 @@ impl Context {
     ///
     /// It stays where it is, and isn't borrowed exclusively, until `end`, which comes once.
     #[inline]
+    #[track_caller]
     pub(crate) unsafe fn begin(&self) -> Result<(), Error> {
-        // SAFETY: the call reads nothing of what was there; the class is static.
-        let begin = || unsafe { ffi::ww_acquire_init_checked(self.raw(), self.class.get()) };
-        // SAFETY: as above; the time lives for the call. It waits for a context.
+        place::said();
+        // SAFETY: the call reads nothing of what was there; the class is static, and the time lives for the call. It waits for a
+        // context.
         let wait = |until: Option<&ffi::timespec>| unsafe {
-            match until {
-                Some(until) => return ffi::ww_acquire_init_until(self.raw(), self.class.get(), ptr::from_ref(until)),
-                None => ffi::ww_acquire_init(self.raw(), self.class.get()),
-            }
-            0
+            ffi::ww_acquire_init_until(self.raw(), self.class.get(), until.map_or(ptr::null(), ptr::from_ref))
         };
-        match begin() {
+        let begun = match self.rare() {
+            None => wait(None),
+            // SAFETY: as above.
+            Some(_) => unsafe { ffi::ww_acquire_init_checked(self.raw(), self.class.get()) },
+        };
+        match begun {
             0 => {}
-            answer => self.begin_late(answer, begin, wait)?,
+            answer => self.begin_late(answer, wait)?,
         }
-        // No program sees when a context began, so none needs an age of its own.
+        // No program sees when a context began, so none needs an age of its own. A cancel of its class ends its waits.
         // SAFETY: it has begun, and has locked nothing.
-        unsafe { ffi::ww_acquire_flags(self.raw(), ffi::WW_MAY_BE_OLDER) };
+        unsafe { ffi::ww_acquire_flags(self.raw(), ffi::WW_MAY_BE_OLDER | ffi::WW_INTERRUPTIBLE) };
         own::begun(self.raw(), self.class);
         if let Some(canceller) = self.canceller() {
             canceller.joins(self.raw());
@@ -133,12 +140,7 @@ impl Context {
 
     /// The library's wait for a context ends at a time, but not by a canceller: with one, it is made of short waits.
     #[cold]
-    fn begin_late(
-        &self,
-        mut answer: c_int,
-        begin: impl Fn() -> c_int,
-        wait: impl FnOnce(Option<&ffi::timespec>) -> c_int,
-    ) -> Result<(), Error> {
+    fn begin_late(&self, mut answer: c_int, wait: impl Fn(Option<&ffi::timespec>) -> c_int) -> Result<(), Error> {
         let limits = self.rare().map(|rare| &rare.limits);
         let mut pause = Duration::from_micros(20);
         if answer == -ffi::EAGAIN && self.canceller().is_none() {
@@ -146,9 +148,11 @@ impl Context {
         }
         while answer == -ffi::EAGAIN {
             limits.map_or(Ok(()), Limits::check)?;
-            thread::sleep(pause);
+            answer = match wait(Some(&clock::monotonic(Instant::now() + pause))) {
+                timed_out if timed_out == -ffi::ETIMEDOUT => -ffi::EAGAIN,
+                other => other,
+            };
             pause = (2 * pause).min(Duration::from_millis(1));
-            answer = begin();
         }
         match -answer {
             0 => Ok(()),
@@ -184,11 +188,13 @@ impl Context {
 
     /// Acquires the mutex, which the caller borrows.
     #[inline]
+    #[track_caller]
     pub(crate) fn lock<C: Class, T: ?Sized>(&self, mutex: &Mutex<C, T>) -> Result<(), Error> {
         self.lock_with(self.rare(), mutex.number(self.class)?)
     }
 
     #[inline]
+    #[track_caller]
     fn lock_with(&self, rare: Option<&Rare>, number: Number) -> Result<(), Error> {
         if let Some(rare) = rare {
             return self.lock_rarely(number, rare);
@@ -200,6 +206,7 @@ impl Context {
     }
 
     #[cold]
+    #[track_caller]
     fn lock_rarely(&self, number: Number, rare: &Rare) -> Result<(), Error> {
         if rare.is_over.get() {
             return Err(Error::Deadlock);
@@ -211,7 +218,9 @@ impl Context {
     }
 
     #[inline]
+    #[track_caller]
     fn ask(&self, number: Number) -> c_int {
+        place::said();
         // In Wait-Die a context that holds something may get `Deadlock` instead.
         if cfg!(debug_assertions) && (self.held() == 0 || self.class.kind() == Kind::WoundWait) {
             own::check_wait(number, self.raw());
@@ -220,6 +229,7 @@ impl Context {
         unsafe { ffi::lock(number.index(), self.raw()) }
     }
 
+    #[track_caller]
     fn ask_within(&self, number: Number, limits: &Limits) -> c_int {
         if limits.is_cancelled() {
             return -ffi::EINTR;
@@ -227,13 +237,14 @@ impl Context {
         if limits.until.is_none() && limits.canceller.is_none() {
             return self.ask(number);
         }
-        let until = limits.until.as_ref().map_or(ptr::null(), |(_, until)| ptr::from_ref(until));
+        place::said();
         // SAFETY: as in `ask`; the time lives for the call.
-        unsafe { ffi::ww_number_lock_until(number.index(), self.raw(), until) }
+        unsafe { ffi::ww_number_lock_until(number.index(), self.raw(), limits.until()) }
     }
 
     /// The error for a value other than 0 that the library returned.
     #[cold]
+    #[track_caller]
     fn refused(&self, number: Number, answer: c_int) -> Result<(), Error> {
         match -answer {
             ffi::EALREADY if self.take_first(number) => Ok(()),
@@ -253,6 +264,7 @@ impl Context {
     /// Acquires all of them, in this order, for guards that live no longer than the context; or none of them. If a lock
     /// call panics, what it acquired is released like what was forgotten.
     #[inline]
+    #[track_caller]
     pub(crate) fn lock_all<'g, C: Class, T: ?Sized, const N: usize>(
         &'g self,
         list: [&'g Mutex<C, T>; N],
@@ -297,6 +309,72 @@ impl Context {
         true
     }
 
+    // ---- shared mutexes ----
+
+    /// Reads it from now on until the back-off, or the end. `Duplicate`: a guard of the context writes it.
+    #[track_caller]
+    pub(crate) fn read<C: Class, T: ?Sized>(&self, mutex: &SharedMutex<C, T>) -> Result<(), Error> {
+        let number = mutex.number(self.class)?;
+        // SAFETY: as in `ask`; the word is that of this number, and the time lives for the call.
+        self.ask_shared(|until| unsafe {
+            ffi::ww_number_lock_shared(number.index(), mutex.readers(), self.raw(), until)
+        })
+    }
+
+    /// Writes it, for one guard. `Duplicate`: one is there, or the context reads it, so that there may be references.
+    #[track_caller]
+    pub(crate) fn write<C: Class, T: ?Sized>(&self, mutex: &SharedMutex<C, T>) -> Result<(), Error> {
+        let number = mutex.number(self.class)?;
+        // SAFETY: as in `ask`.
+        if unsafe { ffi::ww_number_is_read(number.index(), self.raw()) } {
+            return Err(Error::Duplicate);
+        }
+        // SAFETY: as in `read`.
+        self.ask_shared(|until| unsafe {
+            ffi::ww_number_lock_exclusive(number.index(), mutex.readers(), self.raw(), until)
+        })
+    }
+
+    #[track_caller]
+    fn ask_shared(&self, ask: impl FnOnce(*const ffi::timespec) -> c_int) -> Result<(), Error> {
+        if self.is_over() {
+            return Err(Error::Deadlock);
+        }
+        place::said();
+        let answer = match self.rare() {
+            Some(rare) if rare.limits.is_cancelled() => -ffi::EINTR,
+            Some(rare) => ask(rare.limits.until()),
+            None => ask(ptr::null()),
+        };
+        match -answer {
+            0 => Ok(()),
+            ffi::EALREADY => Err(Error::Duplicate),
+            ffi::EDEADLK => {
+                let rare = self.rare.get_or_init(Box::default);
+                rare.awaits.set(true);
+                rare.is_over.set(true);
+                Err(Error::Deadlock)
+            }
+            ffi::ETIMEDOUT => Err(Error::TimedOut),
+            _ => Err(error::of_making(answer)),
+        }
+    }
+
+    /// After a back-off: waits for what the context collided with, and holds nothing then.
+    #[cold]
+    fn await_shared(&self, rare: &Rare) -> Result<(), Error> {
+        if rare.limits.is_cancelled() {
+            return Err(Error::Cancelled);
+        }
+        // SAFETY: the context got `Deadlock` at a shared mutex, and has released all since.
+        match unsafe { -ffi::ww_shared_mutex_await(self.raw(), rare.limits.until()) } {
+            0 => Ok(()),
+            ffi::EINTR => Err(Error::Cancelled),
+            ffi::ETIMEDOUT => Err(Error::TimedOut),
+            _ => error::in_child(),
+        }
+    }
+
     // ---- back-offs ----
 
     /// Whether it got `Deadlock`, and hasn't backed off since.
@@ -335,6 +413,9 @@ impl Context {
     pub(crate) unsafe fn back_off(&self, first: Option<Number>) -> Result<(), Error> {
         // SAFETY: as asked for here.
         unsafe { self.start() };
+        if let Some(rare) = self.rare().filter(|rare| rare.awaits.take()) {
+            return self.await_shared(rare);
+        }
         let Some(first) = first else { return Ok(()) };
         self.class.check(first);
         let rare = self.rare.get_or_init(Box::default);
@@ -360,6 +441,8 @@ impl Context {
             // SAFETY: the context has it, and no guard stands for that.
             unsafe { ffi::unlock(first.index(), self.raw()) };
         }
+        // SAFETY: as asked for here: no reference that a read gave is left either.
+        unsafe { ffi::ww_acquire_end_reads(self.raw()) };
         if self.held() != 0 {
             // SAFETY: as asked for here.
             unsafe { ffi::ww_number_unlock_all(self.raw()) };

@@ -11,7 +11,7 @@ pub enum Error {
     Deadlock,
     /// The context holds this mutex already. A second guard would be a second `&mut` to one value.
     Duplicate,
-    /// The [`Canceller`](crate::Canceller) ended the wait.
+    /// The [`Canceller`](crate::Canceller) ended the wait, or [`Class::cancel`](crate::Class::cancel).
     Cancelled,
     /// The deadline came before the mutex was locked.
     TimedOut,
@@ -39,7 +39,7 @@ impl fmt::Display for Error {
             Error::Duplicate => "the context holds this mutex already",
             Error::Cancelled => "the wait was cancelled",
             Error::TimedOut => "the deadline passed",
-            Error::Exhausted => "the class has all mutexes that it may have",
+            Error::Exhausted => "the class has all mutexes that it may have: 65,536, or as many as `class!` says",
             Error::OutOfMemory => "there is no memory to open the class",
             Error::Swallowed => "the body got Deadlock, but returned Ok",
         })
@@ -50,15 +50,18 @@ impl core::error::Error for Error {}
 
 /// Why the library gave no mutex, no context, or no class.
 #[cold]
+#[track_caller]
 pub(crate) fn of_making(answer: c_int) -> Error {
     match -answer {
         ffi::ENOSPC => Error::Exhausted,
         ffi::ENOMEM => Error::OutOfMemory,
+        ffi::EINTR => Error::Cancelled,
         _ => in_child(),
     }
 }
 
 #[cold]
+#[track_caller]
 pub(crate) fn in_child() -> ! {
     panic!("the class was opened before a fork, of which this is the child")
 }

@@ -1,4 +1,4 @@
-//! The declarations of `c/ww_number.h` and `c/ww_mutex.h` that are used here. The test below compares them with what a C compiler says.
+//! The declarations of `c/ww_number.h`, `c/ww_shared.h` and `c/ww_mutex.h` that are used here. The test below compares them with what a C compiler says.
 
 #![allow(non_camel_case_types, reason = "the names are those of the header")]
 
@@ -27,6 +27,18 @@ pub struct ww_class {
     pub is_wait_die: c_int,
     pub permits: u32,
     pub name: *const c_char,
+}
+
+#[repr(C)]
+#[derive(Default)]
+pub struct ww_class_counts {
+    pub back_offs: u64,
+    pub lock_waits: u64,
+    pub context_waits: u64,
+    pub permit_waits: u64,
+    pub contexts: u64,
+    pub context_waiters: u64,
+    pub task_contexts: u64,
 }
 
 #[repr(C)]
@@ -90,7 +102,8 @@ pub struct timespec {
 
 pub const CLOCK_MONOTONIC: c_int = 1;
 
-/// A flag of `ww_acquire_flags`.
+/// Flags of `ww_acquire_flags`.
+pub const WW_INTERRUPTIBLE: c_uint = 2;
 pub const WW_MAY_BE_OLDER: c_uint = 4;
 
 pub const EINTR: c_int = 4;
@@ -106,10 +119,12 @@ pub const EINPROGRESS: c_int = 115;
 
 extern "C" {
     pub fn ww_version() -> u32;
+    pub fn ww_report_long_waits(seconds: c_uint);
 
     pub fn ww_class_open(class: *mut ww_class) -> c_int;
+    pub fn ww_class_cancel(class: *mut ww_class) -> c_int;
+    pub fn ww_class_stats(class: *mut ww_class, counts: *mut ww_class_counts);
 
-    pub fn ww_acquire_init(ctx: *mut ww_acquire_ctx, class: *mut ww_class);
     pub fn ww_acquire_init_checked(ctx: *mut ww_acquire_ctx, class: *mut ww_class) -> c_int;
     pub fn ww_acquire_init_until(ctx: *mut ww_acquire_ctx, class: *mut ww_class, monotonic: *const timespec) -> c_int;
     pub fn ww_acquire_flags(ctx: *mut ww_acquire_ctx, flags: c_uint);
@@ -133,15 +148,37 @@ extern "C" {
     ) -> c_int;
     pub fn ww_number_trylock_alone(number: u32, class: *mut ww_class, by: *mut *mut ww_seat) -> c_int;
     pub fn ww_number_unlock_alone(number: u32, by: *mut ww_seat);
+    pub fn ww_number_lock_shared(
+        number: u32,
+        readers: *mut u64,
+        ctx: *mut ww_acquire_ctx,
+        monotonic: *const timespec,
+    ) -> c_int;
+    pub fn ww_number_lock_exclusive(
+        number: u32,
+        readers: *mut u64,
+        ctx: *mut ww_acquire_ctx,
+        monotonic: *const timespec,
+    ) -> c_int;
+    pub fn ww_number_is_read(number: u32, ctx: *const ww_acquire_ctx) -> bool;
+    pub fn ww_acquire_end_reads(ctx: *mut ww_acquire_ctx);
+    pub fn ww_shared_mutex_await(ctx: *mut ww_acquire_ctx, monotonic: *const timespec) -> c_int;
 
     // The calls of which those are made that the header compiles into its callers.
+    #[cfg(feature = "async")]
     fn ww_lock_(seat: *mut ww_seat, lock: u32, heeds: bool) -> i32;
+    fn ww_try_(seat: *mut ww_seat, lock: u32) -> i32;
     fn ww_unlock_(seat: *mut ww_seat, lock: u32) -> i32;
     fn ww_number_lock_further_(number: u32, ctx: *mut ww_acquire_ctx, r: c_int) -> c_int;
     fn ww_number_unlock_further_(number: u32, ctx: *mut ww_acquire_ctx, r: c_int) -> c_int;
 
     /// Of the C library, which std links.
     pub fn clock_gettime(clock: c_int, at: *mut timespec) -> c_int;
+}
+
+#[cfg(feature = "debug-library")]
+extern "C" {
+    pub fn ww_debug_at_(file: *const c_char, line: c_int);
 }
 
 #[cfg(feature = "async")]
@@ -196,7 +233,7 @@ pub unsafe fn lock(number: u32, ctx: *mut ww_acquire_ctx) -> c_int {
         if cfg!(ww_no_inline) {
             return ww_number_lock(number, ctx);
         }
-        let r = ww_lock_((*ctx).own, number, false);
+        let r = ww_try_((*ctx).own, number);
         if r != 0 {
             return ww_number_lock_further_(number, ctx, r);
         }
@@ -231,7 +268,7 @@ pub unsafe fn unlock(number: u32, ctx: *mut ww_acquire_ctx) {
 mod tests {
     #[cfg(feature = "async")]
     use super::ww_seek;
-    use super::{timespec, ww_acquire_ctx, ww_class, INTERFACE};
+    use super::{timespec, ww_acquire_ctx, ww_class, ww_class_counts, INTERFACE};
     use std::mem::{align_of, offset_of, size_of};
     use std::process::Command;
     use std::{env, fs};
@@ -257,6 +294,8 @@ mod tests {
     fn the_layouts_are_those_of_the_header() {
         let (asked, here) = layouts! {
             ww_class: pool mutexes contexts is_wait_die permits name;
+            ww_class_counts: back_offs lock_waits context_waits permit_waits contexts context_waiters
+                task_contexts;
             ww_acquire_ctx: pool own gives acquired state contending_lock newest prelocked cancelled
                 deadlock_inject_interval deadlock_inject_countdown stamp empty_;
             timespec: tv_sec tv_nsec;

@@ -24,7 +24,7 @@ impl Holder {
     ///
     /// It holds this mutex, and is this thread's.
     #[inline]
-    unsafe fn release(self, index: u32) {
+    pub(crate) unsafe fn release(self, index: u32) {
         let is_alone = self.0 as usize & 1 == 1;
         // SAFETY: as asked for here.
         unsafe {

@@ -73,6 +73,8 @@ mod mutex;
 mod number;
 mod options;
 mod own;
+mod place;
+mod shared;
 #[cfg(feature = "async")]
 #[allow(clippy::incompatible_msrv, reason = "the feature asks for Rust 1.85")]
 pub mod task;
@@ -80,11 +82,12 @@ mod tx;
 pub mod typed;
 
 pub use cancel::Canceller;
-pub use class::{Class, Kind, RawClass};
+pub use class::{Class, Counts, Kind, RawClass};
 pub use error::Error;
 pub use guard::{ArcMutexGuard, MutexGuard};
 pub use mutex::Mutex;
 pub use options::Options;
+pub use shared::{SharedMutex, SharedMutexGuard};
 pub use tx::Tx;
 
 /// The version of `libww`: 10,000 times its first number, 100 times the second one, and the third one.
@@ -92,6 +95,17 @@ pub use tx::Tx;
 pub fn library_version() -> u32 {
     // SAFETY: it takes no arguments, and returns a constant.
     unsafe { ffi::ww_version() }
+}
+
+/// After how many seconds a thread that waits without a deadline says so on standard error, once a class for waits for a
+/// mutex, and once for those for a context: 10, unless this sets another number; 0: never.
+///
+/// ```
+/// ww_mutex::report_long_waits(60);
+/// ```
+pub fn report_long_waits(seconds: u32) {
+    // SAFETY: any thread may call it.
+    unsafe { ffi::ww_report_long_waits(seconds) }
 }
 
 /// The page for readers is tested, too.

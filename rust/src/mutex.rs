@@ -1,7 +1,7 @@
 use crate::class::RawClass;
 use crate::guard::Holder;
 use crate::number::{Handle, Number};
-use crate::{clock, error, ffi, own, Class, Error, MutexGuard};
+use crate::{clock, error, ffi, own, place, Class, Error, MutexGuard};
 use core::cell::UnsafeCell;
 use core::ffi::c_int;
 use core::fmt;
@@ -88,12 +88,16 @@ impl<C: Class, T: ?Sized> Mutex<C, T> {
     /// errors); in a forked child, if the class was opened before the fork; and, with debug assertions, if a context of
     /// this thread holds the mutex.
     #[inline]
+    #[track_caller]
     pub fn lock(&self) -> MutexGuard<'_, C, T> {
         let class = C::raw();
         let number = self.number_or_panic(class);
         own::check_wait(number, ptr::null());
         // Nothing cancels this wait.
-        self.lock_alone(number, class, None).unwrap_or_else(|_| error::in_child())
+        match self.lock_alone(number, class, None) {
+            Ok(guard) => guard,
+            Err(_) => error::in_child(),
+        }
     }
 
     /// Locks it without a context if nobody holds it or waits for it, and a context of the class is free.
@@ -102,6 +106,7 @@ impl<C: Class, T: ?Sized> Mutex<C, T> {
     ///
     /// If the class has all mutexes that it may have, or no memory to open.
     #[inline]
+    #[track_caller]
     pub fn try_lock(&self) -> Option<MutexGuard<'_, C, T>> {
         let class = C::raw();
         let number = self.number_or_panic(class);
@@ -112,19 +117,20 @@ impl<C: Class, T: ?Sized> Mutex<C, T> {
         is_locked.then(|| unsafe { MutexGuard::of(self, Holder::alone(by)) })
     }
 
-    /// As [`lock`](Mutex::lock), but waits at most until this time. A mutex that is free is locked, however late
+    /// As [`lock`](Mutex::lock), but waits at most until this time, or [`Class::cancel`]. A mutex that is free is locked, however late
     /// it is, if a context of the class is free.
     ///
     /// # Panics
     ///
     /// If the class has all mutexes that it may have, or no memory to open; in a forked child, if the class was opened
     /// before the fork.
+    #[track_caller]
     pub fn try_lock_until(&self, deadline: Instant) -> Option<MutexGuard<'_, C, T>> {
         let class = C::raw();
         let number = self.number_or_panic(class);
         match self.lock_alone(number, class, Some(&clock::monotonic(deadline))) {
             Ok(guard) => Some(guard),
-            Err(answer) if answer == -ffi::ETIMEDOUT => None,
+            Err(answer) if answer == -ffi::ETIMEDOUT || answer == -ffi::EINTR => None,
             Err(_) => error::in_child(),
         }
     }
@@ -134,6 +140,7 @@ impl<C: Class, T: ?Sized> Mutex<C, T> {
     /// # Panics
     ///
     /// As [`try_lock_until`](Mutex::try_lock_until).
+    #[track_caller]
     pub fn try_lock_for(&self, timeout: Duration) -> Option<MutexGuard<'_, C, T>> {
         match Instant::now().checked_add(timeout) {
             Some(deadline) => self.try_lock_until(deadline),
@@ -186,6 +193,7 @@ impl<C: Class, T: ?Sized> Mutex<C, T> {
     }
 
     #[inline]
+    #[track_caller]
     fn number_or_panic(&self, class: &'static RawClass) -> Number {
         match self.number(class) {
             Ok(number) => number,
@@ -194,12 +202,14 @@ impl<C: Class, T: ?Sized> Mutex<C, T> {
     }
 
     /// Locks without a context; returns what the library returned, if that isn't 0.
+    #[track_caller]
     fn lock_alone(
         &self,
         number: Number,
         class: &'static RawClass,
         until: Option<&ffi::timespec>,
     ) -> Result<MutexGuard<'_, C, T>, c_int> {
+        place::said();
         let until = until.map_or(ptr::null(), ptr::from_ref);
         let mut by = ptr::null_mut();
         // SAFETY: the class is static, and the number is one of it; the time, if there is one, and `by` live for the call.
@@ -212,6 +222,7 @@ impl<C: Class, T: ?Sized> Mutex<C, T> {
 }
 
 #[cold]
+#[track_caller]
 fn no_number(error: Error) -> ! {
     panic!("a mutex can't be locked: {error}")
 }

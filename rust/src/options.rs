@@ -69,6 +69,7 @@ impl<'c, C: Class> Options<'c, C> {
     ///
     /// As [`Class::run`].
     #[inline]
+    #[track_caller]
     pub fn run<R>(&self, body: impl FnMut(&Tx<C>) -> Result<R, Error>) -> Result<R, Error> {
         self.try_run(body)
     }
@@ -83,6 +84,7 @@ impl<'c, C: Class> Options<'c, C> {
     ///
     /// As [`Class::run`].
     #[inline]
+    #[track_caller]
     pub fn try_run<R, E: From<Error>>(&self, mut body: impl FnMut(&Tx<C>) -> Result<R, E>) -> Result<R, E> {
         let tx = Tx::new(self.context());
         let running = Running::begin(&tx)?;

@@ -37,6 +37,7 @@ pub(crate) fn ended(context: *const ww_acquire_ctx) {
 ///
 /// Another context of this thread holds it.
 #[inline]
+#[track_caller]
 pub(crate) fn check_wait(number: Number, context: *const ww_acquire_ctx) {
     if cfg!(debug_assertions) {
         let holds = |&(other, class): &Own| {
@@ -44,6 +45,6 @@ pub(crate) fn check_wait(number: Number, context: *const ww_acquire_ctx) {
             other != context && class.tag() == number.tag() && unsafe { ffi::ww_number_is_held(number.index(), other) }
         };
         let is_own = with_own(|own| own.iter().any(holds)).unwrap_or(false);
-        assert!(!is_own, "another context of this thread holds the mutex, so this would wait for ever");
+        assert!(!is_own, "another context of this thread holds the mutex, so this would wait forever");
     }
 }

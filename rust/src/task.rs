@@ -73,10 +73,10 @@
 //!
 //! # How many run at once
 //!
-//! A class has contexts for tasks, two for each processor, besides those of threads; if [`class!`](crate::class!) says
-//! how many contexts it has, threads and tasks share these. Further tasks wait for one, holding nothing, since the more run
-//! at a time, the more of them retry; whichever waits longest is called first. So a body that awaits something else for long
-//! keeps another task waiting, and a body that awaits a task which needs a context may wait forever.
+//! A class finds by itself how many tasks have a context at a time: it measures how many end the most in a second, up to 896.
+//! If [`class!`](crate::class!) says how many contexts it has, that is a fixed bound, which threads and tasks share. Further tasks
+//! wait for one, holding nothing; one that ends goes to whoever begins next, and each 0.2 to 1 ms to whoever waits longest. So a body that
+//! awaits a task which needs a context may wait forever.
 //!
 //! # Guards across an `.await`
 //!
@@ -99,7 +99,7 @@ mod waker;
 
 pub use lock::{ArcGuard, Guard, Lock, LockArc, LoneGuard};
 
-use crate::{error, ffi, Class, Error, Mutex};
+use crate::{error, ffi, place, Class, Error, Mutex};
 use body::Body;
 use core::fmt;
 use core::future::{poll_fn, Future};
@@ -151,13 +151,17 @@ impl<C: Class> Tx<C> {
     ///
     /// In a forked child, if the class was opened before the fork.
     #[inline]
+    #[track_caller]
     pub fn lock<'x, T: ?Sized>(&'x self, mutex: &'x Mutex<C, T>) -> Lock<'x, C, T> {
+        place::said();
         Lock { mutex, acquire: Acquire::new(&self.inner) }
     }
 
     /// The same for a mutex that the guard shares.
     #[inline]
+    #[track_caller]
     pub fn lock_arc<'x, T: ?Sized>(&'x self, mutex: &Arc<Mutex<C, T>>) -> LockArc<'x, C, T> {
+        place::said();
         LockArc { mutex: Arc::clone(mutex), acquire: Acquire::new(&self.inner) }
     }
 
@@ -289,7 +293,9 @@ impl<C: Class> Context<C> {
     #[doc(hidden)]
     #[inline]
     #[allow(clippy::missing_errors_doc, reason = "as `attempt`")]
+    #[track_caller]
     pub fn begin_now_(&mut self) -> Poll<Result<(), Error>> {
+        place::said();
         let class = self.tx.inner.class;
         let inside = self.tx.inner.own();
         if inside.has_begun() {

@@ -1,5 +1,5 @@
 use crate::context::Context;
-use crate::{ArcMutexGuard, Class, Error, Mutex, MutexGuard};
+use crate::{ArcMutexGuard, Class, Error, Mutex, MutexGuard, SharedMutex, SharedMutexGuard};
 use core::cell::Cell;
 use core::fmt;
 use core::marker::PhantomData;
@@ -77,6 +77,7 @@ impl<C: Class> Tx<C> {
     /// In a forked child, if the class was opened before the fork; with debug assertions, if another context of this
     /// thread holds the mutex, and nothing would end the wait.
     #[inline]
+    #[track_caller]
     pub fn lock<'g, T: ?Sized>(&'g self, mutex: &'g Mutex<C, T>) -> Result<MutexGuard<'g, C, T>, Error> {
         self.context.lock(mutex)?;
         // SAFETY: it locked the mutex, for this guard.
@@ -112,6 +113,7 @@ impl<C: Class> Tx<C> {
     ///
     /// As [`lock`](Self::lock).
     #[inline]
+    #[track_caller]
     pub fn lock_arc<'g, T: ?Sized>(&'g self, mutex: &Arc<Mutex<C, T>>) -> Result<ArcMutexGuard<'g, C, T>, Error> {
         self.context.lock(mutex)?;
         // SAFETY: it locked the mutex, for this guard, which doesn't outlive the context.
@@ -119,6 +121,7 @@ impl<C: Class> Tx<C> {
     }
 
     /// Locks it if nobody has it or waits for it. `None` for one that it has a guard of, and after `Deadlock`.
+    #[track_caller]
     pub fn try_lock<'g, T: ?Sized>(&'g self, mutex: &'g Mutex<C, T>) -> Option<MutexGuard<'g, C, T>> {
         let is_locked = self.context.try_lock(mutex);
         // SAFETY: it locked the mutex, for this guard.
@@ -144,6 +147,7 @@ impl<C: Class> Tx<C> {
     ///
     /// As [`lock`](Self::lock).
     #[inline]
+    #[track_caller]
     pub fn lock_all<'g, T: ?Sized, const N: usize>(
         &'g self,
         list: [&'g Mutex<C, T>; N],
@@ -170,6 +174,43 @@ impl<C: Class> Tx<C> {
         list: impl IntoIterator<Item = &'m Mutex<C, T>>,
     ) -> Result<Vec<MutexGuard<'g, C, T>>, Error> {
         list.into_iter().map(|mutex| self.lock(mutex)).collect()
+    }
+
+    /// Reads it, beside other transactions that do, and waits while one writes it. The reference lives as long as the body
+    /// may: all reads end with the attempt.
+    ///
+    /// # Errors
+    ///
+    /// As [`lock`](Self::lock); `Duplicate` while it has a guard of this mutex. The first read of a context of the class
+    /// takes a mutex of that, so it may get `Exhausted`, and memory (`OutOfMemory`).
+    ///
+    /// # Panics
+    ///
+    /// In a forked child, if the class was opened before the fork.
+    #[inline]
+    #[track_caller]
+    pub fn read<'g, T: ?Sized>(&'g self, mutex: &'g SharedMutex<C, T>) -> Result<&'g T, Error> {
+        self.context.read(mutex)?;
+        // SAFETY: the context reads it until the body has returned, and while it does nobody has `&mut T`: another context
+        // can't write it, nor this one (`Duplicate`).
+        Ok(unsafe { &*mutex.value() })
+    }
+
+    /// Writes it, and waits until nobody else reads or writes it.
+    ///
+    /// # Errors
+    ///
+    /// As [`lock`](Self::lock); `Duplicate` also if this attempt reads it: what a body may write it writes at once.
+    ///
+    /// # Panics
+    ///
+    /// As [`read`](Self::read).
+    #[inline]
+    #[track_caller]
+    pub fn write<'g, T: ?Sized>(&'g self, mutex: &'g SharedMutex<C, T>) -> Result<SharedMutexGuard<'g, C, T>, Error> {
+        self.context.write(mutex)?;
+        // SAFETY: it writes the mutex, for this guard, and doesn't read it.
+        Ok(unsafe { SharedMutexGuard::of(mutex, self.context.holder()) })
     }
 
     /// Whether it has a guard of this mutex, so that [`lock`](Self::lock) would return `Duplicate`.
@@ -203,6 +244,7 @@ pub(crate) struct Running<'t, C: Class>(&'t Tx<C>);
 
 impl<'t, C: Class> Running<'t, C> {
     #[inline]
+    #[track_caller]
     pub(crate) fn begin(tx: &'t Tx<C>) -> Result<Self, Error> {
         // SAFETY: it is borrowed as long as this is there, and `end` comes once, with this, which `Options::try_run`,
         // the only one that makes it, hands to nobody.

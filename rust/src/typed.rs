@@ -236,6 +236,7 @@ impl<C: Class> Context<C> {
     /// # Panics
     ///
     /// In a forked child, if the class was opened before the fork.
+    #[track_caller]
     pub fn begin() -> Result<Self, Error> {
         let inner = NonNull::from(Box::leak(Box::new(Inner::new(C::raw()))));
         // SAFETY: it stays where it is until the drop, which ends it; all borrow it as shared until then.
@@ -276,6 +277,7 @@ impl<C: Class> Context<C> {
     /// # Errors
     ///
     /// Those of [`Tx::lock`](crate::Tx::lock), except `Deadlock`. The context holds nothing then.
+    #[track_caller]
     pub fn lock_all<'g, T: ?Sized, const N: usize>(
         &'g mut self,
         list: [&'g Mutex<C, T>; N],
@@ -309,6 +311,7 @@ impl<'x, C: Class> Acquiring<'x, C> {
     /// # Panics
     ///
     /// As [`Tx::lock`](crate::Tx::lock).
+    #[track_caller]
     pub fn lock<'g, T: ?Sized>(
         self,
         mutex: &'g Mutex<C, T>,

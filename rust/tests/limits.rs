@@ -5,7 +5,7 @@ use std::sync::Barrier;
 use std::thread;
 use std::time::{Duration, Instant};
 use ww_mutex::typed::Context;
-use ww_mutex::{class, Canceller, Class, Error, Mutex};
+use ww_mutex::{class, Canceller, Class, Error, Mutex, Tx};
 
 const SOON: Duration = Duration::from_millis(20);
 
@@ -143,6 +143,39 @@ fn a_canceller_calls_off_the_wait_for_a_context() {
         assert_eq!(waiting.join().unwrap(), Err(Error::Cancelled));
     });
     drop(context);
+}
+
+/// All waits of a class end, of contexts and for them, with and without limits, also those that begin later.
+#[test]
+fn a_class_ends_its_waits() {
+    class!(struct Boxes: WoundWait, mutexes = 2, contexts = 4);
+    let m: Mutex<Boxes, u64> = Mutex::new(0);
+    let canceller = Canceller::new();
+    let held = m.lock();
+    let lock = |tx: &Tx<Boxes>| tx.lock(&m).map(|_| ());
+    thread::scope(|scope| {
+        let mut waiting = vec![
+            scope.spawn(|| Boxes::run(lock)),
+            scope.spawn(|| Boxes::options().timeout(Duration::from_secs(600)).run(lock)),
+            scope.spawn(|| Boxes::options().cancelled_by(&canceller).run(lock)),
+        ];
+        while Boxes::counts().lock_waits < 3 {
+            thread::yield_now();
+        }
+        waiting.push(scope.spawn(|| Boxes::run(lock)));
+        while Boxes::counts().context_waits < 1 {
+            thread::yield_now();
+        }
+        Boxes::cancel().unwrap();
+        for it in waiting {
+            assert_eq!(it.join().unwrap(), Err(Error::Cancelled));
+        }
+        assert_eq!(Boxes::run(lock), Err(Error::Cancelled));
+        assert!(m.try_lock_for(Duration::from_secs(600)).is_none());
+    });
+    drop(held);
+    // What needn't wait goes on.
+    assert_eq!(Boxes::run(|tx| tx.lock(&m).map(|_| ())), Ok(()));
 }
 
 /// The wait of a back-off, too.

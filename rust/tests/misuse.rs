@@ -13,6 +13,25 @@ use ww_mutex::{class, Class, Error, Mutex, MutexGuard, RawClass, Tx};
 
 const SOON: Duration = Duration::from_millis(20);
 
+/// A panic names the line of the call, and not one of the crate.
+#[test]
+fn a_panic_is_of_the_callers_line() {
+    class!(struct Boxes: WoundWait, mutexes = 1);
+    static LINES: std::sync::Mutex<Vec<(String, u32)>> = std::sync::Mutex::new(Vec::new());
+    let (one, other): (Mutex<Boxes, u64>, Mutex<Boxes, u64>) = (Mutex::new(1), Mutex::new(2));
+    let held = one.lock();
+    let before = std::panic::take_hook();
+    std::panic::set_hook(Box::new(|info| {
+        let place = info.location().unwrap();
+        LINES.lock().unwrap().push((place.file().into(), place.line()));
+    }));
+    assert!(panics(|| drop(other.lock())));
+    let line = line!() - 1;
+    std::panic::set_hook(before);
+    drop(held);
+    assert!(LINES.lock().unwrap().contains(&(file!().into(), line)));
+}
+
 fn panics<R>(what: impl FnOnce() -> R) -> bool {
     catch_unwind(AssertUnwindSafe(|| drop(what()))).is_err()
 }

@@ -61,16 +61,8 @@ fn contexts<C: Class>(count: usize) -> Vec<Context<C>> {
     all
 }
 
-/// How many a class has for tasks that says no number.
-fn usual() -> usize {
-    static USUAL: OnceLock<usize> = OnceLock::new();
-    class!(struct Unsaid: WoundWait);
-    *USUAL.get_or_init(|| {
-        let count = contexts::<Unsaid>(65).len();
-        assert!(count % 2 == 0 && (2..=64).contains(&count));
-        count
-    })
-}
+/// A class that says no number has as many for tasks as it finds to be best.
+const FOUND: usize = 0;
 
 /// All contexts of the class can be had at once, and all mutexes be locked.
 fn nothing_is_left<C: Class>(bank: &[Mutex<C, i64>], contexts: usize) {
@@ -80,7 +72,11 @@ fn nothing_is_left<C: Class>(bank: &[Mutex<C, i64>], contexts: usize) {
         bank.iter().map(|m| *m.try_lock().expect("nobody holds it")).sum::<i64>(),
         100 * i64::try_from(bank.len()).unwrap()
     );
-    assert_eq!(self::contexts::<C>(contexts + 1).len(), contexts);
+    let counts = C::counts();
+    assert_eq!((counts.contexts, counts.context_waiters), (0, 0));
+    let most = usize::try_from(counts.task_contexts).unwrap();
+    assert!(most == contexts || contexts == FOUND && (1..=896).contains(&most));
+    assert_eq!(self::contexts::<C>(most + 1).len(), most);
 }
 
 /// How many calls the debug library told to be wrong.
@@ -117,14 +113,14 @@ fn storm<C: Class>(objects: usize, tasks: usize, each: usize, threads: usize, co
 
 #[test]
 fn wound_wait() {
-    storm::<Wound>(32, times(3000), 10, 4, usual());
-    storm::<Wound>(6, times(300), 30, 2, usual());
+    storm::<Wound>(32, times(3000), 10, 4, FOUND);
+    storm::<Wound>(6, times(300), 30, 2, FOUND);
 }
 
 #[test]
 fn wait_die() {
-    storm::<Die>(32, times(3000), 10, 4, usual());
-    storm::<Die>(6, times(300), 30, 2, usual());
+    storm::<Die>(32, times(3000), 10, 4, FOUND);
+    storm::<Die>(6, times(300), 30, 2, FOUND);
 }
 
 #[test]
@@ -161,7 +157,7 @@ fn by_async_closures() {
         });
     }
     pool.run_by(3);
-    nothing_is_left(&bank, usual());
+    nothing_is_left(&bank, FOUND);
 }
 
 // ---- dropped futures ----
@@ -230,7 +226,7 @@ fn locks_are_dropped_at_any_poll() {
             });
         }
         pool.run_by(4);
-        nothing_is_left(&bank, usual());
+        nothing_is_left(&bank, FOUND);
     }
     class! {
         struct Wound: WoundWait;
@@ -333,8 +329,8 @@ fn threads_and_tasks_share_a_class() {
         });
         nothing_is_left(&bank, contexts);
     }
-    storm::<Wound>(usual());
-    storm::<Die>(usual());
+    storm::<Wound>(FOUND);
+    storm::<Die>(FOUND);
     storm::<Few>(2);
 }
 
@@ -643,7 +639,7 @@ fn a_panic_of_a_waker_ends_a_call() {
     drop(guard);
     assert!(block_on(tx.lock(&BOXES[0])).is_ok());
     drop(context);
-    nothing_is_left::<Boxes>(&[], usual());
+    nothing_is_left::<Boxes>(&[], FOUND);
 }
 
 /// Only the waker of the last poll is called, and none is kept.
@@ -830,7 +826,7 @@ fn guards_go_in_other_threads() {
         });
     }
     pool.run_by(2);
-    nothing_is_left(&bank, usual());
+    nothing_is_left(&bank, FOUND);
 }
 
 /// What is forgotten is released by the next attempt, or at the end: guards, and lock calls that wait.

@@ -1,14 +1,17 @@
 """libww.so by ctypes: where it is, the types of its calls, and which error each return value raises."""
+import collections
 import ctypes
 import errno
 import functools
 import operator
 import os
+import sys
 
 WOUND_WAIT, WAIT_DIE = 0, 1
 _VERSION = 4
-_NAME = f"libww.so.{_VERSION}"
 _LARGEST = 2**32 - 1
+# Not empty: the debug library takes the place of the other one.
+_DEBUGS = os.environ.get("WW_DEBUG", "") not in ("", "0")
 
 
 class Deadlock(OSError):
@@ -25,6 +28,15 @@ class Time(ctypes.Structure):
     _fields_ = [("seconds", ctypes.c_int64), ("nanoseconds", ctypes.c_int64)]
 
 
+Counts = collections.namedtuple("Counts", "back_offs lock_waits context_waits permit_waits contexts context_waiters task_contexts")
+
+
+class Counted(ctypes.Structure):
+    """struct ww_class_counts."""
+
+    _fields_ = [(it, ctypes.c_uint64) for it in Counts._fields]
+
+
 class _Number:
     """A number of 32 bits. Any other number becomes the largest one, which no class may have."""
 
@@ -37,8 +49,10 @@ class _Number:
 _AT = ctypes.c_void_p
 _CALLS = {
     "ww_version": (ctypes.c_uint32,),
+    "ww_report_long_waits": (None, _Number),
     "ww_class_init": (None, _AT, ctypes.c_int, ctypes.c_char_p),
     "ww_class_limit": (ctypes.c_int, _AT, _Number, _Number),
+    "ww_class_stats": (None, _AT, ctypes.POINTER(Counted)),
     "ww_mutex_is_locked": (ctypes.c_bool, _AT),
     "ww_is_contended": (ctypes.c_bool, _AT),
     "ww_mutex_lock_until": (ctypes.c_int, _AT, _AT, ctypes.POINTER(Time)),
@@ -50,11 +64,14 @@ _CALLS |= {
     "ww_poll_take_back": (ctypes.c_bool, _AT, _AT),
     "ww_event_take": (_AT, _AT),
 }
-_CALLS |= {f"ww_{it}_size": (ctypes.c_size_t,) for it in ("class", "mutex", "acquire")}
-_ALONE = ("class_free", "mutex_destroy", "acquire_done_checked", "acquire_fini_checked", "acquire_cancel", "mutex_unlock_checked")
+_CALLS |= {f"ww_{it}_size": (ctypes.c_size_t,) for it in ("class", "mutex", "acquire", "shared_mutex")}
+_ALONE = ("class_free", "class_cancel", "mutex_destroy", "acquire_done_checked", "acquire_fini_checked", "acquire_cancel", "mutex_unlock_checked", "shared_mutex_destroy")
 _CALLS |= {f"ww_{it}": (ctypes.c_int, _AT) for it in _ALONE}
-_PAIRS = ("mutex_init_checked", "acquire_init_checked", "mutex_lock_interruptible", "mutex_trylock")
+_PAIRS = ("mutex_init_checked", "acquire_init_checked", "mutex_trylock")
+_PAIRS += tuple(f"shared_mutex_{it}" for it in ("init_checked", "trylock", "trylock_shared", "unlock"))
 _CALLS |= {f"ww_{it}": (ctypes.c_int, _AT, _AT) for it in _PAIRS}
+_CALLS |= {f"ww_shared_mutex_{it}": _CALLS["ww_mutex_lock_until"] for it in ("lock_until", "lock_shared_until")}
+_CALLS |= {"ww_shared_mutex_is_written_by": (ctypes.c_bool, _AT, _AT), "ww_shared_mutex_downgrade": (None, _AT, _AT)}
 _CALLS |= {f"ww_{it}": (None, _AT) for it in ("tries_begin_", "back_off_", "acquire_unlock_all")}
 # A context makes these calls under a lock of its own. During them Python keeps its lock, too, if it has one: then nobody ever
 # waits for the context's.
@@ -62,17 +79,22 @@ _ALONE_IN_PYTHON = ("ww_acquire_cancel", "ww_acquire_fini_checked")
 
 
 def _found():
-    """Where libww.so is: beside this module, below the prefix that both were installed in, or where the loader looks."""
+    """Where libww.so is: beside this module, below the prefix that both were installed in, where make puts it, or where the
+    loader looks."""
+    name = f"libww{'_debug' * _DEBUGS}.so.{_VERSION}"
     here = os.path.dirname(os.path.realpath(__file__))
-    near = [os.path.join(here, up, _NAME) for up in ("", "../../..")]
-    return next((path for path in near if os.path.exists(path)), _NAME)
+    near = [os.path.join(here, up, name) for up in ("", "../../..", "../../out")]
+    return next((path for path in near if os.path.exists(path)), name)
 
 
 @functools.lru_cache(maxsize=None)
 def opened(path):
-    """The library at this path, or the installed one (None), with the types of its calls."""
-    path = path or _found()
+    """The library at this path, or the installed one (None), with the types of its calls. With WW_DEBUG it is the debug library,
+    which lies beside the one at that path."""
+    folder, name = os.path.split(path or "")
+    path = os.path.join(folder, name.replace("libww.so", "libww_debug.so")) if path and _DEBUGS else path or _found()
     library = ctypes.CDLL(path)
+    library.is_debug = hasattr(library, "ww_debug_at_")
     for name, (result, *words) in _CALLS.items():
         call = getattr(library, name)
         call.restype, call.argtypes = result, words
@@ -83,9 +105,39 @@ def opened(path):
     return library
 
 
-def told(code):
-    """Raises the error that a call returned, if that isn't 0."""
+def report_long_waits(seconds, library=None):
+    """After how many seconds a thread that waits without a timeout says so on standard error, once a class for waits for a mutex,
+    and once for those for a context: 10, unless this sets another number; 0: never. The main thread, which waits in slices,
+    says nothing."""
+    opened(library).ww_report_long_waits(seconds)
+
+
+# What the errors are of.
+_WHY = {
+    errno.EDEADLK: "an older context goes first: release all mutexes, and begin again",
+    errno.EALREADY: "the context holds this mutex already",
+    errno.ENOSPC: "all mutexes of the class are in use: 65,536, or as many as Class(mutexes=..) says",
+    errno.ENOMEM: "there is no memory to open the class",
+    errno.EINVAL: "the class was opened before a fork, of which this is the child",
+    errno.EINTR: "the wait was cancelled",
+    errno.ETIMEDOUT: "the time limit came first",
+}
+
+
+def told(code, why=None):
+    """Raises the error that a call returned, if that isn't 0, with the usual reason or this one."""
     if code:
-        if code == -errno.EALREADY:
-            raise Already(-code, "it is held, or called off, already")
-        raise (Deadlock if code == -errno.EDEADLK else OSError)(-code, os.strerror(-code))
+        kind = {-errno.EALREADY: Already, -errno.EDEADLK: Deadlock}.get(code, OSError)
+        raise kind(-code, why or _WHY.get(-code) or os.strerror(-code))
+
+
+_files = {}  # As the debug library keeps their names.
+
+
+def at_caller(library):
+    """Says to the debug library at which line of the program a call of this package was made."""
+    frame = sys._getframe(1)
+    while frame.f_back and frame.f_globals.get("__package__") == __package__:
+        frame = frame.f_back
+    name = frame.f_code.co_filename
+    library.ww_debug_at_(_files.setdefault(name, ctypes.c_char_p(os.fsencode(name))), frame.f_lineno)

@@ -11,7 +11,7 @@ import threading
 import time
 import weakref
 
-from .library import WAIT_DIE, WOUND_WAIT, Already, Deadlock, Time, opened, told
+from .library import WAIT_DIE, WOUND_WAIT, Already, Counted, Counts, Deadlock, Time, at_caller, opened, told
 
 # Python runs the handler of a signal in the main thread, between two calls of C, so never while that thread is in one. So
 # a wait there is made of calls that end after so many nanoseconds; other threads wait by one call. Waiters with a context
@@ -99,16 +99,32 @@ def _is_main():
 class Class:
     """A class of mutexes, among which deadlocks are detected. It has at most this many mutexes and contexts at a time (0:
     65,536, and 1,024 or more), and allocates memory for as many. A forked child makes a class of its own: there each call
-    of this one is EINVAL. `library` is the path of another libww.so than the installed one."""
+    of this one is EINVAL. `library` is the path of another libww.so than the installed one; messages have the name."""
 
-    def __init__(self, kind=WOUND_WAIT, mutexes=0, contexts=0, library=None):
+    def __init__(self, kind=WOUND_WAIT, mutexes=0, contexts=0, library=None, name=""):
         if kind not in (WOUND_WAIT, WAIT_DIE):
             raise _wrong("a class is WOUND_WAIT or WAIT_DIE")
-        self._library = opened(library)
+        self.name = name
+        self._library, c_name = opened(library), ctypes.c_char_p(name.encode())
         self._at = _memory(self._library.ww_class_size())
-        self._its_end = _ending(functools.partial(self._library.ww_class_free, self._at))
-        self._library.ww_class_init(self._at, kind, None)
-        told(self._library.ww_class_limit(self._at, mutexes, contexts))
+        self._its_end = _ending(functools.partial(self._library.ww_class_free, self._at), c_name)
+        self._library.ww_class_init(self._at, kind, c_name)
+        told(self._library.ww_class_limit(self._at, mutexes, contexts), "a class has at most 16,777,216 mutexes and 4,094 contexts")
+
+    def __repr__(self):
+        return f"<ww.Class {self.name!r}>"
+
+    def stats(self):
+        """How often contexts backed off and waited since its first use, and how many there are now, as ww_class_stats
+        tells it: a ww.Counts."""
+        counted = Counted()
+        self._library.ww_class_stats(self._at, ctypes.byref(counted))
+        return Counts(*(getattr(counted, it) for it in Counts._fields))
+
+    def cancel(self):
+        """Ends all waits of its contexts and mutexes (InterruptedError), those of tasks too, and each later one immediately: for
+        a program that ends. What needn't wait goes on."""
+        told(self._library.ww_class_cancel(self._at))
 
     def context(self, timeout=None):
         """A context. `with` begins it, and ends it when its block ends in whatever way: then it releases everything that it
@@ -152,30 +168,54 @@ class Class:
 
 
 class Mutex:
-    """A mutex of a class. `with mutex:` holds only this one, with a context of its own. Already: this thread holds it. If
-    the handler of a signal raises just as that block ends, it may stay held; a block of Class.context() always releases
+    """A mutex of a class. `with mutex:` holds only this one, with a context of its own, as do acquire and release, which are those
+    of threading.Lock; but the thread that acquired it releases it. Already: this thread holds it. If the handler of a signal raises just as that block ends, it may stay held; a block of Class.context() always releases
     (except in Python 3.9, which itself may raise between the block and its end)."""
+
+    _calls = "ww_mutex_"
 
     def __init__(self, of):
         if not isinstance(of, Class):
             raise TypeError("a mutex is of a ww.Class")
         self._class, self._library, self._alone = of, of._library, None
-        self._at = _memory(self._library.ww_mutex_size())
-        self._its_end = _ending(functools.partial(self._library.ww_mutex_destroy, self._at), of._its_end)
-        told(self._library.ww_mutex_init_checked(self._at, of._at))
+        self._at = _memory(self._call("size")())
+        self._its_end = _ending(functools.partial(self._call("destroy"), self._at), of._its_end)
+        told(self._call("init_checked")(self._at, of._at))
 
-    def __enter__(self):
+    def _call(self, name):
+        """The library's call of this name for such a mutex."""
+        return getattr(self._library, self._calls + name)
+
+    def __repr__(self):
+        return f"<ww.{type(self).__name__} of {self._class.name!r}, {'locked' if self.locked() else 'unlocked'}>"
+
+    def __enter__(self, timeout=None):
         if _mine.holds(self):
             raise Already(errno.EALREADY, "this thread holds it already")
-        context = Context(self._class)
-        context._begin()
+        context, until = Context(self._class), _until(timeout)
         try:
-            context.lock(self)
+            context._begin(until)
+            context._lock_until((self,), until)
         except BaseException:
-            context._end()
+            if not context._begun or context._begun.is_set():
+                context._end()
             raise
         self._alone = context  # After the last call no signal is handled before the block.
         return self
+
+    def acquire(self, blocking=True, timeout=-1):
+        """Acquires it, at most for `timeout` seconds, or with blocking=False only if it is free; returns whether it did."""
+        if not blocking and timeout != -1:
+            raise ValueError("a call that doesn't block has no timeout")
+        try:
+            self.__enter__((None if timeout == -1 else timeout) if blocking else 0)
+        except TimeoutError:
+            return False
+        return True
+
+    def release(self):
+        """Releases it; in the thread that acquired it."""
+        self.__exit__()
 
     def __exit__(self, *_):
         alone, self._alone = self._alone, None
@@ -186,6 +226,14 @@ class Mutex:
     def locked(self):
         """Whether somebody holds it: that may be out of date when it returns."""
         return self._library.ww_mutex_is_locked(self._at)
+
+
+class SharedMutex(Mutex):
+    """A mutex for what is read much more often than written: contexts read it beside each other (Context.read), or one holds it.
+    Reads end together, with all that the context holds or when it unlocks the last of them. Each context that reads takes one of
+    the class's mutexes, too. Tasks can't lock it."""
+
+    _calls = "ww_shared_mutex_"
 
 
 class Context:
@@ -199,6 +247,7 @@ class Context:
         # The mutexes that the library may still read, and those that the context holds. An interrupt may come between
         # two lines: so a mutex is in the first set before it can be held, and leaves the second before it is released.
         self._near, self._held = set(), set()
+        self._read = set()  # Those of them that it reads, also where it holds them besides.
         self._at = _memory(self._library.ww_acquire_size())
         # Its end comes once, in a block or when it is dropped, and other threads may cancel it until then: so the end and each
         # cancel are made under a lock.
@@ -232,7 +281,12 @@ class Context:
     async def __aexit__(self, *_):
         self._of_task.end()
 
+    def __repr__(self):
+        return f"<ww.Context of {self._class.name!r} with {len(self._held)} mutexes>"
+
     def _begin(self, until=None):
+        if self._library.is_debug:
+            at_caller(self._library)
         code = self._library.ww_acquire_init_checked(self._at, self._class._at)
         told(self._begin_in_turn(until) if code == -errno.EAGAIN else code)
         # All of it is a loop of ww_until_all_locked.
@@ -276,15 +330,15 @@ class Context:
         """Whether it got Deadlock, and hasn't backed off since."""
         return self._library.ww_is_contended(self._at)
 
-    def _answer(self, mutex, until):
-        """What the lock call returns in the end."""
+    def _answer(self, mutex, until, call):
+        """What this lock call returns in the end."""
         while until is not None or _is_main():
             end = time.monotonic_ns() + _SLICE if _is_main() else until
             end = end if until is None else min(end, until)
-            code = self._library.ww_mutex_lock_until(mutex._at, self._at, Time(*divmod(end, 10**9)))
+            code = call(mutex._at, self._at, Time(*divmod(end, 10**9)))
             if code != -errno.ETIMEDOUT or end == until:
                 return code
-        return self._library.ww_mutex_lock_interruptible(mutex._at, self._at)
+        return call(mutex._at, self._at, None)
 
     def _asks(self, mutex, call):
         """What this call returns, which may acquire the mutex."""
@@ -302,9 +356,24 @@ class Context:
         acquired = []
         try:
             for mutex in mutexes:
-                told(self._asks(mutex, lambda: self._answer(mutex, until)))
+                told(self._asks(mutex, lambda: self._answer(mutex, until, mutex._call("lock_until"))))
                 acquired.append(mutex)
         except BaseException:
+            for mutex in reversed(acquired):
+                self._release(mutex, mutex._its_end in self._read)
+            raise
+
+    def _read_each(self, mutexes, until):
+        """The same for reads."""
+        acquired = []
+        try:
+            for mutex in mutexes:
+                if mutex not in self:
+                    self._read.add(mutex._its_end)
+                    told(self._asks(mutex, lambda: self._answer(mutex, until, mutex._call("lock_shared_until"))))
+                    acquired.append(mutex)
+        except BaseException:
+            self._read &= self._held
             for mutex in reversed(acquired):
                 self.unlock(mutex)
             raise
@@ -315,11 +384,23 @@ class Context:
         off by itself; any other one may raise Deadlock, and must release everything. Already: it holds one of them.
         If it fails, it has released what it acquired here."""
         self._check(*mutexes)
-        until = _until(timeout)
+        self._lock_until(mutexes, _until(timeout))
+
+    def read(self, *mutexes, timeout=None):
+        """As lock, for each a SharedMutex, which it reads from now on, beside other contexts that do; what it holds already it may
+        read. A later lock of what it reads waits for the others: nobody writes it in between."""
+        self._check(*mutexes)
+        if not all(isinstance(it, SharedMutex) for it in mutexes):
+            raise TypeError("only a ww.SharedMutex is read")
+        self._lock_until(mutexes, _until(timeout), self._read_each)
+
+    def _lock_until(self, mutexes, until, each=None):
+        if self._library.is_debug:
+            at_caller(self._library)
         held_nothing = not self._held
         while True:
             try:
-                return self._lock_each(mutexes, until)
+                return (each or self._lock_each)(mutexes, until)
             except Deadlock:
                 if not held_nothing:
                     raise
@@ -333,22 +414,47 @@ class Context:
     def try_lock(self, mutex):
         """Acquires it if nobody has it or waits for it; returns whether it did."""
         self._check(mutex)
-        return self._asks(mutex, lambda: -errno.EBUSY * (not self._library.ww_mutex_trylock(mutex._at, self._at))) == 0
+        return self._asks(mutex, lambda: -errno.EBUSY * (not mutex._call("trylock")(mutex._at, self._at))) == 0
 
     def unlock(self, mutex):
-        """Releases it."""
+        """Releases it; of a SharedMutex ends its read, too."""
         self._check(mutex)
         if mutex not in self:
             raise _wrong("the context doesn't hold it")
+        self._release(mutex, False)
+
+    def _release(self, mutex, reads_on):
+        if isinstance(mutex, SharedMutex) and self._library.ww_shared_mutex_is_written_by(mutex._at, self._at):
+            told(self._library.ww_shared_mutex_unlock(mutex._at, self._at))
+        if reads_on:
+            return
         self._held.discard(mutex._its_end)
-        told(self._library.ww_mutex_unlock_checked(mutex._at))
+        if not isinstance(mutex, SharedMutex):
+            told(self._library.ww_mutex_unlock_checked(mutex._at))
+        elif mutex._its_end in self._read:
+            self._read.discard(mutex._its_end)
+            told(self._library.ww_shared_mutex_unlock(mutex._at, self._at))
         self._near.discard(mutex._its_end)
+
+    def downgrade(self, mutex):
+        """Of a SharedMutex that it holds: from now on it reads it, and others may; nobody writes it in between."""
+        self._check(mutex)
+        if not (isinstance(mutex, SharedMutex) and self._library.ww_shared_mutex_is_written_by(mutex._at, self._at)):
+            raise _wrong("the context doesn't hold it")
+        if mutex._its_end in self._read:
+            told(self._library.ww_shared_mutex_unlock(mutex._at, self._at))
+            return
+        self._read.add(mutex._its_end)
+        self._library.ww_shared_mutex_downgrade(mutex._at, self._at)
+        if self._library.ww_shared_mutex_is_written_by(mutex._at, self._at):
+            self._read.discard(mutex._its_end)
 
     def unlock_all(self):
         """Releases everything. After Deadlock the next lock call first waits for the contended mutex."""
         self._check()
         held = self._held.copy()
         self._held.clear()
+        self._read.clear()
         if self._is_contended():
             self._library.ww_back_off_(self._at)
         else:
@@ -362,7 +468,7 @@ class Context:
     def done(self):
         """Says that it has all its mutexes. EINVAL: this was said before."""
         self._check()
-        told(self._library.ww_acquire_done_checked(self._at))
+        told(self._library.ww_acquire_done_checked(self._at), "this was said before")
 
     def cancel(self):
         """Ends its wait, the current one or the next; any thread may call it. Already: a cancel is pending; EINVAL: the
@@ -372,4 +478,4 @@ class Context:
         calls = self._lock.acquire, functools.partial(self._library.ww_acquire_cancel, self._at), self._lock.release
         # No line of Python is run between these, which a signal could interrupt.
         _, code, _ = map(functools.partial.__call__, map(functools.partial, calls))
-        told(code)
+        told(code, "a cancel is pending already" if code == -errno.EALREADY else "the context has ended")

@@ -10,8 +10,8 @@ import threading
 import time
 import weakref
 
-from .library import Deadlock, told
-from .mutexes import Mutex, _ending
+from .library import Deadlock, at_caller, told
+from .mutexes import Mutex, SharedMutex, _ending
 
 
 class _Waker(ctypes.Structure):
@@ -236,6 +236,8 @@ class TaskContext:
 
     async def begin(self):
         """Begins the context; if none is free it waits for one, in turn."""
+        if self._library.is_debug:
+            at_caller(self._library)
         if self._begin_poll(None) != 0:
             try:
                 told(await self._wait(self._begin_poll, ctypes.byref(self._seek)))
@@ -257,6 +259,8 @@ class TaskContext:
         if self._locks.waits:
             raise OSError(errno.EBUSY, "another task waits by this context")
         self._class._check(*mutexes)
+        if any(isinstance(it, SharedMutex) for it in mutexes):
+            raise TypeError("a task locks no ww.SharedMutex")
 
     async def _lock_one(self, mutex):
         def poll(waker):
@@ -313,6 +317,8 @@ class TaskContext:
         may raise Deadlock, and must release everything. Already: it holds one of them. If it fails, or its task is
         cancelled, it has released what it acquired here."""
         self._check(*mutexes)
+        if self._library.is_debug:
+            at_caller(self._library)
         held_nothing = not self._held
         while True:
             rest = list(mutexes)

@@ -5,6 +5,7 @@
 #define _GNU_SOURCE
 #include "inside.h"
 #include "ww_inside.h"
+#include <errno.h>
 #include <linux/futex.h>
 #include <pthread.h>
 #include <stdarg.h>
@@ -200,15 +201,23 @@ static const struct late_store *late_at(const volatile void *at, size_t size)
 	return NULL;
 }
 
+static uint64_t seen(const volatile void *at, unsigned size)
+{
+	const struct late_store *late = late_at(at, size);
+
+	return late ? late->value : get(at, size);
+}
+
 static uint64_t load(const volatile void *at, unsigned size, int order, const void *pc)
 {
 	struct object *o = il_before(at, false, "load", pc);
-	const struct late_store *late = late_at(at, size);
+	uint64_t value = seen(at, size);
 
 	check(at, size, READS_ATOMICALLY, pc);
 	happens(o, false);
 	acquire(o, order);
-	return late ? late->value : get(at, size);
+	il_access(IL_READS, at, value, value, pc);
+	return value;
 }
 
 /* On a stack what isn't instrumented writes too, so nothing is delayed there. */
@@ -225,6 +234,7 @@ static void store(volatile void *at, unsigned size, uint64_t value, int order, c
 
 	check(at, size, WRITES_ATOMICALLY, pc);
 	il_stores(at, get(at, size), value, pc);
+	il_access(IL_STORES, at, seen(at, size), value, pc);
 	if (it->lates < LATES && may_be_late(o, at, order) && (it->lates || il_chooses(COMMITS, DELAYS))) {
 		it->late[it->lates++] = (struct late_store){ (void *)(uintptr_t)at, value, size };
 	} else {
@@ -235,24 +245,28 @@ static void store(volatile void *at, unsigned size, uint64_t value, int order, c
 	release(o, order, false);
 }
 
-enum change { EXCHANGES, ADDS, COMPARES };
+enum change { EXCHANGES, ADDS, ORS, ANDS, COMPARES };
 
 /* What was there; where it compares, nothing is changed unless that is as expected. */
 static uint64_t change(volatile void *at, unsigned size, enum change how, uint64_t by, uint64_t is, const int orders[2], const void *pc)
 {
 	struct object *o = il_before(at, true, "change", pc);
-	uint64_t old;
+	uint64_t old, put_there;
 	bool changes;
 
 	il_commit(me());
 	old = get(at, size);
+	put_there = how == ADDS ? old + by : how == ORS ? (old | by) : how == ANDS ? (old & by) : by;
 	changes = how != COMPARES || old == is;
 	check(at, size, changes ? WRITES_ATOMICALLY : READS_ATOMICALLY, pc);
 	happens(o, changes);
 	acquire(o, orders[!changes]);
+	if (size == 4)
+		put_there = (uint32_t)put_there;
+	il_access(changes ? IL_CHANGES : IL_FAILS, at, old, changes ? put_there : old, pc);
 	if (changes) {
-		il_stores(at, old, how == ADDS ? old + by : by, pc);
-		put(at, size, how == ADDS ? old + by : by);
+		il_stores(at, old, put_there, pc);
+		put(at, size, put_there);
 		release(o, orders[0], true);
 	}
 	return old;
@@ -274,6 +288,7 @@ static uint64_t change(volatile void *at, unsigned size, enum change how, uint64
 	type __tsan_atomic##n##_load(const volatile type *at, int order) { return (type)load(at, sizeof *at, order, PC); } \
 	void __tsan_atomic##n##_store(volatile type *at, type value, int order) { store(at, sizeof *at, value, order, PC); } \
 	CHANGE(n, type, exchange, EXCHANGES, value) CHANGE(n, type, fetch_add, ADDS, value) CHANGE(n, type, fetch_sub, ADDS, -(uint64_t)value) \
+	CHANGE(n, type, fetch_or, ORS, value) CHANGE(n, type, fetch_and, ANDS, value) \
 	COMPARE(n, type, compare_exchange_strong) COMPARE(n, type, compare_exchange_weak)
 HOOKS(8, uint8_t)
 HOOKS(32, uint32_t)
@@ -326,6 +341,18 @@ int __wrap_pthread_mutex_lock(pthread_mutex_t *m)
 		me()->word = owner;
 		il_switch_away();
 	}
+	*owner = il.current + 1;
+	acquire(o, __ATOMIC_ACQUIRE);
+	return 0;
+}
+
+int __wrap_pthread_mutex_trylock(pthread_mutex_t *m)
+{
+	uint32_t *owner = (uint32_t *)(void *)m;
+	struct object *o = at_mutex(m, "mutex trylock", PC);
+
+	if (*owner)
+		return EBUSY;
 	*owner = il.current + 1;
 	acquire(o, __ATOMIC_ACQUIRE);
 	return 0;
@@ -416,6 +443,9 @@ void __wrap_backtrace_symbols_fd(void *const *calls, int count, int to) { (void)
 /* A thread that rests since the library said so needn't switch: whatever waits at a guard does as its step answers that. */
 int __wrap_sched_yield(void) { return me()->skew += SLICE, 0; }
 
+/* Somebody has it for a moment: whoever isn't inside a guard lets others run first. */
+void __wrap_ww_await_guard(unsigned *looks, uint64_t *until) { (void)looks, (void)until, il_yield(); }
+
 /* The time that somebody asked for may come at each look. */
 int __wrap_clock_gettime(clockid_t id, struct timespec *at)
 {
@@ -460,7 +490,7 @@ __asm__(".text\n.globl il_inside_\nil_inside_:\n"
 	"	pop %rdi\n	pop %rsi\n	pop %rdx\n	pop %rcx\n	pop %rax\n	popfq\n	ret\n");
 
 /* One thread at a time uses a handle; one that is empty is no seat's. */
-static void by(const ww_handle *h, const void *pc)
+static void by_any(const ww_handle *h, const void *pc)
 {
 	if (!h->at)
 		return;
@@ -468,10 +498,24 @@ static void by(const ww_handle *h, const void *pc)
 	il_calls(h, pc);
 }
 
+/* It is the seat's user. */
+static void by(const ww_handle *h, const void *pc)
+{
+	by_any(h, pc);
+	il_uses(h, pc);
+}
+
 static int32_t answered(const ww_handle *h, int32_t r)
 {
 	if (h->at)
 		il_answers(h, r);
+	return r;
+}
+
+static int32_t looked(const ww_handle *h, int32_t r)
+{
+	if (h->at)
+		il_looked(h);
 	return r;
 }
 
@@ -491,11 +535,7 @@ static int32_t locked(const ww_handle *h, int32_t r)
 	return r;
 }
 
-static void wants(uint32_t lock)
-{
-	me()->wants = lock;
-	me()->rests = 0;
-}
+static void wants(uint32_t lock) { me()->wants = lock; }
 
 #define STEP(name, ...) int32_t __real_##name(__VA_ARGS__); int32_t __wrap_##name(__VA_ARGS__)
 #define LOCKS(name)                                                                                    \
@@ -506,7 +546,8 @@ static void wants(uint32_t lock)
 LOCKS(ww_lock_)
 LOCKS(ww_lock_slow_)
 STEP(ww_begin_, ww_handle *h) { return step("ww_begin_", PC), by(h, PC), answered(h, __real_ww_begin_(h)); }
-STEP(ww_end_, ww_handle *h) { return step("ww_end_", PC), by(h, PC), answered(h, __real_ww_end_(h)); }
+/* Also by whoever frees the class, where a seat rests. */
+STEP(ww_end_, ww_handle *h) { return step("ww_end_", PC), by_any(h, PC), answered(h, __real_ww_end_(h)); }
 STEP(ww_cancel_, ww_handle *h, uint16_t victim)
 {
 	return step("ww_cancel_", PC), by(h, PC), answered(h, __real_ww_cancel_(h, victim));
@@ -531,6 +572,15 @@ STEP(ww_is_free_, ww_handle *h, uint32_t lock)
 		acquire(order_of(h, lock), __ATOMIC_ACQUIRE);
 	return answered(h, r);
 }
+/* These two look at something, and leave the call that is on its way as it was. A look sees what came before whatever it sees. */
+STEP(ww_look_, ww_handle *h, uint32_t lock)
+{
+	int32_t r = (step("ww_look_", PC), by(h, PC), looked(h, __real_ww_look_(h, lock)));
+
+	acquire(order_of(h, lock), __ATOMIC_ACQUIRE);
+	return r;
+}
+STEP(ww_is_wounded_, ww_handle *h) { return step("ww_is_wounded_", PC), by(h, PC), looked(h, __real_ww_is_wounded_(h)); }
 /* It changes how a call waits that is on its way, and makes no step of it. */
 STEP(ww_heed_, ww_handle *h) { return check(h, sizeof *h, WRITES, PC), __real_ww_heed_(h); }
 /* These two look at nothing but their own seat. */
@@ -538,21 +588,10 @@ STEP(ww_has_, ww_handle *h, uint32_t lock) { return by(h, PC), answered(h, __rea
 STEP(ww_close_, ww_handle *h) { return il_closes(), __real_ww_close_(h); }
 STEP(ww_next_wake_, ww_handle *h) { return check(h, sizeof *h, WRITES, PC), il_names(h, __real_ww_next_wake_(h), PC); }
 
-/*
- * Where it answers that the thread is to rest, for the second time, it looks again and again until it answers something
- * else: a look that came between is as one that came later.
- */
-STEP(ww_go_on_, ww_handle *h, uint32_t *rest)
+STEP(ww_go_on_, ww_handle *h)
 {
-	unsigned rests;
-	int32_t r;
+	int32_t r = (step("ww_go_on_", PC), by(h, PC), locked(h, __real_ww_go_on_(h)));
 
-	step("ww_go_on_", PC), by(h, PC);
-	do {
-		r = locked(h, __real_ww_go_on_(h, rest));
-		rests = me()->rests;
-		me()->rests |= r == WW_STAYS || r == WW_YIELDS ? 1u << r : 0;
-	} while ((r == WW_STAYS || r == WW_YIELDS) && rests >> r & 1);
 	me()->inside = r == WW_AGAIN;
 	if (r == WW_AWAITS && il.running) {
 		il_yielded();

@@ -32,7 +32,6 @@ struct thread {
 	} late[LATES];
 	unsigned lates;
 	bool inside;	/* a guard, maybe, where it must not sleep */
-	unsigned rests; /* which answers to rest its call has had */
 	uint32_t wants; /* the lock of its call */
 	void *specific;
 	char own[OWN]; /* what the library keeps for each thread */
@@ -114,9 +113,15 @@ void il_commit(struct thread *it);
 /* What moves.c looks at: a step by a seat, what it answers, and whom it names; an atomic store, an unlock. */
 void il_calls(const ww_handle *h, const void *pc);
 void il_answers(const ww_handle *h, int32_t r);
+/* What looked leaves the call that is on its way as it was. */
+void il_looked(const ww_handle *h);
 int32_t il_names(const ww_handle *h, int32_t k, const void *pc);
 void il_stores(const volatile void *at, uint64_t was, uint64_t is, const void *pc);
 void il_unlocks(const pthread_mutex_t *m, const void *pc);
+/* And seats.c: each atomic access, with what was there and what is, which is all that one that reads saw; a step by a seat. */
+enum il_how { IL_READS, IL_STORES, IL_CHANGES, IL_FAILS };
+void il_access(enum il_how how, const volatile void *at, uint64_t was, uint64_t is, const void *pc);
+void il_uses(const ww_handle *h, const void *pc);
 /* A class is freed; this thread waits, or ends. */
 void il_closes(void);
 void il_waits(const char *what, const void *pc);

@@ -304,6 +304,15 @@ void il_yield(void)
 	il_switch_away();
 }
 
+/* It comes more than once in a row, so it counts as what this thread did since the one before. */
+void il_pause(void)
+{
+	if (!(il.flags & IL_PATIENT))
+		return;
+	ran();
+	il_yield();
+}
+
 void il_late(void)
 {
 	me()->state = LATE;

@@ -12,6 +12,7 @@ enum { IL_THREADS = 4 };
 enum {
 	IL_SPURIOUS = 1,	/* a futex wakes its thread though nobody asked */
 	IL_DELAYS = 2,		/* a store that isn't sequentially consistent comes later than what its thread does next */
+	IL_PATIENT = 4,		/* none of these, but calls never tire of looking before they queue or sleep, and others run meanwhile */
 	IL_INSIDE = 8,		/* threads are switched inside steps of the proved library, too (x86_64) */
 };
 
@@ -21,6 +22,12 @@ struct il_program {
 	unsigned flags, most;	/* of the above and of programs.c; the bound, where no other is asked for */
 };
 extern const struct il_program il_programs[];
+/* The class that programs use. */
+extern struct ww_class *const il_class;
+/* How often a call looks at a lock, awake, before it queues; and at its token, before it sleeps. */
+extern unsigned il_looks;
+/* Of how many bits each desk of a reader has one. */
+extern unsigned il_bits;
 void il_setup(const struct il_program *p);
 void il_thread(const char *text);
 /* Wherever all threads wait, or have ended. */
@@ -34,8 +41,9 @@ void *il_new(size_t size);
 void il_gone(void *at, size_t size);
 /* So many nanoseconds from now: schedules may let this time come at each look at the clock. */
 struct timespec il_in(long nanoseconds);
-/* Another thread has to do something before this one can go on. */
+/* Another thread has to do something before this one can go on; and in place of a pause between two looks. */
 void il_yield(void);
+void il_pause(void);
 /* What this thread does next comes late: once all others wait, or have ended. */
 void il_late(void);
 /* Sleeps until the word isn't 0, and sets it, which orders what came before. */

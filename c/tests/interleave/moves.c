@@ -99,6 +99,8 @@ void il_answers(const ww_handle *h, int32_t r)
 	d->told = r == WW_SLEEPS;
 }
 
+void il_looked(const ww_handle *h) { desk_of(h)->is_stepping = false; }
+
 int32_t il_names(const ww_handle *h, int32_t k, const void *pc)
 {
 	il.from = pc;

@@ -7,7 +7,7 @@
  *	)	ends it			$	the next context is that which others cancel
  *	> <	gives the context away, and goes on with a second one; takes one	^	goes on with the second one
  *	a b m	locks, and backs off	A B M	unlocks
- *	?	the next lock is tried; t: until a time; i: interruptible; where it has none, all up to its unlock is left out
+ *	?	the next lock is tried; t: until a time; i: it, or (, is interruptible; where it has none, all up to its unlock is left out
  *	n	the next lock is without a context; !: it has to fail; .: it must not
  *	y	the next lock or ( is by polls: it sleeps until its waker is called; z: it polls once more without need; x: it ends
  *		the wait, and where it has none, all up to the unlock or ) is left out; l: whenever it is called it polls late, once
@@ -17,8 +17,11 @@
  *	Kab;	as L, but once told to back off it unlocks what it holds one by one, and locks that one before it begins anew
  *	-	under m: one user less	D	whoever was the last one destroys m, and its memory goes
  *	d	destroys m where nobody has it or waits for it, and makes it anew
+ *	C	cancels the class: ends i( and what is i, by a poll too
  *	c	cancels			1-9	something has happened	~1	waits for that, which orders	_1	which doesn't	=1	it has
- *	s w	waits until somebody waits for a context, unless 4 has happened; until somebody waits for m
+ *	s w	waits until somebody waits for a context or a permit, unless 4 has happened; until somebody waits for m
+ *	e E	the lease of the thread's permit is over; at the next look the crowd is of no use
+ *	W N	at the next look at the gate tasks may claim two seats; one
  *	F	frees the class, asking until it is free	v	looks at its counts
  *	T G	takes a number, if one is free (.: one is); puts back that taken last
  *	q	asks whether anybody has the number of m
@@ -36,9 +39,18 @@
 
 #define CONTEXTS(n) ((n) << 4)
 #define KEEP(n) ((n) << 12) /* so many threads keep a seat besides */
-/* The class says no number of contexts: so two for threads, and two for tasks. */
-#define TASKS (CONTEXTS(2) | HAS_TASKS)
-enum { WAIT_DIE = 1 << 8, STATIC = 1 << 9, NUMBERED = 1 << 10, CROWDS = 1 << 14, HAS_TASKS = 1 << 15, SLOW = 1 << 16, OVER = 1 << 17 };
+/*
+ * The class says no number of contexts: so one for threads, and two that tasks may have too.  Whoever begins next gets these; or they are
+ * handed over each time; or at first.  Tasks may have one of them.
+ */
+#define TASKS (CONTEXTS(1) | HAS_TASKS | LENT)
+#define HANDED (CONTEXTS(1) | HAS_TASKS)
+#define HANDED_ONCE (HANDED | ONCE)
+/* There is a crowd of one permit; calls look a few times before they queue. */
+enum {
+	WAIT_DIE = 1 << 8, STATIC = 1 << 9, NUMBERED = 1 << 10, CROWD = 1 << 14, HAS_TASKS = 1 << 15, AWAKE = 1 << 16,
+	LENT = 1 << 17, ONCE = 1 << 18, NARROW = 1 << 19
+};
 
 enum way { FREE, BY_CONTEXT, ALONE, BY_LOOP };
 struct user {
@@ -52,7 +64,7 @@ struct user {
 };
 
 /* What a poll's waker was to do, and did. */
-enum due { NEVER, ONCE };
+enum due { NOT_AT_ALL, ONE };
 struct polled {
 	uint32_t calls;
 	enum due due;
@@ -60,6 +72,7 @@ struct polled {
 enum { POLLS = 12 };
 
 static struct ww_class c;
+struct ww_class *const il_class = &c;
 static struct ww_mutex *mutexes;
 static bool numbered;
 static uint32_t numbers[3];
@@ -70,6 +83,7 @@ static bool put[IL_THREADS + 1];
 enum { IN_A_LINE = 4 };
 static uint32_t inside, most, keep, tasks, users[8], happened[10], refs, owner[3], cancels, met;
 static struct timespec soon;
+unsigned il_looks, il_bits = MANY_BITS;
 static struct polled polled[IL_THREADS + 1][POLLS];
 static unsigned polls[IL_THREADS + 1];
 static struct ww_acquire_ctx *left; /* by h, to whoever is called */
@@ -105,15 +119,82 @@ static void is_held_no_more(struct user *u, unsigned k)
 	u->held[k] = FREE;
 }
 
-/* A crowd of one permit, to be given up once this comes to little, or over amid the first one. */
-static void begin_crowd(bool is_slow)
-{
-	struct timespec now;
+/* ---- crowds: when there is one, and how long a permit lasts, is set by hand ---- */
 
-	MUST(!clock_gettime(CLOCK_MONOTONIC, &now));
+static const uint64_t lease = (uint64_t)1 << 55; /* which no program's time comes to, unless nobody could go on otherwise */
+static uint64_t leases_end;
+
+static void begin_crowd(void)
+{
+	struct ww_gate *gate = &c.pool->crowd.gate;
+
 	c.pool->at_hand = CROWDED;
-	c.pool->crowd.slow = is_slow ? 2 : 0;
-	c.pool->crowd.over = is_slow ? UINT64_MAX : (uint64_t)now.tv_sec * 1000000000 + (uint64_t)now.tv_nsec + 1;
+	ww_gate_open(gate, 1, 1, 1, 1, 64);
+	gate->width = gate->kept = 1;
+	gate->holds = UINT32_MAX;
+	gate->lease = lease;
+	leases_end = ww_now() + lease;
+}
+
+static void end_lease(void)
+{
+	struct ww_my_permit *mine = &ww_mine.permit;
+
+	pthread_mutex_lock(&c.pool->crowd.lock);
+	mine->at_once = 0;
+	if (mine->it && mine->it->ends == mine->ends)
+		mine->it->ends = mine->ends = ww_now();
+	pthread_mutex_unlock(&c.pool->crowd.lock);
+}
+
+/* A window of one permit is at its end, and the one without a limit was better. */
+static void end_crowd(void)
+{
+	pthread_mutex_lock(&c.pool->crowd.lock);
+	c.pool->crowd.gate = (struct ww_gate){
+		.width = 1, .kept = NO_LIMIT, .least = 1, .widest = 1, .most = 1, .holds = 1, .tries = true, .since = 1, .lease = 1,
+		.waited = UINT64_MAX, .rate = UINT64_MAX / 4, .begun = SEEN(c.pool->crowd.begun) - 1000,
+	};
+	__atomic_store_n(&c.pool->crowd.due, 0, __ATOMIC_RELAXED);
+	pthread_mutex_unlock(&c.pool->crowd.lock);
+}
+
+/* ---- seats of tasks: for how long they are lent, and how many there may be, is set by hand too ---- */
+
+/* By a time that doesn't come: one that has come passes at once. */
+static void lend(unsigned flags)
+{
+	struct ww_seats *of = &c.pool->tasks;
+
+	of->due = UINT64_MAX;
+	of->gate.lease = flags & (LENT | ONCE) ? lease : 0;
+	for (uint32_t k = 0; k < of->count && flags & LENT; k++)
+		of->seats[k].lent = UINT64_MAX;
+	if (flags & NARROW)
+		of->limit = of->gate.width = of->gate.kept = 1;
+}
+
+/* A window of another width is at its end, and this one was better. */
+static void widen(uint32_t width)
+{
+	struct ww_seats *of = &c.pool->tasks;
+
+	pthread_mutex_lock(&c.pool->queue);
+	of->gate = (struct ww_gate){
+		.width = of->limit, .kept = width, .least = 1, .widest = 1, .most = 2, .tries = true, .more = true, .since = 1,
+		.lease = !!of->gate.lease, .rate = UINT64_MAX / 4, .begun = of->begun - 1000,
+	};
+	__atomic_store_n(&of->due, 0, __ATOMIC_RELAXED);
+	pthread_mutex_unlock(&c.pool->queue);
+}
+
+/* Somebody stands in the line, though there is no crowd, or the permit is free and not by time alone. */
+static bool is_uncalled(const struct ww_crowd *crowd)
+{
+	const struct ww_permit *it = &crowd->permits[0];
+	uint64_t now = ww_now();
+
+	return crowd->first && (!is_crowded(c.pool) || (now < leases_end && now >= it->ends && !(it->seat && it->seat->busy & BUSY)));
 }
 
 /* ---- ww_mutex.h, ww_number.h ---- */
@@ -123,7 +204,7 @@ void il_setup(const struct il_program *p)
 	ww_class_init(&c, !!(p->flags & WAIT_DIE), "c");
 	most = p->flags >> 4 & 15;
 	keep = p->flags >> 12 & 3;
-	MUST(!ww_class_crowd(&c, p->flags & CROWDS ? 1 : WW_NO_CROWD));
+	MUST(!ww_class_crowd(&c, p->flags & CROWD ? 0 : WW_NO_CROWD));
 	tasks = p->flags & HAS_TASKS ? 2 : 0;
 	MUST(!ww_class_limit(&c, 3, tasks ? 0 : most) && (!(keep || tasks) || !ww_class_open_kept(&c, keep)));
 	mutexes = il_new(3 * sizeof *mutexes);
@@ -142,8 +223,11 @@ void il_setup(const struct il_program *p)
 		refs += !!strchr(p->threads[k], '-');
 	if (names(p, "[t"))
 		soon = il_in(1000000);
-	if (p->flags & (SLOW | OVER))
-		begin_crowd(p->flags & SLOW);
+	if (p->flags & CROWD)
+		begin_crowd();
+	if (tasks)
+		lend(p->flags);
+	il_looks = p->flags & IL_PATIENT ? UINT32_MAX : p->flags & AWAKE ? 3 : 1;
 }
 
 /* All that was taken was put back. */
@@ -156,8 +240,8 @@ void il_check(const struct il_program *p)
 			MUST(!ww_mutex_destroy(&mutexes[k]));
 	MUST(met <= cancels && put[1] + put[2] == names(p, "P"));
 #ifdef WW_DEBUG
-	/* Of these, each call is right, and none is dangerous. */
-	MUST(names(p, "n>LKdDFP") || (!ww_debug_faults() && !ww_debug_warnings()));
+	/* Of these, each call is right, and none is dangerous; but a time is long over once a lease is. */
+	MUST(names(p, "n>LKdDFP") || (leases_end && ww_now() >= leases_end) || (!ww_debug_faults() && !ww_debug_warnings()));
 #endif
 	for (unsigned k = 1; k <= IL_THREADS; k++)
 		for (unsigned i = 0; i < polls[k]; i++)
@@ -165,16 +249,18 @@ void il_check(const struct il_program *p)
 	for (unsigned k = 0; numbered && k < 3; k++)
 		MUST(ww_number_put(numbers[k], &c) == (k == 2 && names(p, "P") ? -EINVAL : 0));
 	if (c.pool) {
-		MUST(!c.pool->threads.seekers && !c.pool->threads.first && !c.pool->crowd.waiting && !c.pool->crowd.asleep);
-		MUST(!(p->flags & (SLOW | OVER)) || !is_crowded(c.pool));
+		MUST(!c.pool->threads.seekers && !c.pool->threads.first && !c.pool->crowd.waiting && !c.pool->crowd.first);
+		MUST(!names(p, "E") || !is_crowded(c.pool));
 		MUST(!c.pool->kept && c.pool->may_keep == keep);
-		most += keep;
+		most += keep + tasks;
 		for (uint32_t k = 0; k < most; k++)
 			MUST(!ww_acquire_init_checked(&x[k], &c));
 		MUST(ww_acquire_init_checked(&x[most], &c) == -EAGAIN);
 		for (uint32_t k = 0; k < most; k++)
 			ww_acquire_fini(&x[k]);
-		MUST(!c.pool->tasks.seekers && !c.pool->tasks.first && !c.pool->tasks.due);
+		MUST(!c.pool->tasks.seekers && !c.pool->tasks.first && !c.pool->tasks.called);
+		tasks = c.pool->tasks.limit;
+		MUST(!names(p, "WN") || tasks == (names(p, "W") ? 2 : 1));
 		for (uint32_t k = 0; k < tasks; k++)
 			MUST(!ww_acquire_init_poll(&x[k], &c, NULL, NULL));
 		MUST(!tasks || ww_acquire_init_poll(&x[tasks], &c, NULL, NULL) == -ETIMEDOUT);
@@ -185,23 +271,22 @@ void il_check(const struct il_program *p)
 	MUST(!ww_class_free(&c));
 }
 
-/* A seat is free, and somebody is due one; or somebody waits for one, and nobody was called for it. */
+/* A seat is free that may be claimed, and somebody waits for one, and nobody was called. */
 static bool is_forgotten(const struct ww_seats *of)
 {
-	bool waits = false;
+	uint32_t open = of == &c.pool->threads ? of->count : of->limit;
 
-	for (const struct ww_seek *it = of->first; it; it = it->next_)
-		waits |= it->served_ == WAITS;
-	for (uint32_t k = 0; k < of->count; k++) {
-		uint32_t busy = of->seats[k].busy;
-
-		if (!(busy & (BUSY | IS_KEPT)) && (of->due || (waits && !(busy & IS_CALLED))))
+	for (uint32_t k = 0; k < open && of->first && !of->called; k++)
+		if (!(of->seats[k].busy & (BUSY | IS_KEPT)))
 			return true;
-	}
 	return false;
 }
 
-void il_rests(void) { MUST(!c.pool || !(is_forgotten(&c.pool->threads) || is_forgotten(&c.pool->tasks))); }
+void il_rests(void)
+{
+	MUST(!c.pool || !(is_forgotten(&c.pool->threads) || is_forgotten(&c.pool->tasks)));
+	MUST(!c.pool || !is_uncalled(&c.pool->crowd));
+}
 
 static uint32_t *user_of(const ww_seat *s) { return &users[s - c.pool->seats]; }
 
@@ -248,7 +333,7 @@ static int poll_once(struct user *u, int k, const struct ww_waker *waker)
 static void take_back(struct user *u, int k, struct polled *it)
 {
 	if (ww_poll_take_back(u->x, k < 0 ? &u->seek : NULL))
-		it->due = NEVER;
+		it->due = NOT_AT_ALL;
 }
 
 /* As the words say; -ETIMEDOUT where it ended the wait. */
@@ -261,10 +346,10 @@ static int by_polls(struct user *u, int k, const char *how)
 		int r;
 
 		MUST(polls[il_me()] <= POLLS);
-		it->due = ONCE;
+		it->due = ONE;
 		r = poll_once(u, k, &(struct ww_waker){ is_called, NULL, it });
 		if (r != -EINPROGRESS) {
-			it->due = NEVER;
+			it->due = NOT_AT_ALL;
 			return r;
 		}
 		if (again || ends)
@@ -285,13 +370,13 @@ static int by_another(struct user *u, unsigned k)
 	struct polled *it = &polled[il_me()][polls[il_me()]++];
 	int r;
 
-	it->due = ONCE;
+	it->due = ONE;
 	left = u->x;
 	leave(u->x->own);
 	r = poll_once(u, (int)k, &(struct ww_waker){ hands_on, NULL, it });
 	if (r == -EINPROGRESS)
 		return r;
-	it->due = NEVER;
+	it->due = NOT_AT_ALL;
 	enter(u->x->own);
 	left = NULL;
 	il_set(&handed);
@@ -316,13 +401,16 @@ static int begin(struct user *u, char how, const char *words)
 
 	if (strpbrk(words, "lxyz"))
 		r = by_polls(u, -1, words);
+	else if (strchr(words, 'i'))
+		r = ww_acquire_init_until(u->x, &c, NULL);
 	else if (how == '(')
 		ww_acquire_init(u->x, &c);
 	else if (how == '[')
 		r = ww_acquire_init_until(u->x, &c, &soon);
 	else
 		r = ww_acquire_init_checked(u->x, &c);
-	MUST(!r || r == (how == '{' ? -EAGAIN : -ETIMEDOUT));
+	MUST(!r || r == (strchr(words, 'i') ? -EINTR : how == '{' ? -EAGAIN : -ETIMEDOUT));
+	MUST(!strchr(words, '!') || r);
 	if (!r)
 		enter(u->x->own);
 	return r;
@@ -574,6 +662,12 @@ static void end_context(struct user *u)
 /* For m; of a number's count the highest bit says that it is taken. */
 static bool are_waiting(void) { return numbered ? SEEN(c.pool->numbered[numbers[2]].waiters) << 1 : SEEN(mutexes[2].waiters); }
 
+/* Or it was, but no longer: all leases are over. */
+static bool is_sought(void)
+{
+	return SEEN(c.pool->threads.seekers) || SEEN(c.pool->tasks.seekers) || permit_seekers(c.pool) || (leases_end && ww_now() >= leases_end);
+}
+
 static void act(struct user *u, char what, const char *how)
 {
 	struct ww_class_counts counts;
@@ -589,8 +683,13 @@ static void act(struct user *u, char what, const char *how)
 	case 'D': if (u->last) destroy_last(); break;
 	case 'd': destroy_beside(); break;
 	case 'c': ADD(cancels, 1); MUST(!ww_acquire_cancel(shared)); break;
-	case 's': while (!SEEN(c.pool->threads.seekers) && !SEEN(happened[4])) il_yield(); break;
+	case 'C': ADD(cancels, IL_THREADS); MUST(!ww_class_cancel(&c)); break;
+	case 's': while (!is_sought() && !SEEN(happened[4])) il_yield(); break;
 	case 'w': while (!are_waiting()) il_yield(); break;
+	case 'e': end_lease(); break;
+	case 'E': end_crowd(); break;
+	case 'W': widen(2); break;
+	case 'N': widen(1); break;
 	case 'F': free_class(); break;
 	case 'v': ww_class_stats(&c, &counts); MUST(counts.context_waits <= 8); break;
 	case 'T': take_number(u, strchr(how, '.')); break;
@@ -727,6 +826,13 @@ const struct il_program il_programs[] = {
 	{ "cancel-once", { "na1~2A", "~1$(3!iaA2.iaA)", "~3c" }, CONTEXTS(2), 2 },
 	{ "cancel-slow", { "(abAB)", "$(1ibiaAB~2)", "~1c2" }, CONTEXTS(4), 2 },
 	{ "cancel-deadline", { "(aA)", "$(1tiaA~2)", "~1c2" }, CONTEXTS(4), 2 },
+	{ "class-cancel", { "na1~2A", "~1(3!iaA2)", "~3C" }, CONTEXTS(2), 2 },
+	{ "class-cancel-soon", { "(aA)(aA)", "(1iaA~2)i(iaA)", "~1C2" }, CONTEXTS(4), 2 },
+	{ "class-cancel-seek", { "(1~2)", "~13!i()2", "~3C" }, CONTEXTS(1), 2 },
+	{ "class-cancel-seek-on", { "(1~2)", "~1()", "~1C2" }, CONTEXTS(1), 2 },
+	{ "class-cancel-poll", { "na1~2A", "~1(3!yiaA2)", "~3C" }, CONTEXTS(4), 2 },
+	{ "class-cancel-poll-seek", { "(1~2)", "~13!yi()2", "~3C" }, CONTEXTS(1), 2 },
+	{ "class-cancel-tasks", { "y()yi()", "y()", "yi()C" }, TASKS, 2 },
 	{ "deadline", { "(aA)(aA)", "(taA)" }, CONTEXTS(4), 3 },
 	{ "deadline-3", { "(aA)", "(taA)", "(aA)" }, CONTEXTS(4), 2 },
 	{ "deadline-alone", { "(aA)", "tnaA", "(aA)" }, CONTEXTS(2), 2 },
@@ -736,18 +842,33 @@ const struct il_program il_programs[] = {
 	{ "deadline-seeking", { "(1~2)", "~1!tnaA2", "()" }, CONTEXTS(1), 2 },
 	{ "deadline-handed-on", { "(abAB)", "(taibBA)" }, CONTEXTS(4), 2 },
 	{ "cancel-inside", { "(a3~4A)", "~3$(1iaA~2)", "~1c4TG2" }, CONTEXTS(4) | IL_INSIDE, 2 },
-	{ "crowd", { "(aA)(bB)", "(aA)(bB)", "(aA)(bB)" }, CONTEXTS(4) | CROWDS, 2 },
-	{ "crowd-kept", { "(aA)(aA)", "(aA)(aA)", "(aA)" }, CONTEXTS(4) | KEEP(3) | CROWDS, 2 },
-	{ "crowd-4", { "(aA)(bB)", "(aA)(bB)", "(aA)", "(bB)(aA)" }, CONTEXTS(4) | CROWDS, 1 },
-	{ "crowd-until", { "(aA)[bB)", "(aA)[bB)", "(aA)[bB)" }, CONTEXTS(4) | CROWDS, 1 },
-	{ "crowd-time", { "(aA)(bB)", "(taA)(bB)", "(aA)" }, CONTEXTS(4) | CROWDS, 2 },
-	{ "crowd-last", { "(aA)()", "(aA)[)()", "(aA)()" }, CONTEXTS(4) | CROWDS, 2 },
-	{ "crowd-last-4", { "(aA)()", "(aA)[)", "(aA)()", "()" }, CONTEXTS(4) | CROWDS, 1 },
-	{ "crowd-free", { "(mM)(m-M)D(8)", "(m-M)D(9)", "(m-M)D", "~8~9F()" }, CONTEXTS(4) | CROWDS, 1 },
-	{ "crowd-slow", { "(1~2)()", "~1(2)", "~1()" }, CONTEXTS(4) | CROWDS | SLOW, 2 },
-	{ "crowd-slow-4", { "(1~2)()", "~1(2)", "~1()", "~1()" }, CONTEXTS(4) | CROWDS | SLOW, 1 },
-	{ "crowd-over", { "(1~2)()", "~1(2)", "~1()" }, CONTEXTS(4) | CROWDS | OVER, 2 },
-	{ "crowd-over-4", { "(1~2)()", "~1(2)", "~1()", "~1()" }, CONTEXTS(4) | CROWDS | OVER, 1 },
+	{ "crowd", { "(aA)e(bB)", "(aA)e(bB)", "(aA)" }, CONTEXTS(4) | CROWD, 1 },
+	{ "crowd-kept", { "(aA)e(aA)", "(aA)e(aA)", "(aA)" }, CONTEXTS(4) | KEEP(3) | CROWD, 1 },
+	{ "crowd-line", { "(1s)e()", "~1()", "~1()" }, CONTEXTS(4) | CROWD, 1 },
+	{ "crowd-line-kept", { "()e(1s)e()e()", "~1()e()" }, CONTEXTS(1) | KEEP(2) | CROWD, 2 },
+	{ "crowd-leaves", { "(1s)e()", "~1[)", "~1()" }, CONTEXTS(4) | CROWD, 1 },
+	{ "crowd-stale", { "()e(1~2)e()", "~1(2)" }, CONTEXTS(1) | KEEP(2) | CROWD, 3 },
+	{ "crowd-ends", { "(1s)E()e()", "~1()", "~1()" }, CONTEXTS(4) | CROWD, 1 },
+	{ "crowd-checked", { "(1s)e{)e()", "~1()", "~1{)e()" }, CONTEXTS(4) | CROWD, 1 },
+	{ "crowd-free", { "(1~2)Ee(3)", "~1()", "~1s2~3F()" }, CONTEXTS(4) | CROWD, 1 },
+	{ "awake", { "(aA)(aA)", "(aA)" }, CONTEXTS(4) | AWAKE, 3 },
+	{ "awake-3", { "(aA)", "(aA)", "naA" }, CONTEXTS(4) | AWAKE, 2 },
+	{ "awake-cycle", { "(abAB)", "(baBA)" }, CONTEXTS(4) | AWAKE, 3 },
+	{ "awake-cycle-die", { "(abAB)", "(baBA)" }, CONTEXTS(4) | WAIT_DIE | AWAKE, 3 },
+	{ "awake-ring", { "(a1~2~3bAB)", "(b2~1~3mBM)", "(m3~1~2aMA)" }, CONTEXTS(4) | AWAKE, 1 },
+	{ "awake-ring-die", { "(a1~2~3bAB)", "(b2~1~3mBM)", "(m3~1~2aMA)" }, CONTEXTS(4) | WAIT_DIE | AWAKE, 1 },
+	{ "patient", { "(aA)(aA)", "(aA)", "naA" }, CONTEXTS(4) | IL_PATIENT, 2 },
+	{ "patient-cycle", { "(abAB)", "(baBA)" }, CONTEXTS(4) | IL_PATIENT, 3 },
+	{ "patient-cycle-die", { "(abAB)", "(baBA)" }, CONTEXTS(4) | WAIT_DIE | IL_PATIENT, 3 },
+	{ "patient-ring", { "(abAB)", "(bmBM)", "(maMA)" }, CONTEXTS(4) | IL_PATIENT, 1 },
+	{ "patient-ring-die", { "(abAB)", "(bmBM)", "(maMA)" }, CONTEXTS(4) | WAIT_DIE | IL_PATIENT, 1 },
+	{ "patient-destroy", { "(m-M)D", "nm-MD" }, CONTEXTS(4) | IL_PATIENT, 2 },
+	{ "awake-loop", { "(Lab;U)", "(Lba;U)" }, CONTEXTS(4) | AWAKE, 2 },
+	{ "awake-destroy", { "(m1~2M)3", "(~1m8M)", "~1w2~3dd" }, CONTEXTS(4) | AWAKE, 2 },
+	{ "awake-destroys", { "(m-M)D", "nm-MD" }, CONTEXTS(4) | AWAKE, 2 },
+	{ "awake-cancel", { "(aA)(aA)", "$(1iaA~2)$(.iaA)", "~1c2" }, CONTEXTS(4) | AWAKE, 1 },
+	{ "awake-deadline", { "(aA)(aA)", "(taA)" }, CONTEXTS(4) | AWAKE, 2 },
+	{ "awake-number", { "(mM)1P", "~1P(aA)", "naA" }, CONTEXTS(4) | NUMBERED | AWAKE, 1 },
 	{ "static", { "(mM)", "(mM)" }, CONTEXTS(4) | STATIC, 2 },
 	{ "static-alone", { "nmM", "nmM" }, CONTEXTS(4) | STATIC, 2 },
 	{ "static-both", { "nmM", "(mM)" }, CONTEXTS(4) | STATIC, 2 },
@@ -796,6 +917,21 @@ const struct il_program il_programs[] = {
 	{ "tasks-late-end", { "y(1~2~3)", "~1l()2", "~1x()3", "~1l()" }, TASKS, 1 },
 	{ "tasks-late-due", { "y(~1)y(~4)", "y(~2)y(4~3)", "l()", "12y(3)" }, TASKS, 1 },
 	{ "tasks-one-ends", { "y(1~2~3~4)", "~1y()2", "~1x()3", "~1z()4" }, TASKS, 1 },
+	{ "tasks-narrow", { "y()y()", "z()", "y()" }, TASKS | NARROW, 2 },
+	{ "tasks-narrow-4", { "y()", "x()", "l()", "y()" }, TASKS | NARROW, 1 },
+	{ "tasks-hand", { "y()y()", "y()", "y()" }, HANDED | NARROW, 2 },
+	{ "tasks-hand-4", { "y()", "x()", "l()", "y()" }, HANDED, 1 },
+	{ "tasks-hand-late", { "l()l()", "y()", "z()y()" }, HANDED | NARROW, 1 },
+	{ "tasks-hand-once", { "y()y()", "l()", "y()" }, HANDED_ONCE | NARROW, 2 },
+	{ "tasks-hand-free", { "y(7)", "y(8)", "y(9)", "_7_8_9F" }, HANDED | NARROW, 1 },
+	{ "tasks-wider", { "y(1sW)", "~1y()", "~1y()" }, TASKS | NARROW, 2 },
+	{ "tasks-wider-late", { "y(1sW)y()", "~1l()", "~1y()" }, TASKS | NARROW, 1 },
+	{ "tasks-narrower", { "y(1~2sN3)", "~1y(2~3)", "~2y()", "~2y()" }, HANDED, 1 },
+	{ "tasks-narrower-lent", { "y(1~2sN3)", "~1y(2~3)", "~2l()" }, TASKS, 1 },
+	{ "shared", { "(1)", "(~1)", "y()", "()" }, TASKS, 1 },
+	{ "shared-held", { "(1~2)", "~1(2)()", "~1y()y()", "~1()" }, TASKS | NARROW, 1 },
+	{ "shared-soon", { "(1~2)", "(~1~2)", "~1[)2", "~1y()" }, TASKS, 1 },
+	{ "shared-hand", { "(1~2)", "~1y()2", "~1l()", "~1()()" }, HANDED | NARROW, 1 },
 	{ "numbers", { ".TG.TG", ".TG.TG" }, CONTEXTS(4), 3 },
 	{ "numbers-two", { "TTGG", "TTGG" }, CONTEXTS(4), 2 },
 	{ "numbers-4", { "TG", "TG", "TG", "TG" }, CONTEXTS(4), 1 },

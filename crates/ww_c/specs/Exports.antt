@@ -1,14 +1,17 @@
 -- What a call by a handle of C's comes to.
-use Rattle.std.specs.Prelude.{ℕ, zero, suc, ◌≡◌, ◌≤◌, ◌⊎◌, ℤ, pos, negsuc, List, length, map, Option, Some, None, Box}
+use Rattle.std.specs.Prelude.{ℕ, zero, suc, ◌≡◌, ◌≤◌, ◌⊎◌, ℤ, pos, negsuc, Bool, List, length, map, Option, Some, None, Result, Box}
 use Rattle.std.specs.Global.{Global}
 use Rattle.ww_steps.specs.declared.turn.Answer.{Answer}
+use Rattle.ww_steps.specs.declared.outlook.Outlook.{Outlook}
+use Rattle.ww_steps.specs.declared.outlook.NoOutlook.{NoOutlook}
 use Rattle.ww_steps.specs.Situations.{Situation}
-use Rattle.ww_steps.specs.Answers.{BooksWakes, IsEachAnswer, IsNextAnswer, IsCancelAnswer, IsWakeAnswer, HasNothing}
+use Rattle.ww_steps.specs.Answers.{BooksWakes, CountsNaps, HasSomeHeld, IsEachAnswer, IsNextAnswer, IsCancelAnswer, IsWakeAnswer, HasNothing}
 use Rattle.ww_steps.specs.Opened.{IsWorldSize, IsOpened}
+use Rattle.ww_steps.specs.Outlooks.{IsOutlookAnswer, IsWoundedAnswer}
 use Rattle.ww_queue.specs.declared.kind.Kind.{Kind}
 use Rattle.ww_queue.specs.declared.kind.Kind.TheVariants.{WoundWait, WaitDie}
 use Rattle.ww_c.specs.declared.slot.Handle.{Handle}
-use Rattle.ww_c.specs.Codes.{code_of, pauses_of}
+use Rattle.ww_c.specs.Codes.{code_of, outlook_code, wounded_code}
 
 -- The desk behind the handle answers by this relation, and the code is that of its answer; an empty handle is told EINVAL.
 abbrev pub IsCall : (Situation → Answer → Situation → Type 0) → Option Situation → ℤ → Option Situation → Type 0
@@ -24,23 +27,29 @@ abbrev pub IsWakeCall : Option Situation → ℤ → Option Situation → Type 0
 IsWakeCall None code after = (code ≡ negsuc 21) × (after ≡ None)
 IsWakeCall (Some s) code after = (who : Option ℕ) × (s' : Situation) × (after ≡ Some s') × IsWakeAnswer s who s' × (code ≡ wake_code who)
 
--- ... and its account of wakes balances
+-- the next step, whatever call is on its way; and its account of wakes balances, and it left a guard as a waiter if it has to sleep
 abbrev pub goes_on : Situation → Answer → Situation → Type 0
-goes_on s a s' = IsNextAnswer s.turn s a s' × BooksWakes s s'
+goes_on s a s' = IsNextAnswer s.turn s a s' × BooksWakes s s' × CountsNaps s a s'
 
--- the next step, which also tells how many pauses to rest
-abbrev pub IsTurnCall : Option Situation → ℤ → ℕ → Option Situation → Type 0
-IsTurnCall None code pauses after = (code ≡ negsuc 21) × (pauses ≡ 0) × (after ≡ None)
-IsTurnCall (Some s) code pauses after = (a : Answer) × (s' : Situation) × (after ≡ Some s') × goes_on s a s'
-    × (code ≡ code_of a) × (pauses ≡ pauses_of a)
+-- whose a lock is
+abbrev pub IsLookCall : Option Situation → ℕ → ℤ → Option Situation → Type 0
+IsLookCall None n code after = (code ≡ negsuc 21) × (after ≡ None)
+IsLookCall (Some s) n code after = (seen : Result Outlook NoOutlook) × (s' : Situation) × (after ≡ Some s')
+    × IsOutlookAnswer s n seen s' × (code ≡ outlook_code seen)
+
+-- whether its context is wounded
+abbrev pub IsWoundedCall : Option Situation → ℤ → Option Situation → Type 0
+IsWoundedCall None code after = (code ≡ negsuc 21) × (after ≡ None)
+IsWoundedCall (Some s) code after = (seen : Result Bool NoOutlook) × (s' : Situation) × (after ≡ Some s')
+    × IsWoundedAnswer s seen s' × (code ≡ wounded_code seen)
 
 abbrev pub cancels : ℕ → Situation → Answer → Situation → Type 0
 cancels u s a s' = IsCancelAnswer s u a s' × BooksWakes s s'
 
--- which locks of a list it has released, from the end on; an empty handle none
+-- which locks of a list it has released, from the end on, and that nothing else has changed; an empty handle none
 abbrev pub IsEachCall : Option Situation → List ℕ → ℕ → Option Situation → Type 0
 IsEachCall None ns left after = (left ≡ length ns) × (after ≡ None)
-IsEachCall (Some s) ns left after = (s' : Situation) × (after ≡ Some s') × IsEachAnswer s ns left s'
+IsEachCall (Some s) ns left after = (s' : Situation) × (after ≡ Some s') × IsEachAnswer s ns left s' × HasSomeHeld s s'
 
 -- whether the desk is idle, which an empty handle counts as
 abbrev pub IsIdleCall : Option Situation → ℤ → Option Situation → Type 0

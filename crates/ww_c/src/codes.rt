@@ -1,16 +1,24 @@
-//! The numbers of answers for C, how long C rests after an answer, and how its lock calls wait.
+//! The numbers of answers for C, and how its lock calls wait.
 
 ghost use Rattle.std.specs.Prelude.{◌≡◌};
-ghost use Rattle.ww_c.specs.Codes.{code_of, pauses_of, waits_of};
+ghost use Rattle.ww_c.specs.Codes.{code_of, outlook_code, waits_of, wounded_code};
 
 use ww_seat::Waits;
-use ww_steps::Answer;
+use ww_steps::{Age, Answer, NoOutlook, Outlook};
 
 pub(crate) const EBUSY: i32 = -16;
 
 pub(crate) const EINVAL: i32 = -22;
 
 pub(crate) const ENOMEM: i32 = -12;
+
+/// The context of a lock's owner is older, or younger, than that of the seat that looks.
+pub(crate) const OLDER: i32 = 8192;
+
+pub(crate) const YOUNGER: i32 = 16384;
+
+/// Nobody has the lock, and somebody waits for it.
+pub(crate) const NOBODY: i32 = 32768;
 
 /// The number of an answer for C.
 #[inline(always)]
@@ -20,9 +28,7 @@ pub(crate) fn code(answer: Answer) -> i32
     match answer {
         Answer::Done => 0,
         Answer::Again => 1,
-        Answer::Stays(rest) if rest.yields == 0 => 2,
         Answer::Sleeps => 3,
-        Answer::Stays(_) => 4,
         Answer::Awaits => 5,
         Answer::Busy => EBUSY,
         Answer::Invalid => EINVAL,
@@ -33,13 +39,29 @@ pub(crate) fn code(answer: Answer) -> i32
     }
 }
 
-/// How many pauses C rests after a step with this answer.
-pub(crate) fn pauses(answer: Answer) -> u32
-    ensures { result ≡ pauses_of answer }
+/// The number for C of whose a lock is.
+pub(crate) fn whose(seen: Result<Outlook, NoOutlook>) -> i32
+    ensures { result ≡ outlook_code seen }
 {
-    match answer {
-        Answer::Stays(rest) => rest.pauses,
-        _ => 0,
+    match seen {
+        Ok(Outlook::Free) => 0,
+        Ok(Outlook::Due) => NOBODY,
+        Ok(Outlook::Owned(seat, Age::Unknown)) => i32::from(seat) + 1,
+        Ok(Outlook::Owned(seat, Age::Older)) => i32::from(seat) + 1 + OLDER,
+        Ok(Outlook::Owned(seat, Age::Younger)) => i32::from(seat) + 1 + YOUNGER,
+        Err(NoOutlook::Inside) => EBUSY,
+        Err(NoOutlook::NoLock) => EINVAL,
+    }
+}
+
+/// The number for C of whether a context is wounded.
+pub(crate) fn wounded(seen: Result<bool, NoOutlook>) -> i32
+    ensures { result ≡ wounded_code seen }
+{
+    match seen {
+        Ok(wounded) => i32::from(wounded),
+        Err(NoOutlook::Inside) => EBUSY,
+        Err(NoOutlook::NoLock) => EINVAL,
     }
 }
 

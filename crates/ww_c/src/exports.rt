@@ -2,9 +2,9 @@
 ghost use Rattle.std.specs.Prelude.{◌≡◌, ◌<◌, ◌≤◌, ◌⊎◌, take};
 ghost use Rattle.ww_steps.specs.Answers.{IsBeginAnswer, IsDoneAnswer, IsEndAnswer, IsLockAnswer, IsSlowAnswer, IsTryAnswer, IsUnlockAnswer, IsHasAnswer, IsFreeAnswer, IsHeedAnswer};
 ghost use Rattle.ww_c.specs.Codes.{waits_of};
-ghost use Rattle.ww_c.specs.Exports.{IsCall, IsCloseCall, IsEachCall, IsHeldCall, IsIdleCall, IsTurnCall, IsWakeCall, cancels};
+ghost use Rattle.ww_c.specs.Exports.{IsCall, IsCloseCall, IsEachCall, IsHeldCall, IsIdleCall, IsLookCall, IsWakeCall, IsWoundedCall, cancels, goes_on};
 
-use crate::codes::{EBUSY, EINVAL, code, pauses, waits};
+use crate::codes::{EBUSY, EINVAL, code, waits, whose, wounded};
 use crate::slot::{ALONE, BARE, FULL, Handle, PLAIN, READY};
 use std::alloc::Global;
 use std::mem;
@@ -235,6 +235,9 @@ pub extern "C" fn ww_try_(seat: &mut Handle, lock: u32) -> i32
     ensures { IsCall (λ s a t. IsTryAnswer s lock a t) seat.old.slot.desk result seat.new.slot.desk }
 {
     if lock >= seat.below {
+        if seat.mode == BARE {
+            return try_bare(seat, lock);
+        }
         return try_alone(seat, lock);
     }
     match seat.slot.lend().try_lock_plainly(lock) {
@@ -262,6 +265,30 @@ fn try_alone(seat: &mut Handle, lock: u32) -> i32
     match desk.try_lock_plainly(lock) {
         Answer::Done => {
             seat.mode = ALONE;
+            0
+        }
+        answer => {
+            seat.mode = FULL;
+            code(answer)
+        }
+    }
+}
+
+/// The same by a context that has released all that it held.
+#[inline(always)]
+fn try_bare(seat: &mut Handle, lock: u32) -> i32
+    requires { seat.old.mode ≡ 4 }
+    ensures { IsCall (λ s a t. IsTryAnswer s lock a t) seat.old.slot.desk result seat.new.slot.desk }
+{
+    let desk = seat.slot.lend();
+    let locks = desk.locks();
+    if lock >= locks {
+        return try_anyhow(seat, lock);
+    }
+    match desk.try_lock_bare(lock) {
+        Answer::Done => {
+            seat.below = locks;
+            seat.mode = PLAIN;
             0
         }
         answer => {
@@ -403,20 +430,39 @@ pub extern "C" fn ww_is_free_(seat: &mut Handle, lock: u32) -> i32
     code(seat.slot.lend().is_free(lock))
 }
 
-/// The next step of the call that is on its way. How many pauses to rest then stands in `rest`.
+/// The next step of the call that is on its way.
 #[unsafe(no_mangle)]
-pub extern "C" fn ww_go_on_(seat: &mut Handle, rest: &mut u32) -> i32
-    ensures { IsTurnCall seat.old.slot.desk result rest.new seat.new.slot.desk }
+pub extern "C" fn ww_go_on_(seat: &mut Handle) -> i32
+    ensures { IsCall goes_on seat.old.slot.desk result seat.new.slot.desk }
 {
-    *rest = 0;
     if seat.is_empty() {
         return EINVAL;
     }
     seat.mode = FULL;
     seat.below = 0;
-    let answer = seat.slot.lend().go_on();
-    *rest = pauses(answer);
-    code(answer)
+    code(seat.slot.lend().go_on())
+}
+
+/// Whose a lock is, and how old the owner's context, by one look at the lock's word.
+#[unsafe(no_mangle)]
+pub extern "C" fn ww_look_(seat: &mut Handle, lock: u32) -> i32
+    ensures { IsLookCall seat.old.slot.desk lock result seat.new.slot.desk }
+{
+    if seat.is_empty() {
+        return EINVAL;
+    }
+    whose(seat.slot.lend().outlook(lock))
+}
+
+/// Whether an older context has wounded that of the seat, which holds a lock.
+#[unsafe(no_mangle)]
+pub extern "C" fn ww_is_wounded_(seat: &mut Handle) -> i32
+    ensures { IsWoundedCall seat.old.slot.desk result seat.new.slot.desk }
+{
+    if seat.is_empty() {
+        return EINVAL;
+    }
+    wounded(seat.slot.lend().is_wounded())
 }
 
 /// The number of one of the seats to be woken now, or EINVAL if there are none, or while the seat may be inside a guard.

@@ -1,12 +1,17 @@
 -- What each call leaves of the wakes that a desk has to make, and of how often it left a guard as a waiter.
-use Rattle.std.proofs.Common.{◌≡◌, ℕ, ◌+◌, true, false, true≢false, List, [], ◌∷◌, inl, inr, refl, sym, ap, ◌∙◌, subst}
+use Rattle.std.proofs.Common.{◌≡◌, ℕ, ◌+◌, Bool, true, false, true≢false, List, [], ◌∷◌, inl, inr, refl, sym, ap, ◌∙◌, subst}
+use Rattle.std.specs.Prelude.{Result, Ok, Err}
 use Rattle.ww_seat.specs.declared.waits.Waits.{Waits}
 use Rattle.ww_steps.specs.declared.turn.Answer.{Answer}
 use Rattle.ww_steps.specs.declared.turn.Answer.TheVariants.{Done, Again, Sleeps, Busy, Invalid, Already, NoSpace}
+use Rattle.ww_steps.specs.declared.outlook.Outlook.{Outlook}
+use Rattle.ww_steps.specs.declared.outlook.NoOutlook.{NoOutlook}
+use Rattle.ww_steps.specs.declared.outlook.NoOutlook.TheVariants.{Inside, NoLock}
 use Rattle.ww_steps.specs.Situations.{Situation}
 use Rattle.ww_steps.specs.Answers.{Balances, StaysOut, HasReleased, IsBeginAnswer, IsDoneAnswer, IsEndAnswer, IsLockAnswer, IsTryAnswer, IsSlowAnswer, IsUnlockAnswer, IsHasAnswer, IsFreeAnswer, IsCancelAnswer, IsHeedAnswer, naps_then, CountsNaps}
+use Rattle.ww_steps.specs.Outlooks.{IsOutlookAnswer, IsWoundedAnswer}
 use Rattle.ww_steps.proofs.Account.{balances_same}
-use Rattle.ww_drives.specs.Deeds.{Call, begin, done, end, lock, try_lock, lock_slow, go_on, unlock, unlock_each, has, is_free, cancel, heed, HasDone, is_sleeps}
+use Rattle.ww_drives.specs.Deeds.{Call, begin, done, end, lock, try_lock, lock_slow, go_on, unlock, unlock_each, has, is_free, outlook, is_wounded, cancel, heed, HasDone, is_sleeps}
 
 -- it owes nobody more, and left no guard as a waiter
 record IsQuiet (s s' : Situation) : Type 0 where
@@ -98,7 +103,7 @@ ended s s' _ h = absurd h
 
 locked : (s s' : Situation) (n : ℕ) (waits : Waits) (a : Answer) → IsLockAnswer s n waits a s' → Accounts s a s'
 locked s s' n waits Done h = accounts s s' Done refl (quiet_out s s' _ h.1.0 h.1.1 refl refl refl)
-locked s s' n waits Again h = accounts s s' Again refl (quiet_out s s' _ h.1 h.2.2 refl refl refl)
+locked s s' n waits Again h = accounts s s' Again refl (quiet_out s s' _ h.1 h.2 refl refl refl)
 locked s s' n waits Busy h = accounts s s' Busy refl (quiet_same s s' h.1)
 locked s s' n waits Already h = accounts s s' Already refl (quiet_same s s' h.1)
 locked s s' n waits Invalid h = accounts s s' Invalid refl (quiet_same s s' h.1)
@@ -140,6 +145,21 @@ looked s s' n Busy h = accounts s s' Busy refl (quiet_same s s' h.1)
 looked s s' n Invalid h = accounts s s' Invalid refl (quiet_same s s' h.2)
 looked s s' n _ h = absurd h
 
+looked_out : (s s' : Situation) (n : ℕ) (seen : Result Outlook NoOutlook) → IsOutlookAnswer s n seen s' → IsQuiet s s'
+looked_out s s' n (Ok seen) h = quiet_same s s' h.2
+looked_out s s' n (Err Inside) h = quiet_same s s' h.1
+looked_out s s' n (Err NoLock) h = quiet_same s s' h.2
+
+-- what it knows of its sign counts for none of this
+saw_wound : (s s' : Situation) (seen : Result Bool NoOutlook) → IsWoundedAnswer s seen s' → IsQuiet s s'
+saw_wound s s' (Ok true) h = subst (IsQuiet s) (sym h.2.2) (record { caller = refl; cancelled = refl; debts = refl; wakes = refl; naps = refl })
+saw_wound s s' (Ok false) h = elim h.1 [
+  | inl bare ↦ quiet_same s s' bare.1
+  | inr none ↦ subst (IsQuiet s) (sym none.1) (record { caller = refl; cancelled = refl; debts = refl; wakes = refl; naps = refl })
+]
+saw_wound s s' (Err Inside) h = quiet_same s s' h.1
+saw_wound s s' (Err NoLock) h = absurd h
+
 heeding : (s s' : Situation) (a : Answer) → IsHeedAnswer s a s' → Accounts s a s'
 heeding s s' Done h = accounts s s' Done refl
     (subst (IsQuiet s) (sym h.1) (record { caller = refl; cancelled = refl; debts = refl; wakes = refl; naps = refl }))
@@ -174,5 +194,9 @@ each_accounts (unlock_each ns) s a s' h = subst (λ (x : Answer). Accounts s x s
     (accounts s s' Done refl (released s s' h.1.1.1 h.1.1.4))
 each_accounts (has n) s a s' h = had s s' n a h
 each_accounts (is_free n) s a s' h = looked s s' n a h
+each_accounts (outlook n) s a s' h = subst (λ (x : Answer). Accounts s x s') (sym h.0)
+    (accounts s s' Done refl (looked_out s s' n h.1.0 h.1.1))
+each_accounts is_wounded s a s' h = subst (λ (x : Answer). Accounts s x s') (sym h.0)
+    (accounts s s' Done refl (saw_wound s s' h.1.0 h.1.1))
 each_accounts (cancel u) s a s' h = (h.1 s (itself s), cancelled_naps s s' u a h.0)
 each_accounts heed s a s' h = heeding s s' a h

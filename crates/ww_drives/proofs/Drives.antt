@@ -7,6 +7,7 @@ use Rattle.ww_model.specs.Event.{actor}
 use Rattle.ww_view.specs.View.{first_view}
 use Rattle.ww_invariant.specs.declared.cells.Part.{Part}
 use Rattle.ww_invariant.specs.declared.cells.Start.{Start}
+use Rattle.ww_invariant.specs.Rule.{first_part}
 use Rattle.ww_wakes.specs.Scene.{Step, performs}
 use Rattle.ww_refines.specs.Moment.{HasToWake}
 use Rattle.ww_refines.specs.Plays.{IsBy}
@@ -14,7 +15,6 @@ use Rattle.ww_refines.specs.Runs as runs
 use Rattle.ww_refines.specs.Runs.{IsOfRun}
 use Rattle.ww_refines.specs.Endless.{IsEndless, WakesArriveThere}
 use Rattle.ww_refines.specs.Deadlocks.{IsScheduledThere}
-use Rattle.ww_refines.proofs.Seating.{new_tables_begin}
 use Rattle.ww_refines.proofs.Wholes.{no_wake_is_lost_in_runs}
 use Rattle.ww_refines.proofs.Standstill.{no_standstill_in_runs}
 use Rattle.ww_refines.proofs.Ends.{nobody_sleeps_in_vain_in_runs}
@@ -23,7 +23,7 @@ use Rattle.ww_steps.specs.Opened.{fresh}
 use Rattle.ww_drives.specs.Stages.{Stage, IsFirstStage}
 use Rattle.ww_drives.specs.Deeds.{Deed, steps, rises, Does, IsDriven}
 use Rattle.ww_drives.specs.Deeds as drive
-use Rattle.ww_drives.specs.Laws.{NewWorldsBegin, thread_move, DrivesAreRuns, IsDueBy, NoWakeIsLostInDrives, NoStandstillInDrives, IsEndlessDrive, WakesArriveByDesks, NobodySleepsInVainInDrives, IsServed, NoDeadlockLastsInDrives, DrivesRunOn, WaitsEndInDrives}
+use Rattle.ww_drives.specs.Laws.{OpenedWorldsBegin, thread_move, DrivesAreRuns, IsDueBy, NoWakeIsLostInDrives, NoStandstillInDrives, IsEndlessDrive, WakesArriveByDesks, NobodySleepsInVainInDrives, IsServed, NoDeadlockLastsInDrives, DrivesRunOn, WaitsEndInDrives}
 use Rattle.ww_drives.proofs.Kept.{OfDesk, of_desk, IsKept, is_awake}
 use Rattle.ww_drives.proofs.Keeping.{IsInOrder, acts, follows, keep, owes_there}
 
@@ -57,18 +57,36 @@ first_keeps {key = key} g f d low = let h = f.desks d low in let m = g.moment in
       owes = record { even = λ u. omega arith; marked = λ u few other. absurd (omega arith) };
     })
 
-pub new_worlds_begin : NewWorldsBegin
-new_worlds_begin key s r home left views core places = let b = new_tables_begin key s r views core in record {
+pub opened_worlds_begin : OpenedWorldsBegin
+opened_worlds_begin key s r home left told core places = record {
   stage = record {
-    moment = b.moment;
+    moment = record {
+      table = s;
+      ruled = r;
+      part = first_part key.kind key.locks key.places;
+      told = told;
+      rung = λ _ _. 0;
+      risen = λ _. 0;
+      token = λ _. false;
+      asleep = λ _. false;
+      heeds = λ _. false;
+    };
     desk = fresh home key.locks key.seats key.kind left;
     calling = λ _. false;
     to_sleep = λ _. false;
     named = λ _ _. false;
   };
-  table = b.table;
+  table = refl;
   first = record {
-    first = b.first;
+    first = record {
+      core = core;
+      parts = λ t low. refl;
+      rung = refl;
+      risen = refl;
+      token = refl;
+      asleep = refl;
+      heeds = refl;
+    };
     places = places;
     desks = λ d low. record { home = home; left = left; now = refl };
     calling = λ d. refl;
@@ -136,11 +154,11 @@ event_of g g' from (steps d y) e does is = let there = does.there (acts g g' (in
 event_of g g' from _ e does is = absurd (cc)
 
 module _ {key : Start} (stage : ℕ → Stage key) (deed : ℕ → Deed) (endless : IsEndlessDrive stage deed) where
-  driven : (j : ℕ) → IsDriven (stage j)
+  pub driven : (j : ℕ) → IsDriven (stage j)
   driven zero = endless.begins
   driven (suc j) = drive.goes_on (stage j) (stage (suc j)) (deed j) (driven j) (endless.goes_on j)
 
-  is_endless : IsEndless (λ j. (stage j).moment) (λ j. thread_move (deed j))
+  pub is_endless : IsEndless (λ j. (stage j).moment) (λ j. thread_move (deed j))
   is_endless = record {
     begins = is_of_run (stage 0) endless.begins;
     goes_on = λ j. follows (stage j) (stage (suc j)) (in_order (stage j) (driven j)) (deed j) (endless.goes_on j);

@@ -14,3 +14,6 @@ pub mod Doomed
 pub mod Dying
 pub mod Wounding
 pub mod CalledOff
+pub mod Passing
+pub mod Data
+pub mod HandedOver

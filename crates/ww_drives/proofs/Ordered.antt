@@ -13,11 +13,11 @@ use Rattle.ww_seat.specs.declared.waits.Waits.{Waits}
 use Rattle.ww_steps.specs.declared.turn.Answer.{Answer}
 use Rattle.ww_steps.specs.declared.turn.Answer.TheVariants.{Sleeps}
 use Rattle.ww_steps.specs.declared.turn.Turn.{Turn}
-use Rattle.ww_steps.specs.declared.turn.Turn.TheVariants.{Rests, Stays, Wants, Looks, Gives}
+use Rattle.ww_steps.specs.declared.turn.Turn.TheVariants.{Rests, Wants, Looks, Gives}
 use Rattle.ww_steps.specs.Situations.{Situation}
 use Rattle.ww_steps.specs.Stations.{IsWhere}
 use Rattle.ww_steps.specs.Answers.{IsNextAnswer}
-use Rattle.ww_drives.specs.Deeds.{Call, go_on, unlock_each, cancel, HasDone, is_sleeps}
+use Rattle.ww_drives.specs.Deeds.{Call, go_on, unlock_each, outlook, is_wounded, cancel, HasDone, is_sleeps}
 use Rattle.ww_drives.specs.Stages.{IsDesk}
 use Rattle.ww_drives.specs.Laws.{CallsSleepLast}
 use Rattle.ww_drives.proofs.Answered.{each_accounts, naps_alike}
@@ -30,13 +30,14 @@ record IsToLook (s : Situation) : Type 0 where
 
 next_sleeps : (turn : Turn) (s s' : Situation) → IsNextAnswer turn s Sleeps s' → IsToLook s'
 next_sleeps Rests s s' h = absurd (let none = h.0 in cc)
-next_sleeps (Stays n stay waits) s s' h = absurd h
 next_sleeps (Wants n arrival waits) s s' h = record { lock = n; waits = waits; turn = ap (λ (x : Situation). x.turn) h.3 }
 next_sleeps (Looks n arrival waits) s s' h = record { lock = n; waits = waits; turn = ap (λ (x : Situation). x.turn) h.3 }
 next_sleeps (Gives n) s s' h = absurd h
 
 call_sleeps : (call : Call) (s s' : Situation) → HasDone call s Sleeps s' → IsToLook s'
 call_sleeps go_on s s' h = next_sleeps s.turn s s' h.0
+call_sleeps (outlook n) s s' h = absurd (let none = h.0 in cc)
+call_sleeps is_wounded s s' h = absurd (let none = h.0 in cc)
 call_sleeps (unlock_each ns) s s' h = absurd (let none = h.0 in cc)
 call_sleeps (cancel u) s s' h = absurd h.0
 call_sleeps _ s s' h = absurd h

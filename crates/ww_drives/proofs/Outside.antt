@@ -4,7 +4,7 @@ use Rattle.std.specs.Arc.{arc_value}
 use Rattle.ww_table.specs.declared.board.Board.{Board}
 use Rattle.ww_seat.specs.Standings.{Standing, view_in}
 use Rattle.ww_steps.specs.declared.turn.Turn.{Turn}
-use Rattle.ww_steps.specs.declared.turn.Turn.TheVariants.{Rests, Stays, Wants, Looks, Gives}
+use Rattle.ww_steps.specs.declared.turn.Turn.TheVariants.{Rests, Wants, Looks, Gives}
 use Rattle.ww_steps.specs.Situations.{Situation, is_inside}
 use Rattle.ww_steps.specs.Stations.{IsWhere}
 use Rattle.ww_drives.specs.Laws.{DesksStandOutside}
@@ -13,7 +13,6 @@ use Rattle.ww_drives.specs.Laws.{DesksStandOutside}
 where_outside : (b : Board) (wakes : List ℕ) (turn : Turn) (s : Standing) → IsWhere b wakes turn s → is_inside turn ≡ false →
     (view_in s).inside ≡ 0
 where_outside b wakes Rests s at out = at.0
-where_outside b wakes (Stays n stay waits) s at out = at.2.away.0
 where_outside b wakes (Wants n arrival waits) s at out = at.0.outside
 where_outside b wakes (Looks n arrival waits) s at out = absurd (true≢false out)
 where_outside b wakes (Gives n) s at out = at.away.0

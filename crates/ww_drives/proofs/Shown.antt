@@ -110,6 +110,14 @@ module _ {key : Start} {p : Picture} (a : At key p) (q : Desks) where
   awake_there : (d : ℕ) → p.asleep d ≡ false → a.moment.asleep d ≡ false
   awake_there d awake = ap (λ (f : ℕ → Bool). f d) a.asleep ∙ awake
 
+  pub calls_does : (d : ℕ) → d < key.seats → q.calling d ≡ false → p.asleep d ≡ false → q.to_sleep d ≡ false →
+      Does (staged a.moment q) (staged a.moment (called q d)) (drive.calls d)
+  calls_does d low idle awake rose = record {
+    at_hand = record { seat = low; idle = idle; awake = awake_there d awake };
+    rose = rose;
+    now = refl;
+  }
+
   pub steps_does : {d : ℕ} {x : Option Step} {p' : Picture} (n : Next a d x p') → q.calling d ≡ true →
       (q.desk d).view.naps ≡ 0 → Does (staged a.moment q) (staged n.at.moment q) (drive.steps d x)
   steps_does {d = d} n calling fresh = record {
@@ -137,11 +145,8 @@ module _ {key : Start} {p : Picture} {a : At key p} {q : Desks} (g : Shown a q) 
   pub calls_then : (d : ℕ) → d < key.seats → q.calling d ≡ false → p.asleep d ≡ false → q.to_sleep d ≡ false →
       Shown a (called q d)
   calls_then d low idle awake rose = record {
-    driven = drive.goes_on (staged a.moment q) (staged a.moment (called q d)) (drive.calls d) g.driven (record {
-      at_hand = record { seat = low; idle = idle; awake = awake_there a q d awake };
-      rose = rose;
-      now = refl;
-    });
+    driven = drive.goes_on (staged a.moment q) (staged a.moment (called q d)) (drive.calls d) g.driven
+        (calls_does a q d low idle awake rose);
   }
 
   pub steps_then : {d : ℕ} {x : Option Step} {p' : Picture} (n : Next a d x p') → q.calling d ≡ true →

@@ -6,26 +6,23 @@ use Rattle.ww_model.specs.declared.event.Event.TheVariants.{Begin, Fast}
 use Rattle.ww_model.specs.State.{put}
 use Rattle.ww_model.proofs.Puts.{put_here}
 use Rattle.ww_view.specs.declared.view.View.{View}
-use Rattle.ww_view.specs.Made.{begun, fast_taken, fast_missed, glanced}
+use Rattle.ww_view.specs.Made.{begun, fast_taken, fast_missed}
 use Rattle.ww_invariant.specs.declared.cells.Sight.{Sight}
 use Rattle.ww_invariant.specs.declared.cells.Start.{Start}
 use Rattle.ww_invariant.specs.Layout.{stamp_at}
 use Rattle.ww_invariant.specs.Steps.{drawing, knowing}
 use Rattle.ww_wakes.specs.Scene.{Step, performs}
-use Rattle.ww_refines.proofs.Pictures.{Picture, At, Next, IsSeated, begins_as, locks_as, misses_as, glances_as, missed, looked, ComesToWait}
+use Rattle.ww_refines.proofs.Pictures.{Picture, At, Next, IsSeated, begins_as, locks_as, misses_as, missed, ComesToWait}
 use Rattle.ww_seat.specs.Calls.{HasStayedOut}
 use Rattle.ww_seat.specs.declared.look.Arrival.TheVariants.{Came}
-use Rattle.ww_seat.specs.declared.resting.Stay.{Stay}
-use Rattle.ww_seat.specs.declared.resting.Seen.TheVariants.{Nothing}
 use Rattle.ww_seat.specs.declared.waits.Waits.{Waits}
 use Rattle.ww_seat.specs.declared.waits.Waits.TheVariants.{ToTheEnd}
-use Rattle.ww_steps.specs.declared.turn.Turn.TheVariants.{Stays, Wants}
+use Rattle.ww_steps.specs.declared.turn.Turn.TheVariants.{Wants}
 use Rattle.ww_steps.specs.declared.turn.Answer.{Answer}
 use Rattle.ww_steps.specs.declared.turn.Answer.TheVariants.{Done, Again}
 use Rattle.ww_steps.specs.Situations.{Situation, IsReady}
-use Rattle.ww_steps.specs.Answers.{IsNextAnswer, IsStayAnswer, IsTryable}
-use Rattle.ww_steps.proofs.Account.{balances_same, step_books}
-use Rattle.ww_drives.specs.Deeds.{Call, begin, lock, go_on}
+use Rattle.ww_steps.specs.Answers.{IsTryable}
+use Rattle.ww_drives.specs.Deeds.{Call, begin, lock}
 use Rattle.ww_drives.proofs.Shown.{Desks, Shown, called, answered, IsAnswer, calls_then, steps_then, answers_then}
 
 -- ---- what a call makes of a desk, which knows this then
@@ -40,7 +37,7 @@ once_begun s v = record s {
   view = v;
 }
 
-abbrev once_locked : Situation → ℕ → View → Situation
+abbrev pub once_locked : Situation → ℕ → View → Situation
 once_locked s n v = record s {
   held = s.held ++ n ∷ [];
   told = None;
@@ -49,15 +46,8 @@ once_locked s n v = record s {
   view = v;
 }
 
--- a stay as it begins
-abbrev whole : Stay
-whole = record { glances = 16; pauses = 12416; holds = true; seen = Nothing; first = 0; yields = 0 }
-
 abbrev once_missed : Situation → ℕ → Waits → View → Situation
-once_missed s n waits v = record s { turn = Stays n whole waits; tries = s.tries + 1; view = v }
-
-abbrev once_glanced : Situation → ℕ → Waits → View → Situation
-once_glanced s n waits v = record s { turn = Wants n Came waits; view = v }
+once_missed s n waits v = record s { turn = Wants n Came waits; tries = s.tries + 1; view = v }
 
 -- ---- a call, its first step, and its answer
 
@@ -88,9 +78,6 @@ locks_by q d n w = turned q d Done (once_locked (q.desk d) n w.part.core)
 
 abbrev pub misses_by : Desks → (d n : ℕ) → Waits → Sight → Desks
 misses_by q d n waits w = turned q d Again (once_missed (q.desk d) n waits w.part.core)
-
-abbrev pub glances_by : Desks → (d n : ℕ) → Waits → Sight → Desks
-glances_by q d n waits w = turned q d Again (once_glanced (q.desk d) n waits w.part.core)
 
 -- a desk with this view before has stayed out, by what its seat's view was and is
 stays_out : (s : Situation) (v v' : View) → s.view ≡ v → v'.attempts ≡ v.attempts → v'.debts ≡ v.debts → v'.naps ≡ v.naps →
@@ -149,28 +136,7 @@ module _ {key : Start} {p : Picture} {a : At key p} {q : Desks} (g : Shown a q) 
         IsSeated key (misses_as key p id n v).table id d w → IsTryable (q.desk d) n → Shown t.at (misses_by q d n waits w)
     misses_now n waits t i tryable = let s = q.desk d in let after = fast_missed v.part.core in
         turns id d v (knowing v after) may t i (lock n waits) Again (once_missed s n waits after) (record {
-          done = (tryable, stays_out s v.part.core after may.knows refl refl refl refl, (whole, (refl, refl), refl));
-          outside = λ _. may.out;
-          sees = refl;
-          cancelled = may.cancelled;
-        })
-
-    pub glances_now : (n : ℕ) (waits : Waits) (t : Next a d None (glances_as key p id n v)) →
-        let w = knowing v (glanced v.part.core) in
-        IsSeated key (glances_as key p id n v).table id d w → (q.desk d).turn ≡ Stays n whole waits →
-        Shown t.at (glances_by q d n waits w)
-    glances_now n waits t i turn = let s = q.desk d in let after = glanced v.part.core in
-        let s' = once_glanced s n waits after in
-        let answer : IsStayAnswer s n whole waits Again s' = (
-          ap (λ (u : View). u.glances + 1) (sym may.knows),
-          (stays_out s v.part.core after may.knows refl refl refl refl, refl),
-        ) in
-        turns id d v (knowing v after) may t i go_on Again s' (record {
-          done = (
-            subst (λ t. IsNextAnswer t s Again s') (sym turn) answer,
-            step_books s s' (balances_same s s' refl refl (ap (λ (u : View). u.debts) (sym may.knows)) refl),
-            ap (λ (u : View). u.naps) (sym may.knows),
-          );
+          done = (tryable, stays_out s v.part.core after may.knows refl refl refl refl, refl);
           outside = λ _. may.out;
           sees = refl;
           cancelled = may.cancelled;
@@ -178,28 +144,16 @@ module _ {key : Start} {p : Picture} {a : At key p} {q : Desks} (g : Shown a q) 
 
 -- ---- a desk comes to wait
 
--- it has missed the lock, has looked at it once, and is amid the call that goes on
+-- it has missed the lock, and is amid the call that goes on
 abbrev pub waits_by : Desks → (d n : ℕ) → Waits → Sight → Desks
-waits_by q d n waits v = called (glances_by (misses_by q d n waits (missed v)) d n waits (looked v)) d
+waits_by q d n waits v = called (misses_by q d n waits (missed v)) d
 
 module _ {key : Start} {p : Picture} {a : At key p} {q : Desks} (g : Shown a q) {id d n : ℕ} {o : Owner} {v : Sight}
     (may : MayTurn q d v) where
   pub waits_now : (waits : Waits) (t : ComesToWait a id d n o v) → IsTryable (q.desk d) n → Shown t.joins.at (waits_by q d n waits v)
-  waits_now waits t tryable =
-      let q_1 = misses_by q d n waits (missed v) in let q_2 = glances_by q_1 d n waits (looked v) in
+  waits_now waits t tryable = let q_1 = misses_by q d n waits (missed v) in
       let once = put_here q.desk d (once_missed (q.desk d) n waits (missed v).part.core) in
-      let then = put_here q_1.desk d (once_glanced (q_1.desk d) n waits (looked v).part.core) in
-      let fresh : (q_2.desk d).view.naps ≡ 0 = ap (λ (s : Situation). s.view.naps) then ∙ may.rested in
-      let may_1 : MayTurn q_1 d (missed v) = record {
-        idle = put_here (put q.calling d true) d false;
-        rose = put_here q.to_sleep d false;
-        knows = ap (λ (s : Situation). s.view) once;
-        rested = may.rested;
-        cancelled = ap (λ (s : Situation). s.cancelled) once ∙ may.cancelled;
-        out = may.out;
-      } in
+      let fresh : (q_1.desk d).view.naps ≡ 0 = ap (λ (s : Situation). s.view.naps) once ∙ may.rested in
       let g_1 : Shown t.misses.at q_1 = misses_now g id d v may n waits t.misses t.missing tryable in
-      let g_2 : Shown t.looks.at q_2 = glances_now g_1 id d (missed v) may_1 n waits t.looks t.looking
-      (ap (λ (s : Situation). s.turn) once) in
-      steps_then (enters_call g_2 t.enters (put_here (put q_1.calling d true) d false) (put_here q_1.to_sleep d false) fresh)
-      t.joins (put_here q_2.calling d true) fresh
+      steps_then (enters_call g_1 t.enters (put_here (put q.calling d true) d false) (put_here q.to_sleep d false) fresh)
+      t.joins (put_here q_1.calling d true) fresh

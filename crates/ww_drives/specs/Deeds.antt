@@ -1,5 +1,5 @@
 -- What desks do, and what is asked of the drivers that make their calls.
-use Rattle.std.specs.Prelude.{ℕ, ◌≡◌, ◌<◌, ◌+◌, ◌-◌, Bool, true, false, List, Option, Some}
+use Rattle.std.specs.Prelude.{ℕ, ◌≡◌, ◌<◌, ◌+◌, ◌-◌, Bool, true, false, List, Option, Some, Result}
 use Rattle.ww_model.specs.State.{put}
 use Rattle.ww_invariant.specs.declared.cells.Start.{Start}
 use Rattle.ww_wakes.specs.Scene.{Step}
@@ -11,8 +11,11 @@ use Rattle.ww_seat.specs.Marks.{IsMarked}
 use Rattle.ww_seat.specs.declared.waits.Waits.{Waits}
 use Rattle.ww_steps.specs.declared.turn.Answer.{Answer}
 use Rattle.ww_steps.specs.declared.turn.Answer.TheVariants.{Done, Sleeps}
+use Rattle.ww_steps.specs.declared.outlook.Outlook.{Outlook}
+use Rattle.ww_steps.specs.declared.outlook.NoOutlook.{NoOutlook}
 use Rattle.ww_steps.specs.Situations.{Situation, is_inside}
 use Rattle.ww_steps.specs.Answers.{BooksWakes, CountsNaps, HasSomeHeld, IsBeginAnswer, IsDoneAnswer, IsEndAnswer, IsLockAnswer, IsTryAnswer, IsSlowAnswer, IsNextAnswer, IsUnlockAnswer, IsEachAnswer, IsHasAnswer, IsFreeAnswer, IsCancelAnswer, IsHeedAnswer, IsWakeAnswer}
+use Rattle.ww_steps.specs.Outlooks.{IsOutlookAnswer, IsWoundedAnswer}
 use Rattle.ww_drives.specs.Stages.{Stage, StandsOutside, IsFirstStage}
 
 -- ---- calls
@@ -30,6 +33,8 @@ pub data Call : Type 0 where
   unlock_each : (ns : List ℕ) → Call
   has : (n : ℕ) → Call
   is_free : (n : ℕ) → Call
+  outlook : (n : ℕ) → Call
+  is_wounded : Call
   cancel : (u : ℕ) → Call
   heed : Call
 
@@ -46,6 +51,8 @@ HasDone (unlock n) s a s' = IsUnlockAnswer s n a s'
 HasDone (unlock_each ns) s a s' = (a ≡ Done) × ((left : ℕ) × IsEachAnswer s ns left s') × HasSomeHeld s s'
 HasDone (has n) s a s' = IsHasAnswer s n a s'
 HasDone (is_free n) s a s' = IsFreeAnswer s n a s'
+HasDone (outlook n) s a s' = (a ≡ Done) × ((seen : Result Outlook NoOutlook) × IsOutlookAnswer s n seen s')
+HasDone is_wounded s a s' = (a ≡ Done) × ((seen : Result Bool NoOutlook) × IsWoundedAnswer s seen s')
 HasDone (cancel u) s a s' = IsCancelAnswer s u a s' × BooksWakes s s'
 HasDone heed s a s' = IsHeedAnswer s a s'
 

@@ -1,16 +1,16 @@
 -- What holds of desks that are driven so.
-use Rattle.std.specs.Prelude.{ℕ, suc, ◌≡◌, ◌≢◌, ◌<◌, ◌⊎◌, true, false, List, [], ◌∷◌, Option, Some, None}
+use Rattle.std.specs.Prelude.{ℕ, suc, ◌≡◌, ◌≢◌, ◌<◌, ◌⊎◌, true, false, List, Option, Some, None}
 use Rattle.ww_model.specs.declared.event.Event.TheVariants.{Die, Leave}
 use Rattle.ww_model.specs.Waits.{IsOneOf}
 use Rattle.atomic_table.specs.Seated.{TableId}
 use Rattle.ww_model.specs.State.{start}
 use Rattle.ww_invariant.specs.declared.cells.Start.{Start}
-use Rattle.ww_invariant.specs.Rule.{St, Ruled, first_sight, places_for}
+use Rattle.ww_invariant.specs.Rule.{St, Ruled, first_part, places_for}
 use Rattle.ww_wakes.specs.Scene.{Step, performs}
 use Rattle.ww_wakes.specs.Scene as scene
 use Rattle.ww_live.specs.Premises.{InTheEnd}
 use Rattle.ww_live.specs.Theorem.{AreDeadlocked}
-use Rattle.ww_refines.specs.Moment.{core, view, HasToWake, Acts, HasLeftToWait}
+use Rattle.ww_refines.specs.Moment.{core, view, HasToWake, Acts, HasLeftToWait, IsToldOf}
 use Rattle.ww_refines.specs.Moves.{Follows}
 use Rattle.ww_refines.specs.Naps.{ArePlaysOf, is_to_sleep, HaveNone, SleepsLast}
 use Rattle.ww_refines.specs.Runs.{IsOfRun, HasToWaitThere}
@@ -31,9 +31,11 @@ pub record Opens (key : Start) (s : St) : Type 0 where
   pub table : stage.moment.table ≡ s
   pub first : IsFirstStage stage
 
--- A table that was made just now, with desks as opening a world gives them, is that of such a stage.
-abbrev pub NewWorldsBegin : Type 0
-NewWorldsBegin = (key : Start) (s : St) (r : Ruled key s) (home : TableId) (left : ℕ) → s.views ≡ first_sight key ∷ [] →
+-- Opening makes a table, and cuts a seat off for each desk. As long as none of them did anything, the table tells of each what
+-- it told at first (`IsNew` of ww_table has that of the seats as they are made, in `me`): then it is that of such a stage.
+abbrev pub OpenedWorldsBegin : Type 0
+OpenedWorldsBegin = (key : Start) (s : St) (r : Ruled key s) (home : TableId) (left : ℕ) →
+    ((t : ℕ) → t < key.seats → IsToldOf s t (first_part key.kind key.locks key.places t)) →
     r.core ≡ start key.kind key.locks key.places → key.places ≡ places_for key.seats → Opens key s
 
 -- what is asked of a desk that answers is true of each

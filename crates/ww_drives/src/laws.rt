@@ -1,9 +1,9 @@
 //! Desks whose callers wait by themselves, as runs of threads.
-ghost use Rattle.ww_drives.specs.Laws.{NewWorldsBegin, DesksStandOutside, CallsSleepLast, DrivesAreRuns, NoWakeIsLostInDrives, NoStandstillInDrives, NobodySleepsInVainInDrives, NoDeadlockLastsInDrives, DrivesRunOn, WaitsEndInDrives};
+ghost use Rattle.ww_drives.specs.Laws.{OpenedWorldsBegin, DesksStandOutside, CallsSleepLast, DrivesAreRuns, NoWakeIsLostInDrives, NoStandstillInDrives, NobodySleepsInVainInDrives, NoDeadlockLastsInDrives, DrivesRunOn, WaitsEndInDrives};
 
-/// Opening a world gives a first stage.
-pub fn new_worlds_begin()
-    ensures { NewWorldsBegin }
+/// Opening a world gives a first stage: a table whose seats were cut off, and have done nothing.
+pub fn opened_worlds_begin()
+    ensures { OpenedWorldsBegin }
 {}
 
 /// Each desk whose call doesn't stand inside a guard is outside of all.

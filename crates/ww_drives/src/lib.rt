@@ -2,5 +2,6 @@
 //! code.
 #![tactic(auto)]
 
+pub mod handing;
 pub mod laws;
 pub mod witness;

@@ -1,4 +1,5 @@
 //! The laws of endless drives speak of something.
+ghost use Rattle.ww_drives.specs.Data.{DataIsHandedOver, DataIsStaleWithoutItsLock};
 ghost use Rattle.ww_drives.specs.Witness.{DeadlocksAreInEndlessDrives, WaitsAreInEndlessDrives};
 
 /// In each kind an endless drive of a world begins with a deadlock, of seats whose drivers are scheduled, and a call of
@@ -11,4 +12,14 @@ pub fn deadlocks_are_in_endless_drives()
 /// scheduled, and holders go on.
 pub fn waits_are_in_endless_drives()
     ensures { WaitsAreInEndlessDrives }
+{}
+
+/// In each kind one desk's caller writes, and later another's reads what that wrote, each with the lock in hand.
+pub fn data_is_handed_over()
+    ensures { DataIsHandedOver }
+{}
+
+/// Whoever reads without the lock may read what was there before the last write.
+pub fn data_is_stale_without_its_lock()
+    ensures { DataIsStaleWithoutItsLock }
 {}

@@ -38,7 +38,7 @@ use Rattle.ww_invariant.specs.declared.cells.Cell.TheVariants.{Content, Line}
 use Rattle.ww_invariant.specs.declared.cells.Start.{Start}
 use Rattle.ww_invariant.specs.Layout.{lock_at, guard_at, sign_at, cancel_at}
 use Rattle.ww_invariant.specs.Rule.{St, Sat, first_graph, Ruled}
-use Rattle.ww_invariant.specs.Steps.{knowing}
+use Rattle.ww_invariant.specs.Steps.{knowing, whose_to}
 use Rattle.ww_invariant.specs.Guards.{lost, AreSeats, IsSeenBy, entering, exiting, looking, glancing, enters_to, exits_to, looks_to, glances_to, counts_to}
 use Rattle.ww_invariant.specs.Waiting.{HasListOnTop, StandsIfWaiting, Expects, IsStillThere, tries_to, HasPlace, joining, joins, taking_inside, under_top, takes_inside, giving_inside, gives_inside, takes_bare_inside, gives_bare_inside, asking, asks, dying, dies, dies_to}
 use Rattle.ww_invariant.specs.Signs.{condemning, noting, having_read, finding_none, clearing, signs_to, reads_to, clears_to}
@@ -197,6 +197,23 @@ module _ (key : Start) (slots id : ℕ) (me : Sat) (seated : me.0.seated ≡ tru
         ap (λ (j : ℕ). get_or s.words j 0) is ∙ r.words.owners n low,
       ),
       refl,
+    ),
+  )
+
+  pub whose_anywhere : (n i : ℕ) → i ≡ lock_at key.locks n → n < key.locks
+      → Allows (Ruled key) slots id me i (λ x. x) (whose_to (step slots i 0 0 none) me)
+  whose_anywhere n i is low s r deep at small = let c : State = r.core in (
+    me.0,
+    keeps,
+    tt,
+    looks key s r id me at seated i view refl (λ m. refl) (mine key s r id me at seated).part.knows,
+    (
+      refl,
+      (
+        word_of c n,
+        wide_word_is_valid c n r.reached (have_room key s r),
+        ap (λ (j : ℕ). get_or s.words j 0) is ∙ r.words.owners n low,
+      ),
     ),
   )
 

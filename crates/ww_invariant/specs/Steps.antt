@@ -3,7 +3,7 @@ use Rattle.std.specs.Prelude.{ℕ, ◌≡◌, ◌≢◌, ◌<◌, ◌≤◌, ◌
 use Rattle.std.specs.List.{AllByRecursion}
 use Rattle.atomic_table.specs.Table.{Step, rest}
 use Rattle.ww_word.specs.declared.owner.Owner.{Owner}
-use Rattle.ww_word.specs.AnySeats.{packed, most_for, unflagged}
+use Rattle.ww_word.specs.AnySeats.{IsValid, packed, most_for, unflagged}
 use Rattle.ww_queue.specs.declared.kind.Kind.TheVariants.{WoundWait}
 use Rattle.ww_plain.specs.declared.node.Node.{Node}
 use Rattle.ww_plain.specs.declared.history.Record.{Record}
@@ -108,6 +108,11 @@ gives_bare_to st m found m' = (n : ℕ) → st.word ≡ owner_at m.0.part.core.r
 
 abbrev pub owns_to : Step Cell → Sat → ℕ → Sat → Type 0
 owns_to st m found m' = (m' ≡ m) × ((n : ℕ) → st.word ≡ owner_at m.0.part.core.room n → IsToldBy m.0.part.core n found)
+
+-- ---- whose: the owner word of any lock, which is that of an owner
+
+abbrev pub whose_to : Step Cell → Sat → ℕ → Sat → Type 0
+whose_to st m found m' = (m' ≡ m) × ((o : Owner) × IsValid o × (found ≡ packed o))
 
 -- ---- end: the context ends, where the own sign is 0
 

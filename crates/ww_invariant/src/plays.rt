@@ -55,6 +55,15 @@ impl Play<Cell, Sight> for Owns {
     ghost then = { owns_to };
 }
 
+/// A look whose a lock is.
+pub struct Whose;
+
+impl Play<Cell, Sight> for Whose {
+    ghost use Rattle.ww_invariant.specs.Steps.{whose_to};
+
+    ghost then = { whose_to };
+}
+
 pub struct End;
 
 impl Play<Cell, Sight> for End {

@@ -20,11 +20,12 @@ use Rattle.ww_model.proofs.Dues.{dies_why}
 use Rattle.ww_model.proofs.Beyond.{stamps_beyond}
 use Rattle.ww_wakes.specs.Scene.{Scene, Step, performs, next}
 use Rattle.ww_wakes.specs.Theorem.{IsEndlessRun}
-use Rattle.ww_live.specs.Premises.{WaitersGoOn, HoldersRelease, WaitsForEver, RestsOn, IsOldestActive, IsOver, FirstsAsk, BacksOff, TakesContendedFirst, ContextsEndOrDie}
+use Rattle.ww_live.specs.Premises.{InTheEnd, WaitersGoOn, HoldersRelease, WaitsForEver, RestsOn, IsOldestActive, IsOver, FirstsAsk, BacksOff, TakesContendedFirst, ContextsEndOrDie}
 use Rattle.ww_live.specs.Theorem.{EndsWait, ContextsAreServed, OldestWaitDieIsServed}
+use Rattle.ww_live.specs.Backing.{ContextsAreOver}
 use Rattle.ww_live.proofs.Steps.{taken_next}
 use Rattle.ww_wakes.proofs.Endless.{holds_at}
-use Rattle.ww_live.proofs.Runs.{Ended, ended_from, until_at, orderly_at, lawful_at, kind_at, known_next, may_be, along}
+use Rattle.ww_live.proofs.Runs.{Ended, ended_from, until_at, orderly_at, lawful_at, kind_at, known_next, may_be, search_to, along}
 use Rattle.ww_live.proofs.Links.{Link, link_breaks}
 use Rattle.ww_live.proofs.Climbs.{owner_holds}
 use Rattle.ww_live.proofs.Dues.{handed_takes}
@@ -33,6 +34,7 @@ use Rattle.ww_live.proofs.Livelock.{after_death, joined_between}
 use Rattle.ww_live.proofs.Rests.{lives, rests_on, rests_stands_not, is_up}
 use Rattle.ww_live.proofs.Served.{same_context, drawn_on, never_ends, Locked, wait_ends}
 use Rattle.ww_live.proofs.Oldest.{oldest_on}
+use Rattle.ww_live.proofs.Ending.{ends_or_not, same_on}
 
 -- ---- who comes to own a lock
 
@@ -65,7 +67,7 @@ find_below c b (suc k) = ⊎_elim inl
     (λ other. none u (omega arith)))))
     (find_below c b k)
 
-find : (c : State) (b : ℕ) → Reached c → 0 < b → ((u : ℕ) × (c.stamp u ≡ b)) ⊎ ((u : ℕ) → c.stamp u ≢ b)
+pub find : (c : State) (b : ℕ) → Reached c → 0 < b → ((u : ℕ) × (c.stamp u ≡ b)) ⊎ ((u : ℕ) → c.stamp u ≢ b)
 find c b reached some = ⊎_elim inl
     (λ none. inr (λ u is. ⊎_elim (λ below. none u below is)
     (λ beyond. let z = stamps_beyond c reached u beyond in absurd (omega arith)) (cases_lt u c.seats)))
@@ -416,6 +418,30 @@ module _ (scene : ℕ → Scene) (step : ℕ → Step) (run : IsEndlessRun scene
       (omega arith)))
       (locked_for e n s.at (stays.here s.at at (omega arith)) some s.settled))
       (until_at scene step e n k s.at at run h)
+
+  -- ---- each context is over
+
+  over_in_the_end : (s k : ℕ) → start ≤ k → 0 < stamp_at k s → InTheEnd k (IsOver scene step s)
+  over_in_the_end s k from some = let b = stamp_at k s in let bound = (lawful_at scene step run k).base.stamps.below s in
+      let old = settled_to b k from (omega arith) in let first = old.from in
+      let all = more b old.at (omega arith) (drawn_on scene step run k old.at b first (omega arith)) old.settled in
+      let j = all.at in let later = all.from in dite (ℕ_discrete (stamp_at j s) b)
+      (λ is. ⊎_elim
+      (λ f. let h = f.stands j (omega arith) in
+      let mine = ((lawful_at scene step run j).base.queues.at f.lock).stamps h.0 h.1 in
+      let same = ap (scene j).core.stamp h.2 in
+      absurd (never_ends scene step run h.0 f.lock j
+      (λ x after. subst (Stands ((scene x).core.queue f.lock)) (sym h.2) (f.stands x after))
+      (context_ends h.0 f.lock j (omega arith) h.1 (omega arith))))
+      (λ rests. (j, omega arith, inr rests))
+      (all.settled s (omega arith) (omega arith)))
+      (λ isnt. ⊎_elim (λ found. (found.at, found.from, inl found.holds))
+      (λ on. absurd (isnt (same_on scene step run s k j (omega arith) some on)))
+      (search_to (λ x. step x ≡ performs (End s)) (λ x. ends_or_not s (step x)) k j (omega arith)))
+
+pub contexts_are_over : ContextsAreOver
+contexts_are_over scene step run go release ends asks backs tries = λ i s dying some.
+    over_in_the_end scene step run go release asks backs tries ends i dying s i (omega arith) some
 
 pub contexts_are_served : ContextsAreServed
 contexts_are_served scene step run go release ends asks backs tries i s n dying some h =

@@ -21,7 +21,7 @@ use Rattle.ww_live.proofs.Rests.{IsOldestUp, lives, never_signed, unsigned_next,
 use Rattle.ww_live.proofs.Served.{gone, same_context, drawn_on}
 use Rattle.ww_live.proofs.Oldest.{oldest_then, oldest_is_served}
 
-ends_or_not : (s : ℕ) (x : Step) → (x ≡ performs (End s)) ⊎ (x ≢ performs (End s))
+pub ends_or_not : (s : ℕ) (x : Step) → (x ≡ performs (End s)) ⊎ (x ≢ performs (End s))
 ends_or_not s (performs (End t)) = dite (ℕ_discrete t s) (λ is. inl (ap (λ u. performs (End u)) is))
     (λ isnt. inr (λ z. isnt (let y : t ≡ s = cc in y)))
 ends_or_not s _ = inr (λ z. cc)
@@ -46,7 +46,7 @@ same_on scene step run s i j later some on = along scene step run (λ w. w.core.
     later refl (λ x from below same. goes_next (scene x) (step x) s (run.may x) (omega arith) (on x from below) ∙ same)
 
 -- in Wound-Wait a seat without a sign doesn't die
-dies_not : (c : State) (s m : ℕ) → c.kind ≡ WoundWait → c.sign s ≡ 0 → Possible c (Die s m) → ⊥
+pub dies_not : (c : State) (s m : ℕ) → c.kind ≡ WoundWait → c.sign s ≡ 0 → Possible c (Die s m) → ⊥
 dies_not c s m kind none can = let cause = some_of (dies c s m) can.signs in let d = dies_why c s m cause.0 cause.1 in
     let signed = (d.wounded kind).0 in omega arith
 
@@ -55,7 +55,7 @@ dies_not c s m kind none can = let cause = some_of (dies c s m) can.signs in let
 module _ (scene : ℕ → Scene) (step : ℕ → Step) (run : IsEndlessRun scene step) (s i : ℕ)
     (old : IsOldestActive scene step s i) where
   -- it is up as long as its context goes on
-  up_then : (j : ℕ) → i ≤ j → (scene j).core.stamp s ≡ (scene i).core.stamp s → IsOldestUp (scene j).core s
+  pub up_then : (j : ℕ) → i ≤ j → (scene j).core.stamp s ≡ (scene i).core.stamp s → IsOldestUp (scene j).core s
   up_then j later mine = is_up scene step s j (oldest_then scene step run s i j later old mine)
 
   -- and nobody signs it
@@ -73,7 +73,7 @@ module _ (scene : ℕ → Scene) (step : ℕ → Step) (run : IsEndlessRun scene
   signed_by_none j t later mine is = never_signed (scene j).core (lawful_at scene step run j).base s
       (up_then j later mine) t (may_be scene step run j (performs (Sign t s)) is).possible
 
-  dies_nowhere : (j n : ℕ) → i ≤ j → (scene j).core.stamp s ≡ (scene i).core.stamp s →
+  pub dies_nowhere : (j n : ℕ) → i ≤ j → (scene j).core.stamp s ≡ (scene i).core.stamp s →
       ((scene i).core.kind ≡ WoundWait → (scene i).core.sign s ≡ 0) → step j ≢ performs (Die s n)
   dies_nowhere j n later mine none is = let c = (scene j).core in let kind = kind_at scene step run i j later in
       let can = (may_be scene step run j (performs (Die s n)) is).possible in by_kind c.kind ⊥

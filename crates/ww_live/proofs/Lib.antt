@@ -19,3 +19,5 @@ pub mod Ending
 pub mod Viewed
 pub mod Contexts
 pub mod Idle
+pub mod Passing
+pub mod Deaths

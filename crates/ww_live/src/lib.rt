@@ -2,5 +2,7 @@
 //! `specs/Views.antt`, and there is no code.
 #![tactic(auto)]
 
+pub mod backing;
+pub mod handing;
 pub mod theorem;
 pub mod ties;

@@ -26,7 +26,7 @@ use Rattle.ww_refines.specs.Moves.{Follows}
 use Rattle.ww_refines.specs.Plays as play
 use Rattle.ww_refines.specs.Deadlocks.{IsScheduledThere, HoldersGoOnThere, WaitsAreInEndlessRuns}
 use Rattle.ww_refines.proofs.Standstill.{idles}
-use Rattle.ww_refines.proofs.Pictures.{Picture, At, Next, played, seated, acting, word_there, plays_then, list_out, gone_in, ComesToWait, waits_as, comes_to_wait, exits_as, exits_then}
+use Rattle.ww_refines.proofs.Pictures.{Picture, At, Next, played, seated, acting, word_there, plays_then, list_out, gone_in, ComesToWait, waits_as, comes_to_wait, gives_as, gives_then, exits_as, exits_then}
 use Rattle.ww_refines.proofs.Small.{least, small, AreSeated, first_is, second_is, nothing_owed, owner, waiter_1, holder_2, p_4, first_locks, bare, unsigned_inside, is_valid, is_valid_waited, first_not_second}
 
 -- ---- what the second knows after each play: it cancels itself, comes to wait, heeds, leaves the list, and comes out
@@ -122,17 +122,12 @@ comes_out kind = exits_then (leaves_list kind).at 0 1 (off_4 kind) (acting refl 
     (record { inside = refl; why = inl (refl, refl); unsigned = λ _. inr (inr bare); unheeded = refl }) refl
 
 abbrev pub p_10 : Kind → Picture
-p_10 kind = let p = p_9 kind in
-    played p (stepped p.table (owner_at least 0) 0 1 [] (free kind) keeps) (Some (performs (FastGive 0 0)))
+p_10 kind = gives_as (small kind) (p_9 kind) 1 0 (holder_2 kind)
 
 pub releases : (kind : Kind) → Next (comes_out kind).at 0 (Some (performs (FastGive 0 0))) (p_10 kind)
 unfolding put ℕ_discrete lock_at
-releases kind = let a = (comes_out kind).at in
-    plays_then a 1 0 (holder_2 kind, []) (acting refl refl refl (omega arith) refl refl) (Some (performs (FastGive 0 0))) _ (record {
-      found = _;
-      is = λ i. stepped (a.is_table i) (owner_at least 0) 0 1 [] (free kind) keeps;
-      plays = play.gives_bare 0 (omega arith) (omega arith) (refl, refl) refl (word_there a (owner_at least 0) (packed owner) refl);
-    })
+releases kind = gives_then (comes_out kind).at 1 0 (holder_2 kind) (acting refl refl refl (omega arith) refl refl) 0 (omega arith)
+    (omega arith) (refl, refl) refl refl
 
 -- ---- at each of these moments
 

@@ -16,3 +16,4 @@ pub mod Deadlocked
 pub mod Doomed
 pub mod Sleepers
 pub mod CalledOff
+pub mod Passing

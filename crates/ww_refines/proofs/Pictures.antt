@@ -10,13 +10,14 @@ use Rattle.ww_word.specs.Owner.{with_waiters}
 use Rattle.ww_word.specs.AnySeats.{IsValid, packed, most_for}
 use Rattle.ww_queue.specs.declared.entry.Entry.{Entry}
 use Rattle.ww_queue.specs.Queue.{left}
-use Rattle.ww_model.specs.declared.event.Event.TheVariants.{Begin, Fast, Guard, Join, Die, Unguard}
+use Rattle.ww_model.specs.declared.event.Event.TheVariants.{Begin, Fast, FastGive, Guard, Join, Die, Unguard}
 use Rattle.ww_model.specs.State.{State, start, put}
 use Rattle.ww_model.specs.Event.{after}
 use Rattle.ww_view.specs.declared.view.View.{View}
+use Rattle.ww_view.specs.View.{IsAway, owns}
 use Rattle.ww_view.specs.May.{MayFast, MayEnter, MayJoin, MayDie, MayExit, MayLeave}
 use Rattle.ww_view.specs.Word.{rest_word}
-use Rattle.ww_view.specs.Made.{fast_taken, fast_missed, glanced}
+use Rattle.ww_view.specs.Made.{fast_taken, fast_given, fast_missed}
 use Rattle.ww_invariant.specs.declared.cells.Cell.{Cell}
 use Rattle.ww_invariant.specs.declared.cells.Cell.TheVariants.{Line}
 use Rattle.ww_invariant.specs.declared.cells.Part.{Part}
@@ -301,6 +302,12 @@ locks_as key p id n v = let w = knowing v (fast_taken v.part.core n) in
     played p (stepped p.table (owner_at key.locks n) (packed (taker v.part.core)) id [] w keeps)
     (Some (performs (Fast v.part.core.who n)))
 
+-- it releases the lock without its guard
+abbrev pub gives_as : Start → Picture → (id n : ℕ) → Sight → Picture
+gives_as key p id n v =
+    played p (stepped p.table (owner_at key.locks n) 0 id [] (knowing v (fast_given v.part.core n)) keeps)
+    (Some (performs (FastGive v.part.core.who n)))
+
 -- it reads the word of lock n from outside, and knows this then
 abbrev reads_as : Start → Picture → (id n : ℕ) → Sight → View → Picture
 reads_as key p id n v after =
@@ -308,9 +315,6 @@ reads_as key p id n v after =
 
 abbrev pub misses_as : Start → Picture → (id n : ℕ) → Sight → Picture
 misses_as key p id n v = reads_as key p id n v (fast_missed v.part.core)
-
-abbrev pub glances_as : Start → Picture → (id n : ℕ) → Sight → Picture
-glances_as key p id n v = reads_as key p id n v (glanced v.part.core)
 
 abbrev pub enters_as : Start → Picture → (id n : ℕ) → Sight → Picture
 enters_as key p id n v = let q = p.core.queue n in
@@ -351,6 +355,15 @@ module _ {key : Start} {p : Picture} (a : At key p) (id d : ℕ) (v : Sight) (ac
     plays = play.takes_bare n bare low fast (word_there a (owner_at key.locks n) 0 free);
   })
 
+  pub gives_then : (n : ℕ) → n < key.locks → length (first_graph key) ≤ n → IsAway v.part.core → owns v.part.core n ≡ true →
+      word_of_lock key p n ≡ packed (taker v.part.core) →
+      Next a d (Some (performs (FastGive v.part.core.who n))) (gives_as key p id n v)
+  gives_then n low bare away own plain = plays_then a id d (v, []) acts (Some (performs (FastGive v.part.core.who n))) _ (record {
+    found = _;
+    is = λ j. stepped (a.is_table j) (owner_at key.locks n) 0 id [] (knowing v (fast_given v.part.core n)) keeps;
+    plays = play.gives_bare n bare low away own (word_there a (owner_at key.locks n) _ plain);
+  })
+
   reads_then : (n : ℕ) (after : View) → play.IsFound a.moment id (v, []) (owner_at key.locks n) after →
       Next a d None (reads_as key p id n v after)
   reads_then n after found = let i = owner_at key.locks n in plays_then a id d (v, []) acts None _ (record {
@@ -361,9 +374,6 @@ module _ {key : Start} {p : Picture} (a : At key p) (id d : ℕ) (v : Sight) (ac
 
   pub misses_then : (n : ℕ) → Next a d None (misses_as key p id n v)
   misses_then n = reads_then n (fast_missed v.part.core) (play.misses (owner_at key.locks n))
-
-  pub glances_then : (n : ℕ) → Next a d None (glances_as key p id n v)
-  glances_then n = reads_then n (glanced v.part.core) (play.glances (owner_at key.locks n))
 
   pub enters_then : (n : ℕ) → n < key.locks → MayEnter v.part.core n → slice_index p.table.words (guard_at key.locks n) ≡ 0 →
       Next a d (Some (performs (Guard v.part.core.who n))) (enters_as key p id n v)
@@ -411,23 +421,17 @@ module _ {key : Start} {p : Picture} (a : At key p) (id d : ℕ) (v : Sight) (ac
   sleeps_then n heeds leave waits none = exits_by n (leaves_to_sleep v.part.core.who n heeds)
       (play.exits_to_sleep n heeds leave waits none refl)
 
--- ---- a seat comes to wait: it misses the lock, looks at it once, goes inside its guard, and joins its list
+-- ---- a seat comes to wait: it misses the lock, goes inside its guard, and joins its list
 
 -- what it knows after each of these, where the list was q
 abbrev pub missed : Sight → Sight
 missed v = knowing v (fast_missed v.part.core)
 
-abbrev pub looked : Sight → Sight
-looked v = knowing (missed v) (glanced (missed v).part.core)
-
 abbrev pub gone_in : ℕ → List Entry → Sight → Sight
-gone_in n q v = entering (looked v) n q
-
-abbrev looked_as : Start → Picture → (id n : ℕ) → Sight → Picture
-looked_as key p id n v = glances_as key (misses_as key p id n v) id n (missed v)
+gone_in n q v = entering (missed v) n q
 
 abbrev gone_in_as : Start → Picture → (id n : ℕ) → Sight → Picture
-gone_in_as key p id n v = enters_as key (looked_as key p id n v) id n (looked v)
+gone_in_as key p id n v = enters_as key (misses_as key p id n v) id n (missed v)
 
 abbrev pub waits_as : Start → Picture → (id n : ℕ) → Owner → Sight → Picture
 waits_as key p id n o v = joins_as key (gone_in_as key p id n v) id n o (gone_in n (p.core.queue n) v)
@@ -435,9 +439,7 @@ waits_as key p id n o v = joins_as key (gone_in_as key p id n v) id n o (gone_in
 pub record ComesToWait {key : Start} {p : Picture} (a : At key p) (id d n : ℕ) (o : Owner) (v : Sight) : Type 0 where
   pub misses : Next a d None (misses_as key p id n v)
   pub missing : IsSeated key (misses_as key p id n v).table id d (missed v)
-  pub looks : Next misses.at d None (looked_as key p id n v)
-  pub looking : IsSeated key (looked_as key p id n v).table id d (looked v)
-  pub enters : Next looks.at d (Some (performs (Guard v.part.core.who n))) (gone_in_as key p id n v)
+  pub enters : Next misses.at d (Some (performs (Guard v.part.core.who n))) (gone_in_as key p id n v)
   pub joins : Next enters.at d (Some (performs (Join v.part.core.who n))) (waits_as key p id n o v)
 
 module _ {key : Start} {p : Picture} {id d : ℕ} {v : Sight} (acts : IsActing key p id d v) where
@@ -452,24 +454,20 @@ module _ {key : Start} {p : Picture} {id d : ℕ} {v : Sight} (acts : IsActing k
   }
 
 module _ {key : Start} {p : Picture} (a : At key p) (id d : ℕ) (v : Sight) (acts : IsActing key p id d v) where
-  pub comes_to_wait : (n : ℕ) (o : Owner) → n < key.locks → MayEnter (looked v).part.core n →
-      slice_index (looked_as key p id n v).table.words (guard_at key.locks n) ≡ 0 →
+  pub comes_to_wait : (n : ℕ) (o : Owner) → n < key.locks → MayEnter (missed v).part.core n →
+      slice_index (misses_as key p id n v).table.words (guard_at key.locks n) ≡ 0 →
       MayJoin (gone_in n (p.core.queue n) v).part.core n o → IsValid o → word_of_lock key (gone_in_as key p id n v) n ≡ packed o →
       ComesToWait a id d n o v
-  comes_to_wait n o low enter free join valid word = let p_1 = misses_as key p id n v in let p_2 = looked_as key p id n v in
+  comes_to_wait n o low enter free join valid word = let p_1 = misses_as key p id n v in
       let i = owner_at key.locks n in let q = p.core.queue n in
       let acts_1 : IsActing key p_1 id d (missed v) = acts_on acts i (word_of_lock key p n) (missed v) keeps None refl refl refl in
-      let acts_2 : IsActing key p_2 id d (looked v) = acts_on acts_1 i (word_of_lock key p_1 n) (looked v) keeps None refl refl refl in
-      let acts_3 : IsActing key (gone_in_as key p id n v) id d (gone_in n q v) = acts_on acts_2 (guard_at key.locks n)
+      let acts_2 : IsActing key (gone_in_as key p id n v) id d (gone_in n q v) = acts_on acts_1 (guard_at key.locks n)
       (suc v.part.core.who) (gone_in n q v) (takes (list_at n) (Line q)) (Some (performs (Guard v.part.core.who n))) refl refl refl in
       let m : Next a d None p_1 = misses_then a id d v acts n in
-      let l : Next m.at d None p_2 = glances_then m.at id d (missed v) acts_1 n in
-      let e : Next l.at d (Some (performs (Guard v.part.core.who n))) (gone_in_as key p id n v) =
-      enters_then l.at id d (looked v) acts_2 n low enter free in record {
+      let e : Next m.at d (Some (performs (Guard v.part.core.who n))) (gone_in_as key p id n v) =
+      enters_then m.at id d (missed v) acts_1 n low enter free in record {
         misses = m;
         missing = acts_1.seated;
-        looks = l;
-        looking = acts_2.seated;
         enters = e;
-        joins = joins_then e.at id d (gone_in n q v) acts_3 n o join valid word;
+        joins = joins_then e.at id d (gone_in n q v) acts_2 n o join valid word;
       }

@@ -9,16 +9,23 @@ use Rattle.ww_wakes.specs.Scene.{Step, performs}
 use Rattle.ww_live.specs.Theorem.{EndsWait}
 use Rattle.ww_live.proofs.Oldest.{oldest_is_served}
 use Rattle.ww_live.proofs.Ending.{oldest_never_gives_way, oldest_ends}
-use Rattle.ww_live.proofs.Contexts.{contexts_are_served, oldest_wait_die_is_served}
+use Rattle.ww_live.proofs.Deaths.{backing_off_ends}
+use Rattle.ww_live.proofs.Contexts.{contexts_are_over, contexts_are_served, oldest_wait_die_is_served}
 use Rattle.ww_refines.specs.Moment.{Moment, core}
 use Rattle.ww_refines.specs.Endless.{step_of, RunsAlong}
-use Rattle.ww_refines.specs.Contexts.{steps_of, TakesOrLeaves, EndsWaitThere, OldestNeverGivesWayInRuns, OldestIsServedInRuns, OldestEndsInRuns, ContextsAreServedInRuns, OldestWaitDieIsServedInRuns}
+use Rattle.ww_refines.specs.Contexts.{steps_of, TakesOrLeaves, EndsWaitThere, OldestNeverGivesWayInRuns, OldestIsServedInRuns, OldestEndsInRuns, ContextsAreServedInRuns, OldestWaitDieIsServedInRuns, BackingOffEndsInRuns, ContextsAreOverInRuns}
 use Rattle.ww_refines.proofs.Unlocking.{performed, firsts_ask_in_runs, waiters_go_on}
 
 -- what is said of the locks of a moment holds in its scene
 in_scene : {key : Start} (moment : ℕ → Moment key) (move : ℕ → Option Step) (a : RunsAlong moment move)
     (P : State → Type 0) (i : ℕ) → P (core (moment i)) → P (a.scene i).core
 in_scene moment move a P i = subst P (sym (a.shown i).core)
+
+-- the context of a moment is that of its scene
+same_there : {key : Start} (moment : ℕ → Moment key) (move : ℕ → Option Step) (a : RunsAlong moment move) (s i k : ℕ) →
+    (core (moment k)).stamp s ≡ (core (moment i)).stamp s → (a.scene k).core.stamp s ≡ (a.scene i).core.stamp s
+same_there moment move a s i k same =
+    ap (λ (c : State). c.stamp s) (a.shown k).core ∙ same ∙ sym (ap (λ (c : State). c.stamp s) (a.shown i).core)
 
 takes_or_leaves : (key : Start) (x : Option Step) (s n : ℕ) →
     (step_of key x ≡ performs (Take s n)) ⊎ (step_of key x ≡ performs (Leave s n)) → TakesOrLeaves s n x
@@ -33,7 +40,7 @@ pub oldest_never_gives_way_in_runs : OldestNeverGivesWayInRuns
 oldest_never_gives_way_in_runs key moment move endless a i j s later old none same =
     let way = oldest_never_gives_way a.scene (steps_of key move) a.run i j s later old
     (in_scene moment move a (λ c. c.kind ≡ WoundWait → c.sign s ≡ 0) i none)
-    (ap (λ (c : State). c.stamp s) (a.shown j).core ∙ same ∙ sym (ap (λ (c : State). c.stamp s) (a.shown i).core)) in
+    (same_there moment move a s i j same) in
     (λ t is. way.0 t (ap (step_of key) is), λ n is. way.1 n (ap (step_of key) is))
 
 pub oldest_is_served_in_runs : OldestIsServedInRuns
@@ -69,3 +76,25 @@ oldest_wait_die_is_served_in_runs key moment move endless scheduled a release en
     tries i s n (in_scene moment move a (λ c. c.kind ≡ WaitDie) i kind) old
     (in_scene moment move a (λ c. Stands (c.queue n) s) i waits) in
     (end.0, end.1, takes_or_leaves key (move end.0) s n end.2)
+
+-- ---- backing off ends
+
+pub backing_off_ends_in_runs : BackingOffEndsInRuns
+backing_off_ends_in_runs key moment move endless a backs i s some = λ older.
+    let end = backing_off_ends a.scene (steps_of key move) a.run backs i s (in_scene moment move a (λ c. 0 < c.stamp s) i some) older in
+    let h = end.2 in (
+      end.0,
+      end.1,
+      record {
+        once = λ k l m n low less died again same. h.once k l m n low less (ap (step_of key) died) (ap (step_of key) again)
+            (same_there moment move a s i l same);
+        never = λ kind k n low died same. h.never (in_scene moment move a (λ c. c.kind ≡ WaitDie) i kind) k n low
+            (ap (step_of key) died) (same_there moment move a s i k same);
+      },
+    )
+
+pub contexts_are_over_in_runs : ContextsAreOverInRuns
+contexts_are_over_in_runs key moment move endless scheduled a release ends backs = λ tries i s kind some.
+    contexts_are_over a.scene (steps_of key move) a.run (waiters_go_on moment move endless a scheduled) release ends
+    (firsts_ask_in_runs key moment move endless a) backs tries i s (in_scene moment move a (λ c. c.kind ≡ WaitDie) i kind)
+    (in_scene moment move a (λ c. 0 < c.stamp s) i some)

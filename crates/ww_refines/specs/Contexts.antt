@@ -7,6 +7,7 @@ use Rattle.ww_model.specs.declared.event.Event.TheVariants.{Sign, Take, Die, Lea
 use Rattle.ww_model.specs.State.{OwnsSome}
 use Rattle.ww_invariant.specs.declared.cells.Start.{Start}
 use Rattle.ww_wakes.specs.Scene.{Step, performs}
+use Rattle.ww_live.specs.Backing.{OlderAreOver}
 use Rattle.ww_live.specs.Premises.{InTheEnd, HoldersRelease, IsOver, IsOldestActive, ContextsEnd, WaitsOwning, BacksOff, TakesContendedFirst, ContextsEndOrDie}
 use Rattle.ww_refines.specs.Moment.{Moment, core}
 use Rattle.ww_refines.specs.Endless.{IsEndless, step_of, RunsAlong}
@@ -73,3 +74,26 @@ OldestWaitDieIsServedInRuns = (key : Start) (moment : ℕ → Moment key) (move 
     TakesContendedFirst a.scene (steps_of key move) → (i s n : ℕ) → (core (moment i)).kind ≡ WaitDie →
     IsOldestActive a.scene (steps_of key move) s i → Stands ((core (moment i)).queue n) s →
     InTheEnd i (λ j. TakesOrLeaves s n (move j))
+
+-- ---- backing off ends
+
+-- from j on the context that the seat has at i gets EDEADLK once at most, and in Wait-Die never
+pub record DiesNoMoreThere {key : Start} (moment : ℕ → Moment key) (move : ℕ → Option Step) (s i j : ℕ) : Type 0 where
+  pub once : (k l m n : ℕ) → j ≤ k → k < l → move k ≡ Some (performs (Die s m)) → move l ≡ Some (performs (Die s n)) →
+      (core (moment l)).stamp s ≢ (core (moment i)).stamp s
+  pub never : (core (moment i)).kind ≡ WaitDie → (k n : ℕ) → j ≤ k → move k ≡ Some (performs (Die s n)) →
+      (core (moment k)).stamp s ≢ (core (moment i)).stamp s
+
+-- In both kinds a context backs off finitely often, if each older one is over in the end.
+abbrev pub BackingOffEndsInRuns : Type 0
+BackingOffEndsInRuns = (key : Start) (moment : ℕ → Moment key) (move : ℕ → Option Step) → IsEndless moment move →
+    (a : RunsAlong moment move) → BacksOff a.scene (steps_of key move) → (i s : ℕ) → 0 < (core (moment i)).stamp s →
+    OlderAreOver a.scene (steps_of key move) s i → InTheEnd i (DiesNoMoreThere moment move s i)
+
+-- In Wait-Die each context is over in the end, by what `ContextsAreServedInRuns` asks.
+abbrev pub ContextsAreOverInRuns : Type 0
+ContextsAreOverInRuns = (key : Start) (moment : ℕ → Moment key) (move : ℕ → Option Step) → IsEndless moment move →
+    AllAreScheduled moment move → (a : RunsAlong moment move) → HoldersRelease a.scene (steps_of key move) →
+    ContextsEndOrDie a.scene (steps_of key move) → BacksOff a.scene (steps_of key move) →
+    TakesContendedFirst a.scene (steps_of key move) → (i s : ℕ) → (core (moment i)).kind ≡ WaitDie →
+    0 < (core (moment i)).stamp s → InTheEnd i (IsOver a.scene (steps_of key move) s)

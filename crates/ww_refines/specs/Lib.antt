@@ -7,3 +7,4 @@ pub mod Naps
 pub mod Endless
 pub mod Deadlocks
 pub mod Contexts
+pub mod Handing

@@ -25,7 +25,7 @@ use Rattle.ww_invariant.specs.declared.cells.Sight.{Sight}
 use Rattle.ww_invariant.specs.declared.cells.Start.{Start}
 use Rattle.ww_invariant.specs.Layout.{owner_at, guard_at, sign_at, cancel_at, stamp_at, front_at, list_at}
 use Rattle.ww_invariant.specs.Rule.{Sat, first_graph}
-use Rattle.ww_invariant.specs.Steps.{MayDraw, MayEnd, MayPlace, taker, draws_to, takes_to, gives_to, takes_bare_to, gives_bare_to, owns_to, ends_to, places_to}
+use Rattle.ww_invariant.specs.Steps.{MayDraw, MayEnd, MayPlace, taker, draws_to, takes_to, gives_to, takes_bare_to, gives_bare_to, owns_to, whose_to, ends_to, places_to}
 use Rattle.ww_invariant.specs.Guards.{enters_to, exits_to, looks_to, glances_to, counts_to}
 use Rattle.ww_invariant.specs.Waiting.{tries_to, joins, takes_inside, takes_bare_inside, gives_inside, gives_bare_inside, asks, dies_to}
 use Rattle.ww_invariant.specs.Signs.{signs_to, reads_to, clears_to}
@@ -113,6 +113,7 @@ module _ {key : Start} (m : Moment key) (id : ℕ) (me : Sat) where
     pub give_bare : (n : ℕ) → length (first_graph key) ≤ n → n < key.locks → IsAway mine →
         Exchanges (owner_at key.locks n) (packed (taker mine)) 0 (performs (FastGive mine.who n)) gives_bare_to
     pub has : (n : ℕ) → n < key.locks → IsAway mine → Loads (owner_at key.locks n) (λ _. None) owns_to
+    pub whose : (n : ℕ) → n < key.locks → Loads (owner_at key.locks n) (λ _. None) whose_to
     pub end : MayEnd mine →
         Loads (sign_at key.locks mine.who) (where_0 (Some (performs (End mine.who))) None) ends_to
     pub place : (done : Record) → MayPlace me.0 (recorded_of done) →

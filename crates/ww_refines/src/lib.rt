@@ -5,5 +5,6 @@
 pub mod contexts;
 pub mod deadlocks;
 pub mod endless;
+pub mod handing;
 pub mod plays;
 pub mod runs;

@@ -16,6 +16,7 @@ use Rattle.ww_view.specs.May.{WantsBase, WantsSigns, MayFast}
 use Rattle.ww_view.specs.Made.{with_heir}
 use Rattle.ww_invariant.specs.Rule.{Sat}
 use Rattle.ww_invariant.specs.Steps.{drawing_none}
+use Rattle.ww_invariant.specs.Signs.{having_read, finding_none}
 use Rattle.ww_invariant.specs.Cancels.{cancelling, finding_pending}
 use Rattle.ww_invariant.specs.Guards.{AreSeats, shutting_out}
 use Rattle.ww_table.specs.declared.board.Board.{Board}
@@ -141,6 +142,16 @@ pub record MayTakeBare (board : Board) (n : ℕ) (s : Standing) : Type 0 where
   pub there : n < locks_of board
   pub packed : 64 < locks_of board
   pub may : MayFast (view_in s)
+
+-- it owns a lock, and is inside no guard: so others may sign it
+pub record MayLookSigned (s : Standing) : Type 0 where
+  pub outside : (view_in s).inside ≡ 0
+  pub owner : (n : ℕ) × (owns (view_in s) n ≡ true)
+
+-- it found this sign, which its view then names; or none, at that moment
+abbrev pub HasLookedSigned : Standing → ℕ → Standing → Type 0
+HasLookedSigned s k s' = (k ≢ 0 → s' ≡ record s { me = (having_read s.me.0 k, s.me.1) })
+    × (k ≡ 0 → s' ≡ record s { me = (finding_none s.me.0, s.me.1) })
 
 -- it has the lock, with this node; or it may go on to wait for it
 abbrev pub HasTriedNode : Sat → ℕ → Option Node → Sat → Type 0

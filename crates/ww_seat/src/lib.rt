@@ -27,7 +27,7 @@ pub use bell::{Bell, Parker, Wire};
 pub use committing::NodeChange;
 pub use look::{Arrival, Attempt, Look};
 pub use patience::{Patience, Waited};
-pub use resting::{MOST_GLANCES, MOST_PAUSES, Memory, Rest, Stay, limits};
+pub use resting::{MOST_GLANCES, MOST_PAUSES, limits};
 pub use seats::Seat;
 pub use waiting::NoLock;
 pub use waits::Waits;

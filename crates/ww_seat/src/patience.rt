@@ -50,7 +50,7 @@ impl Patience {
         };
         Patience {
             parker,
-            memory: Memory::of_pass(),
+            memory: Memory::new(),
             pace: Pace::new(),
             waited,
         }

@@ -17,32 +17,14 @@ pub const MOST_PAUSES: u32 = 12_416;
 /// processors other programs may have run meanwhile.
 const LATE: u64 = 4096;
 
-/// The constants in which seats of desks and of passes differ.
-#[derive(Clone, Copy, Debug, PartialEq, Eq)]
-struct Manner {
-    /// A context that still owns the lock after this many pauses works for longer.
-    moment: u32,
-    /// A seat that holds locks rests shortly, since others may wait for these: so often, and for so many pauses at most.
-    rests_holding: u8,
-    pauses_holding: u32,
-    /// Whether a first try that it loses then counts as lost to an owner who is quick.
-    counts_holding: bool,
-}
+/// A context that still owns the lock after this many pauses works for longer.
+const MOMENT: u32 = 12;
 
-const OF_DESKS: Manner = Manner {
-    moment: 128,
-    rests_holding: 8,
-    pauses_holding: 8,
-    counts_holding: true,
-};
+/// A seat that holds locks rests shortly, since others may wait for these: so often, and for so many pauses at most. Its
+/// pass rests between its contexts too, where they keep meeting others (`Pace`).
+const RESTS_HOLDING: u8 = 12;
 
-/// A pass rests between its contexts too, where they keep meeting others (`Pace`).
-const OF_PASSES: Manner = Manner {
-    moment: 12,
-    rests_holding: 12,
-    pauses_holding: 32,
-    counts_holding: false,
-};
+const PAUSES_HOLDING: u32 = 32;
 
 /// How often a seat that holds nothing rests, and for how many pauses at most, if the owner is quick.
 const RESTS_QUICK: u8 = 2;
@@ -63,64 +45,24 @@ const FEWEST: u32 = 8;
 /// At most this many doublings of that, for a seat that keeps losing its first tries.
 const MOST_LOSSES: u32 = 10;
 
-/// After this many first tries that won, one that was lost is forgotten.
-const CALM: u32 = 128;
-
 /// A law of these numbers: a call makes sixteen spin reads at most, and rests for 12,416 pauses at most.
 pub fn limits()
     ensures glances { MOST_GLANCES ≡ 16 }
     ensures pauses { MOST_PAUSES ≡ 12416 }
 {}
 
-/// What a seat remembers of its first tries, from call to call. No contract speaks of it.
+/// What a pass remembers of its first tries, from call to call. No contract speaks of it. It isn't said when one wins: that
+/// would cost each lock a test.
 #[derive(Drop)]
-pub struct Memory {
-    /// Grows with each first try that is lost to an owner who is quick, and shrinks again where owners work; of a desk also
-    /// where first tries win.
+pub(crate) struct Memory {
+    /// Grows with each first try, of a seat that holds nothing, that is lost to an owner who is quick, and shrinks again
+    /// where owners work.
     losses: u32,
-    /// The first tries that won since `losses` last shrank.
-    wins: u32,
-    is_pass: bool,
 }
 
 impl Memory {
-    /// Of a desk.
-    pub fn new() -> Memory {
-        Memory {
-            losses: 0,
-            wins: 0,
-            is_pass: false,
-        }
-    }
-
-    /// That of a pass, which doesn't say when it wins: that would cost each of its locks a test.
-    pub(crate) fn of_pass() -> Memory {
-        Memory {
-            losses: 0,
-            wins: 0,
-            is_pass: true,
-        }
-    }
-
-    fn manner(&self) -> Manner {
-        if self.is_pass { OF_PASSES } else { OF_DESKS }
-    }
-
-    /// A first try has won.
-    #[inline]
-    pub fn win(&mut self) {
-        if self.losses > 0 {
-            self.calm_down();
-        }
-    }
-
-    #[inline(always)]
-    fn calm_down(&mut self) {
-        self.wins = self.wins.saturating_add(1);
-        if self.wins >= CALM {
-            self.wins = 0;
-            self.losses = self.losses.saturating_sub(1);
-        }
+    pub(crate) fn new() -> Memory {
+        Memory { losses: 0 }
     }
 
     /// A first try has lost, to an owner who is done in a moment.
@@ -141,10 +83,10 @@ impl Memory {
 
 /// A rest between two spin reads of a lock.
 #[derive(Clone, Copy, Debug, PartialEq, Eq)]
-pub struct Rest {
-    pub pauses: u32,
+pub(crate) struct Rest {
+    pub(crate) pauses: u32,
     /// How often it yields meanwhile: after each 64 pauses.
-    pub yields: u32,
+    pub(crate) yields: u32,
 }
 
 /// The rests of a call that knows how long the owners of its lock take.
@@ -170,11 +112,11 @@ enum Seen {
 
 /// Where a call stands that stays away. It begins anew with each call.
 #[derive(Clone, Copy, Debug, PartialEq, Eq)]
-pub struct Stay {
+pub(crate) struct Stay {
     /// How many spin reads are left.
-    pub glances: u8,
+    pub(crate) glances: u8,
     /// How many pauses are left.
-    pub pauses: u32,
+    pub(crate) pauses: u32,
     holds: bool,
     seen: Seen,
     /// The first stamp that it saw, 0 before.
@@ -185,7 +127,7 @@ pub struct Stay {
 
 impl Stay {
     /// A call that has just lost its first try; whether its seat holds a lock.
-    pub fn new(holds: bool) -> Stay
+    pub(crate) fn new(holds: bool) -> Stay
         ensures glances { result.glances ≡ 16 }
         ensures pauses { result.pauses ≡ 12416 }
     {
@@ -201,7 +143,7 @@ impl Stay {
 
     /// What comes after a spin read of the lock that saw this owner: a rest and one more such read; or nothing, as the call
     /// joins the wait list.
-    pub fn next(&mut self, memory: &mut Memory, owner: Owner) -> Option<Rest>
+    pub(crate) fn next(&mut self, memory: &mut Memory, owner: Owner) -> Option<Rest>
         requires { 1 ≤ self.old.glances }
         ensures free { owner.seat ≡ None → (result ≡ None) ↔ EndsIfFree self.old }
         ensures late { IsLate self.old.first owner → result ≡ None }
@@ -217,7 +159,7 @@ impl Stay {
         if ends || self.glances == 0 {
             return None;
         }
-        let wanted = self.seen.pauses(memory.manner().moment);
+        let wanted = self.seen.pauses();
         let pauses = wanted.min(self.pauses);
         self.pauses -= pauses;
         Some(Rest {
@@ -272,13 +214,7 @@ impl Seen {
     /// What it knows once it saw this owner too; whether its seat holds a lock.
     fn learned(self, memory: &mut Memory, holds: bool, owner: Owner) -> Seen {
         match self {
-            Seen::Nothing if holds => {
-                let manner = memory.manner();
-                if manner.counts_holding {
-                    memory.lose();
-                }
-                Seen::planned(manner.rests_holding, 1, manner.pauses_holding)
-            }
+            Seen::Nothing if holds => Seen::planned(RESTS_HOLDING, 1, PAUSES_HOLDING),
             Seen::Nothing => {
                 if owner.seat().is_none() {
                     memory.lose();
@@ -310,11 +246,11 @@ impl Seen {
         matches!(self, Seen::Enough(plan) if plan.rests == 0)
     }
 
-    /// The pauses of the next rest; how many make a moment.
-    fn pauses(&mut self, moment: u32) -> u32 {
+    /// The pauses of the next rest.
+    fn pauses(&mut self) -> u32 {
         match self {
             Seen::Enough(plan) => plan.rest(),
-            _ => moment,
+            _ => MOMENT,
         }
     }
 }

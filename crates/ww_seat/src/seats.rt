@@ -41,12 +41,13 @@ impl Seat {
     ghost use Rattle.ww_view.specs.May.{MayGlance};
     ghost use Rattle.ww_invariant.specs.declared.cells.Start.{Start};
     ghost use Rattle.ww_invariant.specs.Rule.{first_graph};
+    ghost use Rattle.ww_word.specs.AnySeats.{IsValid};
     ghost use Rattle.ww_invariant.specs.Steps.{MayDraw, MayEnd};
     ghost use Rattle.ww_invariant.specs.Guards.{glancing};
     ghost use Rattle.ww_table.specs.Seat.{IsNew, locks_of, size_of, taking_of, giving_of};
     ghost use Rattle.ww_seat.specs.Bells.{AreBellsOf};
     ghost use Rattle.ww_seat.specs.Work.{ComesOutside};
-    ghost use Rattle.ww_seat.specs.Standings.{Standing, standing_of, view_in, size_in, owns_any, OwnsNodes, IsAt, IsKept, IsBegin, IsEnd, MayTry, MayTryBare, MayTakeBare, IsTry, IsTryBare, MayWait, MayWaitWith, IsWait, StaysEven, MayRelease, MayReleaseNode, MayReleaseBare, IsGive, IsGiveBare, IsGiven, MayCancel, HasCancelled, IsCancel, MayCommit, IsCommit, MayGoIn, IsGoneIn, IsAtWorkThere, HasAttempted, IsVisit, IsGivingThere, IsGoneInToGive, HasGivenOn};
+    ghost use Rattle.ww_seat.specs.Standings.{Standing, standing_of, view_in, size_in, owns_any, OwnsNodes, IsAt, IsKept, IsBegin, IsEnd, MayTry, MayTryBare, MayTakeBare, MayLookSigned, HasLookedSigned, IsTry, IsTryBare, MayWait, MayWaitWith, IsWait, StaysEven, MayRelease, MayReleaseNode, MayReleaseBare, IsGive, IsGiveBare, IsGiven, MayCancel, HasCancelled, IsCancel, MayCommit, IsCommit, MayGoIn, IsGoneIn, IsAtWorkThere, HasAttempted, IsVisit, IsGivingThere, IsGoneInToGive, HasGivenOn};
 
     /// A seat that has done nothing yet.
     #[inline(always)]
@@ -152,6 +153,26 @@ impl Seat {
         ensures { (self.new ≡ self.old) × (result ≡ true → owns (view_in self.old) lock ≡ false) }
     {
         self.seat.is_free(board, lock)
+    }
+
+    /// Whose a lock is, which the lock's word says.
+    #[inline(always)]
+    pub fn whose(&mut self, board: &Board, lock: u32) -> Owner
+        requires at { IsAt board.now self.old }
+        requires there { lock < locks_of board.now }
+        ensures { (self.new ≡ self.old) × IsValid result }
+    {
+        self.seat.whose(board, lock)
+    }
+
+    /// Its own sign, where it owns a lock, and outside the guards: 0, or the stamp of the older context that condemned it.
+    #[inline(always)]
+    pub fn sign(&mut self, board: &Board) -> u64
+        requires at { IsAt board.now self.old }
+        requires may { MayLookSigned self.old }
+        ensures { HasLookedSigned self.old result self.new }
+    {
+        self.seat.own_sign(board)
     }
 
     /// Reads the owner word of a lock once, while it stays away from that.

@@ -6,19 +6,15 @@ use Rattle.ww_plain.proofs.Members.{true_or_false, same_from_eqb, eqb_same}
 use Rattle.ww_view.specs.declared.view.View.{View}
 use Rattle.ww_view.specs.Made.{is_one_of, with_heir}
 use Rattle.ww_seat.specs.Bells.{one_more}
-use Rattle.ww_invariant.specs.Guards.{glancing}
 use Rattle.ww_invariant.specs.Rule.{times}
 use Rattle.ww_seat.specs.Accounts.{Account, account_of}
 use Rattle.ww_seat.specs.Standings.{Standing, view_in, IsIn}
-use Rattle.ww_seat.specs.declared.look.Arrival.TheVariants.{Came}
-use Rattle.ww_seat.specs.declared.resting.Memory.{Memory}
-use Rattle.ww_seat.specs.declared.resting.Stay.{Stay}
 use Rattle.ww_seat.specs.declared.look.Arrival.{Arrival}
 use Rattle.ww_seat.specs.Work.{AreWoken, HasBooked, IsMarked, IsWorking, StillHasToWake, debts_with}
 use Rattle.ww_seat.proofs.Debts.{has_wakes, wakes_has, more_cancelled, more_owed, times_booked, times_more}
 use Rattle.ww_seat.specs.declared.waits.Waits.{Waits}
 use Rattle.ww_steps.specs.declared.turn.Answer.{Answer}
-use Rattle.ww_steps.specs.declared.turn.Turn.TheVariants.{Stays, Wants, Looks}
+use Rattle.ww_steps.specs.declared.turn.Turn.TheVariants.{Wants, Looks}
 use Rattle.ww_steps.specs.declared.station.Station.{Station}
 use Rattle.ww_steps.specs.Stations.{situation_of, Keeps}
 use Rattle.ww_steps.proofs.Locks.{at_turn}
@@ -213,39 +209,6 @@ step_books s s' step first b = balances_then first s s' b step
 
 -- ---- further steps
 
--- after a spin read
-abbrev glanced : Standing → Standing
-glanced s = record s { me = (glancing s.me.0, s.me.1) }
-
--- it made a spin read, and stays away
-pub glanced_stays : (h : Station) (q : Standing) (memory : Memory) (n : ℕ) (stay next : Stay) (waits : Waits) → Keeps h
-    → h.turn ≡ Stays n stay waits → next.glances < stay.glances → 1 ≤ next.glances → q ≡ glanced h.seat
-    → Keeps (record h { seat = q; turn = Stays n next waits; memory = memory })
-glanced_stays h q memory n stay next waits k turn fewer some is = let at = at_turn h (Stays n stay waits) k turn in
-    rw is (kept h (glanced h.seat) (account_of h.seat.me) h.count h.told (Stays n next waits) memory h.wake k
-    (record { now = refl; size = refl }) refl refl refl k.owns (
-      at.0,
-      record { lacks = at.1.lacks; base = at.1.base; signs = at.1.signs },
-      record { away = at.2.away; one = some; few = omega (arith, at.2.few, fewer) },
-    ))
-
--- ... or wants the lock now
-pub glanced_wants : (h : Station) (q : Standing) (memory : Memory) (n : ℕ) (stay : Stay) (waits : Waits) → Keeps h
-    → h.turn ≡ Stays n stay waits → q ≡ glanced h.seat
-    → Keeps (record h { seat = q; turn = Wants n Came waits; memory = memory })
-glanced_wants h q memory n stay waits k turn is = let at = at_turn h (Stays n stay waits) k turn in
-    let off = sym (ap (λ (w : ℕ). not (w == 0)) at.2.away.1) in
-    rw is (kept h (glanced h.seat) (account_of h.seat.me) h.count h.told (Wants n Came waits) memory h.wake k
-    (record { now = refl; size = refl }) refl refl refl k.owns (
-      record {
-        there = at.0;
-        want = record { lacks = at.1.lacks; base = at.1.base; signs = at.1.signs };
-        outside = at.2.away.0;
-        place = inl (at.2.away.1);
-      },
-      (off, off),
-    ))
-
 entered_booked : (v : View) → v.condemned ≡ [] → HasBooked v.debts v
 entered_booked v none = ap (λ (l : List ℕ). debts_with v.who l v.debts) (sym none)
 
@@ -256,7 +219,7 @@ entered_woken v marks none u has = absurd (subst (λ (l : List ℕ). Has l u) no
 pub entered_keeps : (h : Station) (n : ℕ) (arrival : Arrival) (waits : Waits) (q : Standing) → Keeps h
     → h.turn ≡ Wants n arrival waits → IsIn h.seat n q → Keeps (record h { seat = q; turn = Looks n arrival waits })
 entered_keeps h n arrival waits q k turn e = let at = at_turn h (Wants n arrival waits) k turn in let v = view_in q in
-    kept h q (account_of h.seat.me) h.count h.told (Looks n arrival waits) h.memory h.wake k e.gone.same e.gone.holds refl refl k.owns (
+    kept h q (account_of h.seat.me) h.count h.told (Looks n arrival waits) h.wake k e.gone.same e.gone.holds refl refl k.owns (
       at.0.there,
       subst (λ (x : Bool × Bool). IsWorking n x.0 x.1 v) (λ i. (sym at.1.0 i, sym at.1.1 i)) e.working,
       entered_woken v h.wake.items e.condemned,

@@ -1,5 +1,5 @@
 -- What a desk keeps, as the calls of its seat change that.
-use Rattle.std.proofs.Common.{◌≡◌, ℕ, ◌+◌, ◌-◌, ◌<◌, ◌≤◌, Bool, true, false, List, [], ◌∷◌, ◌++◌, length, set, refl, sym, ap, subst, ◌∙◌, arith, length-set, length-append, None, Option}
+use Rattle.std.proofs.Common.{◌≡◌, ℕ, ◌+◌, ◌-◌, ◌<◌, ◌≤◌, Bool, true, false, List, [], ◌∷◌, ◌++◌, length, set, refl, sym, ap, subst, ◌∙◌, arith, length-set, length-append, None, Option, not, ◌==◌, inl}
 use Rattle.std.specs.Arc.{arc_value}
 use Rattle.std.specs.Global.{Vec}
 use Rattle.ww_plain.specs.declared.node.Node.{Node}
@@ -15,20 +15,20 @@ use Rattle.ww_seat.specs.Calls.{HasAdded, HasGiven, HasLetOnce, HasTriedOnce}
 use Rattle.ww_seat.specs.Standings.{Standing, view_in, HasGoneIn, IsBack, IsSame}
 use Rattle.ww_seat.specs.Looks.{CameTo}
 use Rattle.ww_seat.specs.declared.look.Arrival.{Arrival}
+use Rattle.ww_seat.specs.declared.look.Arrival.TheVariants.{Came}
 use Rattle.ww_seat.specs.declared.look.Look.TheVariants.{Locked}
 use Rattle.ww_seat.specs.declared.waits.Waits.{Waits}
-use Rattle.ww_seat.specs.declared.resting.Memory.{Memory}
 use Rattle.ww_seat.proofs.Among.{owns_more}
 use Rattle.ww_seat.proofs.Gives.{given_then}
 use Rattle.ww_seat.proofs.Kept.{same_then}
 use Rattle.ww_seat.proofs.Naps.{out_then}
 use Rattle.ww_seat.proofs.Without.{owns_less, different_without}
 use Rattle.ww_steps.specs.declared.turn.Turn.{Turn}
-use Rattle.ww_steps.specs.declared.turn.Turn.TheVariants.{Rests, Looks, Gives}
+use Rattle.ww_steps.specs.declared.turn.Turn.TheVariants.{Rests, Wants, Looks, Gives}
 use Rattle.ww_steps.specs.declared.station.Station.{Station}
 use Rattle.ww_steps.specs.Situations.{Situation, is_at_rest}
-use Rattle.ww_steps.specs.Answers.{HasReleased, StaysOut}
-use Rattle.ww_steps.specs.Stations.{IsWhere, OwnsJust, Keeps}
+use Rattle.ww_steps.specs.Answers.{HasJustLost, HasReleased, StaysOut}
+use Rattle.ww_steps.specs.Stations.{situation_of, IsWhere, OwnsJust, Keeps}
 use Rattle.ww_steps.proofs.Locks.{at_turn, few_owned, one_less, rest_of}
 
 -- it counts no more than there are, wherever its call stands
@@ -56,12 +56,12 @@ one_fewer count locks n held owned o there has = record {
 }
 
 -- the same desk, whose seat has this account
-pub kept : (h : Station) (q : Standing) (a : Account) (count : ℕ) (told : Option ℕ) (turn : Turn) (memory : Memory) (w : Vec ℕ)
+pub kept : (h : Station) (q : Standing) (a : Account) (count : ℕ) (told : Option ℕ) (turn : Turn) (w : Vec ℕ)
     → Keeps h → IsSame h.seat q → account_of q.me ≡ a → a.counts.draws ≡ h.seat.me.0.part.counts.draws
     → length w.items ≡ length h.wake.items → OwnsJust count (locks_of (arc_value h.board)) a.locks a.owned
     → IsWhere (arc_value h.board) w.items turn q
-    → Keeps (record h { seat = q; count = count; told = told; turn = turn; memory = memory; wake = w })
-kept h q a count told turn memory w k same now draws long owns at = record {
+    → Keeps (record h { seat = q; count = count; told = told; turn = turn; wake = w })
+kept h q a count told turn w k same now draws long owns at = record {
   at = record { home = ap (λ (s : Standing). s.home) same.now ∙ k.at.home; size = same.size ∙ k.at.size };
   stands = at;
   world = rw long k.world;
@@ -74,7 +74,7 @@ took : (h : Station) (q : Standing) (tries n : ℕ) (x : Node) (w : Vec ℕ) →
     → n < locks_of (arc_value h.board) → is_among n (view_in h.seat).locks ≡ false → IsBack h.seat q
     → HasAdded (record (account_of h.seat.me) { tries = tries }) n x q.me
     → Keeps (record h { seat = q; count = h.count + 1; told = None; turn = Rests; wake = w })
-took h q tries n x w k long there lacks back t = kept h q _ (h.count + 1) None Rests h.memory w k back.same t.now refl long
+took h q tries n x w k long there lacks back t = kept h q _ (h.count + 1) None Rests w k back.same t.now refl long
     (one_more h.count _ n _ _ k.owns there lacks) back.away
 
 -- ... inside the guard
@@ -88,7 +88,7 @@ took_inside h q n arrival waits x w k long same came = took (record h { turn = L
 pub gave : (h : Station) (q : Standing) (n : ℕ) (w : Vec ℕ) → Keeps h → length w.items ≡ length h.wake.items
     → n < locks_of (arc_value h.board) → is_among n (view_in h.seat).locks ≡ true → IsBack h.seat q → HasGiven h.seat.me n q.me
     → Keeps (record h { seat = q; count = h.count - 1; turn = Rests; wake = w })
-gave h q n w k long there has back t = kept h q _ (h.count - 1) h.told Rests h.memory w k back.same t refl long
+gave h q n w k long there has back t = kept h q _ (h.count - 1) h.told Rests w k back.same t refl long
     (one_fewer h.count _ n _ _ k.owns there has) back.away
 
 -- ... inside its guard
@@ -112,6 +112,17 @@ pub gave_at_once : (h : Station) (q : Standing) (n : ℕ) → Keeps h → is_at_
 gave_at_once h q n k rests there back t = subst (λ (r : Turn). Keeps (record h { seat = q; count = h.count - 1; turn = r }))
     (sym (rest_of h.turn rests))
     (gave h q n h.wake k refl (omega (arith, there, k.world.locks_are)) (sym (k.owns.same n) ∙ t.0) back t.1)
+
+-- ... in vain
+pub lost_keeps : (h : Station) (n : ℕ) (waits : Waits) → Keeps h → HasJustLost n (situation_of h)
+    → Keeps (record h { turn = Wants n Came waits })
+lost_keeps h n waits k lost = let away = at_turn h Rests k (rest_of h.turn lost.rests) in
+    let off = sym (ap (λ (w : ℕ). not (w == 0)) away.1) in
+    kept h h.seat (account_of h.seat.me) h.count h.told (Wants n Came waits) h.wake k (record { now = refl; size = refl })
+    refl refl refl k.owns (
+      record { there = omega (arith, lost.there, k.world.locks_are); want = lost.want; outside = away.0; place = inl away.1 },
+      (off, off),
+    )
 
 -- ---- several releases
 

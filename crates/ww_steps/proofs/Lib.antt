@@ -3,3 +3,4 @@ pub mod Keeping
 pub mod Fresh
 pub mod Marks
 pub mod Account
+pub mod Seeing

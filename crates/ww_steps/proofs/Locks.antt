@@ -19,7 +19,7 @@ use Rattle.ww_seat.specs.Standings.{view_in, owns_any, IsAtWorkThere, MayTakeBar
 use Rattle.ww_seat.proofs.Outside.{owned_low}
 use Rattle.ww_seat.proofs.Without.{without_same, without_else}
 use Rattle.ww_steps.specs.declared.turn.Turn.{Turn}
-use Rattle.ww_steps.specs.declared.turn.Turn.TheVariants.{Rests, Stays, Wants, Looks, Gives}
+use Rattle.ww_steps.specs.declared.turn.Turn.TheVariants.{Rests, Wants, Looks, Gives}
 use Rattle.ww_steps.specs.declared.station.Station.{Station}
 use Rattle.ww_steps.specs.Situations.{is_at_rest, is_empty, can_want, wants_now, IsPlain}
 use Rattle.ww_steps.specs.Stations.{situation_of, IsWhere, OwnsJust, Keeps}
@@ -100,7 +100,6 @@ wants_why false false false None e = record { undone = refl; why = inr (refl, re
 
 pub rest_of : (t : Turn) → is_at_rest t ≡ true → t ≡ Rests
 rest_of Rests e = refl
-rest_of (Stays n stay waits) e = absurd (true≢false (sym e))
 rest_of (Wants n arrival waits) e = absurd (true≢false (sym e))
 rest_of (Looks n arrival waits) e = absurd (true≢false (sym e))
 rest_of (Gives n) e = absurd (true≢false (sym e))

@@ -10,8 +10,6 @@ use Rattle.ww_seat.specs.Looks.{MayWant}
 use Rattle.ww_seat.specs.Work.{HasToWake}
 use Rattle.ww_seat.specs.Marks.{is_marked, IsMarked, AreMarked}
 use Rattle.ww_seat.specs.declared.look.Arrival.TheVariants.{Came, Woken}
-use Rattle.ww_seat.specs.Rests.{Rests}
-use Rattle.ww_seat.specs.declared.resting.Stay.{Stay}
 use Rattle.ww_seat.specs.declared.waits.Waits.{Waits}
 use Rattle.ww_seat.specs.declared.waits.Waits.TheVariants.{UntilCancelled}
 use Rattle.ww_steps.specs.declared.turn.Turn.{Turn}
@@ -19,7 +17,7 @@ use Rattle.ww_steps.specs.declared.turn.Turn.TheVariants as at
 use Rattle.ww_steps.specs.declared.turn.NoTry.{NoTry}
 use Rattle.ww_steps.specs.declared.turn.NoTry.TheVariants as no
 use Rattle.ww_steps.specs.declared.turn.Answer.{Answer}
-use Rattle.ww_steps.specs.declared.turn.Answer.TheVariants.{Done, Again, Awaits, Stays, Sleeps, Busy, Invalid, Already, NoSpace, Deadlk, Interrupted}
+use Rattle.ww_steps.specs.declared.turn.Answer.TheVariants.{Done, Again, Awaits, Sleeps, Busy, Invalid, Already, NoSpace, Deadlk, Interrupted}
 use Rattle.ww_steps.specs.Situations.{Situation, is_at_rest, is_inside, waits_outside, until_cancelled, can_want, wants_now}
 
 -- ---- what a call makes of a desk
@@ -52,10 +50,6 @@ MadeProgress s s' = s.view.attempts < s'.view.attempts
 -- it tried once to release a lock by one step, in vain: the lock's word said more than its owner
 abbrev pub HasKept : Situation → Situation → Type 0
 HasKept s s' = s'.view.kept ≡ s.view.kept + 1
-
--- it made a spin read of an owner word
-abbrev pub HasGlancedOnce : Situation → Situation → Type 0
-HasGlancedOnce s s' = s'.view.glances ≡ s.view.glances + 1
 
 -- Another seat is inside the guard that it wants to go into. It has learned nothing else, is inside no guard, and has changed
 -- nothing.
@@ -145,12 +139,11 @@ IsTryRefusal s n Already = IsHeldAtRest s n
 IsTryRefusal s n Invalid = IsBarred s n
 IsTryRefusal s n _ = ⊥
 
--- it has just tried this lock in vain, and may stay away from it
+-- it has just tried this lock in vain, and may want it
 pub record HasJustLost (n : ℕ) (s : Situation) : Type 0 where
   pub rests : is_at_rest s.turn ≡ true
   pub there : HasLockNumber s n
   pub want : MayWant n s.view
-  pub unseen : s.view.glances ≡ 0
 
 -- what one try came to, of a lock that it may want if it doesn't hold it
 abbrev pub HasTriedAsIs : Situation → ℕ → Taking → Situation → Type 0
@@ -192,20 +185,11 @@ IsEndAnswer s _ s' = ⊥
 
 -- ---- taking a lock
 
--- all of a stay is left: sixteen spin reads, and 12,416 pauses in all its rests
-abbrev pub IsWholeStay : Stay → Type 0
-IsWholeStay stay = (stay.glances ≡ 16) × (stay.pauses ≡ 12416)
-
--- its call stays away from this lock
-abbrev pub HasTurnedAway : Situation → ℕ → Waits → Situation → Type 0
-HasTurnedAway s n waits s' = (stay : Stay) × IsWholeStay stay × (s' ≡ record s { turn = at.Stays n stay waits })
-
--- the first step: it has the lock, or stays away from it
+-- the first step: it has the lock, or its call stands outside the guard of the lock
 abbrev pub IsLockAnswer : Situation → ℕ → Waits → Answer → Situation → Type 0
 IsLockAnswer s n waits Done s' = IsTryable s n × HasLock s n s'
 IsLockAnswer s n waits Again s' = IsTryable s n × StaysOut s s'
-    × ((stay : Stay) × IsWholeStay stay × (s'
-    ≡ record s { turn = at.Stays n stay waits; tries = s.tries + 1; view = s'.view }))
+    × (s' ≡ record s { turn = at.Wants n Came waits; tries = s.tries + 1; view = s'.view })
 IsLockAnswer s n waits Busy s' = (is_at_rest s.turn ≡ false) × (s' ≡ s)
 IsLockAnswer s n waits Already s' = IsHeldAtRest s n × (s' ≡ s)
 IsLockAnswer s n waits Invalid s' = IsBarred s n × (s' ≡ s)
@@ -233,13 +217,6 @@ IsSlowAnswer s n waits _ s' = ⊥
 abbrev pub IsLooking : ℕ → Waits → Turn → Type 0
 IsLooking n waits (at.Looks m arrival w) = (m ≡ n) × (w ≡ waits)
 IsLooking n waits _ = ⊥
-
--- a spin read, and then a rest or the wish for the lock
-abbrev pub IsStayAnswer : Situation → ℕ → Stay → Waits → Answer → Situation → Type 0
-IsStayAnswer s n stay waits (Stays rest) s' = HasGlancedOnce s s'
-    × ((next : Stay) × Rests stay next rest × HasTurned s (at.Stays n next waits) s')
-IsStayAnswer s n stay waits Again s' = HasGlancedOnce s s' × HasTurned s (at.Wants n Came waits) s'
-IsStayAnswer s n stay waits _ s' = ⊥
 
 -- a look, after which it may be inside the guard still; or a try in vain to go inside. A call that waits until a cancel is
 -- told to sleep only once it found none inside that guard.
@@ -307,7 +284,6 @@ IsGiveAnswer s n _ s' = ⊥
 
 abbrev pub IsNextAnswer : Turn → Situation → Answer → Situation → Type 0
 IsNextAnswer at.Rests s a s' = (a ≡ Invalid) × (s' ≡ s)
-IsNextAnswer (at.Stays n stay waits) s a s' = IsStayAnswer s n stay waits a s'
 IsNextAnswer (at.Wants n arrival waits) s a s' = IsWaitAnswer s n waits a s'
 IsNextAnswer (at.Looks n arrival waits) s a s' = IsWaitAnswer s n waits a s'
 IsNextAnswer (at.Gives n) s a s' = IsGiveAnswer s n a s'

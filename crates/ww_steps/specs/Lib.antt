@@ -2,3 +2,4 @@ pub mod Situations
 pub mod Stations
 pub mod Answers
 pub mod Opened
+pub mod Outlooks

@@ -5,7 +5,7 @@ use Rattle.ww_queue.specs.declared.kind.Kind.{Kind}
 use Rattle.ww_view.specs.declared.view.View.{View}
 use Rattle.ww_seat.specs.declared.waits.Waits.TheVariants.{UntilCancelled}
 use Rattle.ww_steps.specs.declared.turn.Turn.{Turn}
-use Rattle.ww_steps.specs.declared.turn.Turn.TheVariants.{Rests, Stays, Wants, Looks, Gives}
+use Rattle.ww_steps.specs.declared.turn.Turn.TheVariants.{Rests, Wants, Looks, Gives}
 
 -- Its world: the table; how many locks and seats that has, and of which kind; its number there; how many contexts it may still
 -- begin, and how many it has begun; its stamp, 0 without a context; whether its context is done; the locks that it holds,
@@ -38,7 +38,6 @@ pub record Situation : Type 0 where
 -- between two calls
 abbrev pub is_at_rest : Turn → Bool
 is_at_rest Rests = true
-is_at_rest (Stays n stay waits) = false
 is_at_rest (Wants n arrival waits) = false
 is_at_rest (Looks n arrival waits) = false
 is_at_rest (Gives n) = false
@@ -46,7 +45,6 @@ is_at_rest (Gives n) = false
 -- inside a guard
 abbrev pub is_inside : Turn → Bool
 is_inside Rests = false
-is_inside (Stays n stay waits) = false
 is_inside (Wants n arrival waits) = false
 is_inside (Looks n arrival waits) = true
 is_inside (Gives n) = false
@@ -54,7 +52,6 @@ is_inside (Gives n) = false
 -- it waits for a lock, outside the guards
 abbrev pub waits_outside : Turn → Bool
 waits_outside Rests = false
-waits_outside (Stays n stay waits) = true
 waits_outside (Wants n arrival waits) = true
 waits_outside (Looks n arrival waits) = false
 waits_outside (Gives n) = false
@@ -62,7 +59,6 @@ waits_outside (Gives n) = false
 -- the same wait, which heeds cancels
 abbrev pub until_cancelled : Turn → Turn
 until_cancelled Rests = Rests
-until_cancelled (Stays n stay waits) = Stays n stay UntilCancelled
 until_cancelled (Wants n arrival waits) = Wants n arrival UntilCancelled
 until_cancelled (Looks n arrival waits) = Looks n arrival waits
 until_cancelled (Gives n) = Gives n

@@ -6,11 +6,10 @@ use Rattle.ww_plain.specs.Numbers.{is_among, AreDifferent}
 use Rattle.ww_view.specs.View.{IsAway}
 use Rattle.ww_table.specs.declared.board.Board.{Board}
 use Rattle.ww_table.specs.Seat.{locks_of, size_of}
-use Rattle.ww_seat.specs.Looks.{MayWant}
-use Rattle.ww_seat.specs.Standings.{Standing, view_in, IsAt, MayGlanceOn, MayGoIn, MayRelease}
+use Rattle.ww_seat.specs.Standings.{Standing, view_in, IsAt, MayGoIn, MayRelease}
 use Rattle.ww_seat.specs.Work.{AreWoken, HasBooked, has_joined, looks_again, ComesOutside, IsWorking}
 use Rattle.ww_steps.specs.declared.turn.Turn.{Turn}
-use Rattle.ww_steps.specs.declared.turn.Turn.TheVariants.{Rests, Stays, Wants, Looks, Gives}
+use Rattle.ww_steps.specs.declared.turn.Turn.TheVariants.{Rests, Wants, Looks, Gives}
 use Rattle.ww_steps.specs.declared.station.Station.{Station}
 use Rattle.ww_steps.specs.Situations.{Situation}
 
@@ -43,7 +42,6 @@ situation_of d = record {
 -- whom it condemned there.
 abbrev pub IsWhere : Board → List ℕ → Turn → Standing → Type 0
 IsWhere b wakes Rests s = IsAway (view_in s)
-IsWhere b wakes (Stays n stay waits) s = (n < locks_of b) × MayWant n (view_in s) × MayGlanceOn stay (view_in s)
 IsWhere b wakes (Wants n arrival waits) s = MayGoIn b n s × ComesOutside arrival (view_in s)
 IsWhere b wakes (Looks n arrival waits) s = (n < locks_of b)
     × IsWorking n (has_joined arrival) (looks_again arrival) (view_in s)

@@ -4,8 +4,8 @@ use crate::station::Station;
 use std::marker::Model;
 
 /// One thread's handle of a world of locks: its seat, and the state of its current call. Any call may be made at any
-/// time, and calls never block: each returns what became of it, and `Again`, `Awaits`, `Stays` and `Sleeps` ask for a
-/// call of `go_on`. Contracts see it as a situation.
+/// time, and calls never block: each returns what became of it, and `Again`, `Awaits` and `Sleeps` ask for a call of
+/// `go_on`. Contracts see it as a situation.
 #[derive(Drop)]
 pub struct Desk {
     pub(crate) station: Station,

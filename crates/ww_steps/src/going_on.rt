@@ -6,17 +6,17 @@ ghost use Rattle.ww_view.specs.Made.{with_heir};
 ghost use Rattle.ww_seat.specs.Work.{AreMarked, StillHasToWake};
 ghost use Rattle.ww_seat.specs.Standings.{view_in};
 ghost use Rattle.ww_steps.specs.Answers.{IsMarkTaken};
-ghost use Rattle.ww_steps.specs.declared.turn.Turn.TheVariants.{Stays, Looks, Gives};
+ghost use Rattle.ww_steps.specs.declared.turn.Turn.TheVariants.{Looks, Gives};
 ghost use Rattle.ww_steps.specs.declared.turn.Answer.TheVariants.{Done};
 
 use crate::desk::Desk;
 use crate::station::Station;
 use crate::turn::{Answer, Turn};
 use ww_queue::wide::Entry;
-use ww_seat::{Arrival, Attempt, Look, Stay, Waits, mark};
+use ww_seat::{Arrival, Attempt, Look, Waits, mark};
 
 impl Desk {
-    ghost use Rattle.ww_steps.specs.Answers.{BooksWakes, CountsNaps, IsNextAnswer, IsStayAnswer, IsGiveAnswer, IsCancelAnswer, IsHeedAnswer, IsWakeAnswer};
+    ghost use Rattle.ww_steps.specs.Answers.{BooksWakes, CountsNaps, IsNextAnswer, IsGiveAnswer, IsCancelAnswer, IsHeedAnswer, IsWakeAnswer};
 
     /// The next step of the call that is on its way. `Invalid` where none is.
     #[tactic(auto, using(crate::proofs::Account::entered_keeps, crate::proofs::Account::give_balances, crate::proofs::Account::step_books))]
@@ -27,7 +27,6 @@ impl Desk {
     {
         match self.station.turn {
             Turn::Rests => Answer::Invalid,
-            Turn::Stays(lock, stay, waits) => self.stay(lock, stay, waits),
             Turn::Wants(lock, arrival, waits) => {
                 if !self.station.seat.enter_wanted(&self.station.board, lock) {
                     return Answer::Awaits;
@@ -37,21 +36,6 @@ impl Desk {
             Turn::Looks(lock, arrival, waits) => self.station.look(lock, arrival, waits),
             Turn::Gives(lock) => self.let_go(lock),
         }
-    }
-
-    /// One spin read of a lock that it tried in vain; then it rests, or wants the lock.
-    fn stay(&mut self, lock: u32, stay: Stay, waits: Waits) -> Answer
-        requires turn { self.old.turn ≡ Stays lock stay waits }
-        ensures { IsStayAnswer self.old lock stay waits result self.new }
-    {
-        let owner = self.station.seat.glance(&self.station.board, lock);
-        let mut stay = stay;
-        let Some(rest) = stay.next(&mut self.station.memory, owner) else {
-            self.station.turn = Turn::Wants(lock, Arrival::Came, waits);
-            return Answer::Again;
-        };
-        self.station.turn = Turn::Stays(lock, stay, waits);
-        Answer::Stays(rest)
     }
 
     /// One try to go inside the guard of a lock that it releases; inside, the lock is released for certain.
@@ -104,10 +88,6 @@ impl Desk {
     {
         match self.station.turn {
             Turn::Rests => Answer::Invalid,
-            Turn::Stays(lock, stay, _) => {
-                self.station.turn = Turn::Stays(lock, stay, Waits::UntilCancelled);
-                Answer::Done
-            }
             Turn::Wants(lock, arrival, _) => {
                 self.station.turn = Turn::Wants(lock, arrival, Waits::UntilCancelled);
                 Answer::Done

@@ -11,10 +11,12 @@ mod desk;
 mod giving;
 mod going_on;
 mod opening;
+mod outlook;
 mod station;
 mod taking;
 mod turn;
 
 pub use desk::Desk;
 pub use opening::{MAX_CONTEXTS, MAX_LOCKS, OpenFault, open};
+pub use outlook::{Age, NoOutlook, Outlook};
 pub use turn::{Answer, Turn};

@@ -11,7 +11,7 @@ use crate::turn::Turn;
 use std::alloc::{AllocError, Global};
 use std::sync::Arc;
 use ww_queue::Kind;
-use ww_seat::{Memory, Seat};
+use ww_seat::Seat;
 use ww_table::{Board, Stepper};
 use ww_word::wide::MANY_SEATS;
 
@@ -116,7 +116,6 @@ fn fresh(
             told: None,
             turn: Turn::Rests,
             left,
-            memory: Memory::new(),
             wake,
         };
         all.push_reserved(Desk { station });

@@ -5,7 +5,7 @@ ghost use Rattle.std.specs.Prelude.{◌≡◌, ◌<◌, ◌≤◌, ◌+◌, true
 use crate::turn::Turn;
 use std::alloc::Global;
 use std::sync::Arc;
-use ww_seat::{Memory, Seat};
+use ww_seat::Seat;
 use ww_table::Board;
 
 /// What a desk keeps: its seat at the table that it shares with others, and where its call stands. Contracts see it as
@@ -27,15 +27,13 @@ pub(crate) struct Station {
     pub(crate) turn: Turn,
     /// How many contexts it may still begin.
     pub(crate) left: u64,
-    /// What it remembers of its first tries. No contract speaks of it.
-    pub(crate) memory: Memory,
     /// The seats to wake once it is outside the guard: a mark for each seat, 64 in a word.
     pub(crate) wake: Vec<u64>,
 }
 
 impl Station {
     ghost use Rattle.ww_steps.specs.declared.turn.Turn.TheVariants.{Gives};
-    ghost use Rattle.ww_steps.specs.Situations.{is_at_rest};
+    ghost use Rattle.ww_steps.specs.Situations.{is_at_rest, is_inside};
 
     /// Whether it is between two calls.
     #[inline(always)]
@@ -45,6 +43,16 @@ impl Station {
         match self.turn {
             Turn::Rests => true,
             _ => false,
+        }
+    }
+
+    /// Whether it is inside a guard.
+    pub(crate) fn is_inside(&self) -> bool
+        ensures { result ≡ is_inside self.now.turn }
+    {
+        match self.turn {
+            Turn::Looks(..) => true,
+            Turn::Rests | Turn::Wants(..) | Turn::Gives(_) => false,
         }
     }
 

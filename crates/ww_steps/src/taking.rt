@@ -1,14 +1,16 @@
 //! The first step of taking a lock.
 use crate::desk::Desk;
 use crate::turn::{Answer, NoTry, Turn};
-use ww_seat::{Stay, Waits};
+use ww_seat::{Arrival, Waits};
 use ww_table::{Taking, Tried};
 
 impl Desk {
     ghost use Rattle.std.specs.Prelude.{◌≡◌, ◌<◌, not, true};
     ghost use Rattle.ww_table.specs.Seat.{taking_of};
     ghost use Rattle.ww_steps.specs.Situations.{is_at_rest, is_empty, wants_now, HasReleasedAll, IsPlain};
-    ghost use Rattle.ww_steps.specs.Answers.{answer_of_none, CanNotTry, IsTryRefusal, IsTryAnswer, IsLockAnswer, IsSlowAnswer, HasJustLost, HasTriedAsIs, HasTurnedAway};
+    ghost use Rattle.ww_steps.specs.Answers.{answer_of_none, CanNotTry, IsTryRefusal, IsTryAnswer, IsLockAnswer, IsSlowAnswer, HasJustLost, HasTriedAsIs};
+    ghost use Rattle.ww_seat.specs.declared.look.Arrival.TheVariants.{Came};
+    ghost use Rattle.ww_steps.specs.declared.turn.Turn.TheVariants.{Wants};
 
     /// Why it doesn't try to take this lock. The lock's word says whether it holds it.
     #[cold]
@@ -74,7 +76,18 @@ impl Desk {
         if !self.wants() || !self.station.is_lock(lock) {
             return self.refuses(lock).answer();
         }
-        match self.try_once(lock, !self.holds_none()) {
+        self.try_wanted(lock, !self.holds_none())
+    }
+
+    /// The same while it may want a lock, by a desk that holds others or none.
+    #[inline(always)]
+    fn try_wanted(&mut self, lock: u32, holds: bool) -> Answer
+        requires wants { wants_now self.old ≡ true }
+        requires there { lock < self.old.size }
+        requires holds { holds ≡ not (is_empty self.old.held) }
+        ensures { IsTryAnswer self.old lock result self.new }
+    {
+        match self.try_once(lock, holds) {
             Taking::Took => Answer::Done,
             Taking::Had => Answer::Already,
             Taking::Missed => Answer::Busy,
@@ -109,13 +122,10 @@ impl Desk {
         ensures { IsLockAnswer self.old lock waits result self.new }
     {
         match self.try_once(lock, holds) {
-            Taking::Took => {
-                self.station.memory.win();
-                Answer::Done
-            }
+            Taking::Took => Answer::Done,
             Taking::Had => Answer::Already,
             Taking::Missed => {
-                self.stays_away(lock, waits);
+                self.goes_on_wanting(lock, waits);
                 Answer::Again
             }
         }
@@ -139,15 +149,12 @@ impl Desk {
         ensures { IsLockAnswer self.old lock waits result self.new }
     {
         match self.try_plainly(lock) {
-            Tried::Did => {
-                self.station.memory.win();
-                Answer::Done
-            }
+            Tried::Did => Answer::Done,
             Tried::InVain(found) => {
                 if found.is_own() {
                     return Answer::Already;
                 }
-                self.stays_away(lock, waits);
+                self.goes_on_wanting(lock, waits);
                 Answer::Again
             }
         }
@@ -171,13 +178,24 @@ impl Desk {
         }
     }
 
+    /// Takes a lock if nobody has it or waits for it, by a context that has released all that it held.
+    #[inline(always)]
+    pub fn try_lock_bare(&mut self, lock: u32) -> Answer
+        requires bare { HasReleasedAll self.old }
+        requires there { lock < self.old.size }
+        ensures { IsTryAnswer self.old lock result self.new }
+    {
+        self.try_wanted(lock, false)
+    }
+
     /// Further steps take this lock, which it has just tried in vain.
     #[inline(always)]
-    fn stays_away(&mut self, lock: u32, waits: Waits)
+    #[tactic(auto, using(crate::proofs::Keeping::lost_keeps))]
+    fn goes_on_wanting(&mut self, lock: u32, waits: Waits)
         requires { HasJustLost lock self.old }
-        ensures { HasTurnedAway self.old lock waits self.new }
+        ensures { self.new ≡ record self.old { turn = Wants lock Came waits } }
     {
-        self.station.turn = Turn::Stays(lock, Stay::new(self.station.count != 0), waits);
+        self.station.turn = Turn::Wants(lock, Arrival::Came, waits);
     }
 
     /// Takes the contended lock, once the context has backed off because of it. `Invalid` for any other lock, or while

@@ -1,14 +1,12 @@
 //! Where a call stands that is made in non-blocking steps, and what a step returns.
 
-use ww_seat::{Arrival, Rest, Stay, Waits};
+use ww_seat::{Arrival, Waits};
 
 /// Where a call of a desk stands.
 #[derive(Clone, Copy, Debug, PartialEq, Eq)]
 pub enum Turn {
     /// Between two calls.
     Rests,
-    /// It has just tried this lock in vain, and stays away from it: for how long at most, and how it waits then.
-    Stays(u32, Stay, Waits),
     /// Outside the guard of a lock that it wants: how it came there, and how it waits.
     Wants(u32, Arrival, Waits),
     /// Inside that guard: how it came there, and how it waits.
@@ -26,8 +24,6 @@ pub enum Answer {
     Again,
     /// It wants another step once it may go inside the guard of its lock, where another seat is.
     Awaits,
-    /// It wants another step after this rest: it stays away from a lock that it has just lost.
-    Stays(Rest),
     /// It wants another step once somebody has woken the seat.
     Sleeps,
     /// Another call is on its way; for a trylock also: somebody has the lock or waits for it.

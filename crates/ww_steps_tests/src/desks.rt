@@ -3,14 +3,8 @@ use std::alloc::{AllocError, Global};
 use std::process::Abort;
 use std::test::Fail;
 use ww_queue::Kind;
-use ww_seat::Rest;
 use ww_seat::Waits::{ToTheEnd, UntilCancelled};
-use ww_steps::{Answer, Desk, open};
-
-/// A rest that is too short to let another thread run.
-fn shortly(pauses: u32) -> Answer {
-    Answer::Stays(Rest { pauses, yields: 0 })
-}
+use ww_steps::{Age, Answer, Desk, NoOutlook, Outlook, open};
 
 /// Two desks of a world of two locks, each of which may begin two contexts.
 fn two(alloc: Global, kind: Kind) -> Result<(Desk, Desk), AllocError> {
@@ -27,7 +21,7 @@ fn turned(desk: &mut Desk, first: Answer) -> Answer {
     let mut answer = first;
     for _ in 0..100u32 {
         match answer {
-            Answer::Again | Answer::Awaits | Answer::Stays(_) => answer = desk.go_on(),
+            Answer::Again | Answer::Awaits => answer = desk.go_on(),
             _ => break,
         }
     }
@@ -135,28 +129,35 @@ fn a_desk_sees_who_is_free(rt: HostRuntime) -> Result<(), Fail> {
     Ok(())
 }
 
-/// A call rests shortly if the owner is quick, or can't be told apart, or is gone by the second spin read, and otherwise
-/// as one that waits for work. Each call looks at its lock anew.
+/// Of two contexts each sees how old the other is, and which lock is whose, also while it waits; and the younger one, once the
+/// older has wounded it, sees that. A lock that nobody has is due to whoever waits for it.
 #[test]
-fn owners_stay(rt: HostRuntime) -> Result<(), Fail> {
-    let (mut zero, mut one) = two(rt.alloc(), Kind::WoundWait)?;
-    let moment = Answer::Stays(Rest {
-        pauses: 128,
-        yields: 2,
-    });
-    assert!(rt; zero.lock(0, ToTheEnd) == Answer::Done && one.lock(0, ToTheEnd) == Answer::Again);
-    assert!(rt; one.go_on() == moment && one.go_on() == shortly(16));
-    assert!(rt; zero.unlock(0) == Answer::Done && one.go_on() == Answer::Again);
-    assert!(rt; one.go_on() == Answer::Done && one.unlock(0) == Answer::Done);
-    assert!(rt; zero.begin() == Answer::Done && zero.lock(0, ToTheEnd) == Answer::Done);
-    assert!(rt; one.lock(0, ToTheEnd) == Answer::Again && one.go_on() == moment);
-    assert!(rt; one.go_on() == shortly(8) && one.go_on() == shortly(16));
-    assert!(rt; zero.unlock(0) == Answer::Done && one.go_on() == Answer::Again);
-    assert!(rt; one.go_on() == Answer::Done && one.unlock(0) == Answer::Done);
-    assert!(rt; zero.lock(0, ToTheEnd) == Answer::Done && one.lock(0, ToTheEnd) == Answer::Again);
-    assert!(rt; one.go_on() == moment && zero.unlock(0) == Answer::Done);
-    assert!(rt; one.go_on() == shortly(16) && one.go_on() == Answer::Again);
-    assert!(rt; one.go_on() == Answer::Done && one.unlock(0) == Answer::Done);
+fn a_desk_sees_whose_a_lock_is(rt: HostRuntime) -> Result<(), Fail> {
+    for kind in [Kind::WoundWait, Kind::WaitDie] {
+        let (mut zero, mut one) = two(rt.alloc(), kind)?;
+        assert!(rt;
+            zero.outlook(0) == Ok(Outlook::Free) && zero.outlook(65) == Err(NoOutlook::NoLock)
+        );
+        assert!(rt; zero.begin() == Answer::Done && zero.lock(0, ToTheEnd) == Answer::Done);
+        assert!(rt; one.outlook(0) == Ok(Outlook::Owned(0, Age::Unknown)));
+        assert!(rt; zero.outlook(0) == Ok(Outlook::Owned(0, Age::Unknown)));
+        assert!(rt; one.begin() == Answer::Done && one.lock(1, ToTheEnd) == Answer::Done);
+        assert!(rt; one.lock(0, ToTheEnd) == Answer::Again);
+        assert!(rt; one.outlook(0) == Ok(Outlook::Owned(0, Age::Older)));
+        let answer = zero.lock(1, ToTheEnd);
+        assert!(rt; one.is_wounded() == Ok(false) && turned(&mut zero, answer) == Answer::Sleeps);
+        assert!(rt; zero.outlook(1) == Ok(Outlook::Owned(1, Age::Younger)));
+        assert!(rt;
+            zero.is_wounded() == Ok(false) && one.is_wounded() == Ok(kind == Kind::WoundWait)
+        );
+        assert!(rt; turned(&mut one, Answer::Again) == Answer::Deadlk(1));
+        let answer = one.unlock(1);
+        assert!(rt; one.is_wounded() == Ok(kind == Kind::WoundWait));
+        assert!(rt; turned(&mut one, answer) == Answer::Done && one.is_wounded() == Ok(false));
+        assert!(rt; one.outlook(1) == Ok(Outlook::Due) && zero.go_on() == Answer::Done);
+        assert!(rt; one.outlook(1) == Ok(Outlook::Owned(0, Age::Older)));
+        assert!(rt; zero.unlock(1) == Answer::Done && one.outlook(1) == Ok(Outlook::Free));
+    }
     Ok(())
 }
 

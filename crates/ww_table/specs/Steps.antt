@@ -3,6 +3,8 @@ use Rattle.std.specs.Prelude.{ℕ, ◌≡◌, ◌<◌, ◌≤◌, ◌≢◌, ◌
 use Rattle.std.specs.List.{AllByRecursion}
 use mathlib.Core.Option.{some}
 use lib.ListN.{get_elem?}
+use Rattle.ww_word.specs.declared.owner.Owner.{Owner}
+use Rattle.ww_word.specs.AnySeats.{IsValid}
 use Rattle.ww_plain.specs.declared.node.Node.{Node}
 use Rattle.ww_plain.specs.declared.history.Record.{Record}
 use Rattle.ww_plain.specs.Graph.{IsNodeOf}
@@ -125,6 +127,13 @@ pub record HasAskedIfFree (b : Board) (s : Stepper) (n : ℕ) (free : Bool) (s' 
   pub me : s'.seat.me ≡ s.seat.me
   pub word : (found : ℕ) × (free ≡ (found == 0)) × IsToldBy (view_of s) n found
   pub lacks : free ≡ true → view.owns (view_of s) n ≡ false
+
+-- it is told whose the lock was by its word, and nothing has changed
+pub record HasAskedWhose (b : Board) (s : Stepper) (o : Owner) (s' : Stepper) : Type 0 where
+  pub seat : IsSeatOf b s'
+  pub same : s' ≡ record s { seat = s'.seat }
+  pub me : s'.seat.me ≡ s.seat.me
+  pub valid : IsValid o
 
 -- ---- nodes that are out
 

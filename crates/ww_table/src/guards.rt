@@ -1,17 +1,18 @@
-//! The steps into a guard and out of it, and the reads of an owner word.
+//! The steps into a guard and out of it, and the reads of an owner word as an owner.
 
 ghost use Rattle.std.specs.Prelude.{◌≡◌, ◌<◌, ◌+◌};
 ghost use Rattle.ww_word.specs.AnySeats.{IsValid};
 ghost use Rattle.ww_view.specs.May.{MayGlance};
 ghost use Rattle.ww_invariant.specs.Guards.{glancing};
 ghost use Rattle.ww_table.specs.Seat.{IsSeatOf, locks_of, view_of};
-ghost use Rattle.ww_table.specs.Steps.{HasStepped};
+ghost use Rattle.ww_table.specs.Steps.{HasAskedWhose, HasStepped};
 ghost use Rattle.ww_table.specs.Inside.{MayBringList, MayEnterAt, MayExitAt, HasBroughtList, HasExited, HasSeen, HasTriedToEnter};
 
 use crate::board::Board;
 use crate::seat::Stepper;
 use ww_invariant::bring;
 use ww_invariant::layout::{STAMP, guard_word, list_slot, owner_word};
+use ww_invariant::plays::Whose;
 use ww_invariant::plays_inside::{Count, Enter, Exit, Glance, Look};
 use ww_word::wide::{Owner, unpack};
 
@@ -83,6 +84,20 @@ impl Stepper {
     {
         let shared = &board.table.shared;
         let word = shared.load::<Glance>(&mut self.seat, owner_word(board.locks, lock));
+        match unpack(word) {
+            Some(owner) => owner,
+            None => unreachable!(),
+        }
+    }
+
+    /// Whose a lock is, by a look at its word. Others may change the word any time.
+    pub fn whose(&mut self, board: &Board, lock: u32) -> Owner
+        requires at { IsSeatOf board.now self.old }
+        requires there { lock < locks_of board.now }
+        ensures { HasAskedWhose board.now self.old result self.new }
+    {
+        let shared = &board.table.shared;
+        let word = shared.load::<Whose>(&mut self.seat, owner_word(board.locks, lock));
         match unpack(word) {
             Some(owner) => owner,
             None => unreachable!(),

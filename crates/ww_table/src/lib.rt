@@ -16,4 +16,4 @@ mod waiting;
 
 pub use board::Board;
 pub use close::Rooms;
-pub use seat::{Found, Giving, Stepper, Taking, Tried};
+pub use seat::{Found, Giving, Seat16, Stepper, Taking, Tried};

@@ -7,7 +7,7 @@ ghost use Rattle.ww_table.specs.Made.{AreNew, HasDoneNothing, IsMade, MayCut};
 ghost use Rattle.ww_table.specs.Seat.{stamp_step};
 
 use crate::board::Board;
-use crate::seat::{Stepper, own_word};
+use crate::seat::{Seat16, Stepper, own_word};
 use arrayvec::ArrayVec;
 use atomic_table::Table;
 use std::alloc::{AllocError, Global};
@@ -29,7 +29,7 @@ impl Board {
         graph: Graph,
         locks: u32,
         seats: u16,
-    ) -> Result<(Board, Vec<Stepper>), (Graph, AllocError)>
+    ) -> Result<(Board, Vec<Seat16>), (Graph, AllocError)>
         requires locks { (length graph ≤ locks) × (locks ≤ 64) }
         requires seats { (1 ≤ seats) × (seats < 4096) }
         ensures ok { IfOk result (λ r. IsMade kind graph locks seats r.0 r.1.items) }
@@ -47,7 +47,7 @@ impl Board {
         kind: Kind,
         locks: u32,
         seats: u16,
-    ) -> Result<(Board, Vec<Stepper>), AllocError>
+    ) -> Result<(Board, Vec<Seat16>), AllocError>
         requires locks { locks ≤ 16777216 }
         requires seats { (1 ≤ seats) × (seats < 4096) }
         ensures { IfOk result (λ r. IsMade kind [] locks seats r.0 r.1.items) }

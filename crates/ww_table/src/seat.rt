@@ -50,6 +50,9 @@ pub struct Stepper {
     pub(crate) page: Option<Page>,
 }
 
+/// The name under which a board gives its seats, and takes them back.
+pub type Seat16 = Stepper;
+
 /// The outcome of a try to take a lock by one step.
 #[derive(Clone, Copy, Debug, PartialEq, Eq)]
 pub enum Taking {

@@ -38,6 +38,11 @@ abbrev pub OwnsIsNoEvent : Type 0
 OwnsIsNoEvent = (key : Start) (s : St) (r : Ruled key s) (id : ℕ) (me : Sat) (n : ℕ) → StepsAt s id me →
     Stays key s r (once_read s (owner_at key.locks n) id me me.0)
 
+-- a look whose a lock is
+abbrev pub WhoseIsNoEvent : Type 0
+WhoseIsNoEvent = (key : Start) (s : St) (r : Ruled key s) (id : ℕ) (me : Sat) (n : ℕ) → StepsAt s id me →
+    Stays key s r (once_read s (owner_at key.locks n) id me me.0)
+
 -- a spin read of the stamp word
 abbrev pub CountIsNoEvent : Type 0
 CountIsNoEvent = (key : Start) (s : St) (r : Ruled key s) (id : ℕ) (me : Sat) → StepsAt s id me →

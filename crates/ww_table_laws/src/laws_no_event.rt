@@ -1,7 +1,7 @@
 //! Laws of what is no event of the core: each function's contract is one. A step's own call rests on the lemma that its
 //! law does.
 
-ghost use Rattle.ww_table_laws.specs.NoEvents.{LookIsNoEvent, GlanceIsNoEvent, OwnsIsNoEvent, CountIsNoEvent, OwnSignIsNoEvent, LostIsNoEvent, LostSignIsNoEvent, SplitIsNoEvent, JoinIsNoEvent};
+ghost use Rattle.ww_table_laws.specs.NoEvents.{LookIsNoEvent, GlanceIsNoEvent, OwnsIsNoEvent, WhoseIsNoEvent, CountIsNoEvent, OwnSignIsNoEvent, LostIsNoEvent, LostSignIsNoEvent, SplitIsNoEvent, JoinIsNoEvent};
 
 /// A look at an owner word leaves core and commits as they are.
 #[tactic(auto, using(crate::proofs::NoEvents::look_stays))]
@@ -19,6 +19,12 @@ pub fn glance_is_no_event()
 #[tactic(auto, using(crate::proofs::NoEvents::owns_stays))]
 pub fn owns_is_no_event()
     ensures { OwnsIsNoEvent }
+{}
+
+/// So does a look whose one is.
+#[tactic(auto, using(crate::proofs::NoEvents::owns_stays))]
+pub fn whose_is_no_event()
+    ensures { WhoseIsNoEvent }
 {}
 
 /// So does a spin read of the stamp word.

@@ -6,7 +6,6 @@ ghost use Rattle.ww_lock.specs.Holding.{IsAtHome};
 use crate::locks::closed;
 use std::alloc::{AllocError, Global};
 use std::error::Error;
-use std::process::Abort;
 use std::sync::Wait;
 use std::test::Fail;
 use ww_lock::{CloseFault, OpenFault, Pass, Receipt, World};
@@ -36,25 +35,13 @@ fn levelled<R: Wait>(
     })
 }
 
-/// The fault of a change that was refused, and the pass that came back.
-fn refused<R: Abort>(rt: &R, answer: (Pass, Result<Receipt, ChangeFault>)) -> (Pass, ChangeFault)
-    ensures { answer.0 ≡ result.0 }
-{
-    match answer {
-        (pass, Err(fault)) => (pass, fault),
-        (_, Ok(_)) => panic!(rt; "it was changed"),
-    }
-}
-
 #[test]
 fn what_is_decided_is_committed(rt: HostRuntime) -> Result<(), Fail> {
     let alloc = rt.alloc();
-    let (world, pass) = one_pass(alloc, Kind::WoundWait, chain(alloc, [5, 2, 3])?, 3)?;
+    let (world, pass) = one_pass(alloc, Kind::WoundWait, chain(alloc, [5, 2, 3])?, 2)?;
     assert!(rt; world.size() == 3);
     let (pass, told) = levelled(&rt, &world, pass, 0, 1);
     assert!(rt; told.is_ok_and(|receipt| receipt.seq == 0 && receipt.reply == Reply::Moved));
-    let (pass, fault) = refused(&rt, levelled(&rt, &world, pass, 0, 1));
-    assert!(rt; fault == ChangeFault::Declined && pass.left() == 1);
     let answer = change(&rt, &world, pass, &[2, 1, 0], |values| {
         let amount = values[1].wrapping_add(values[2]).wrapping_sub(values[0]);
         add(alloc, By::List, &[(2, amount)]).ok()
@@ -63,26 +50,6 @@ fn what_is_decided_is_committed(rt: HostRuntime) -> Result<(), Fail> {
     let history = closed(&rt, world, vec![in alloc; answer.0]?);
     assert!(rt; history.records.len() == 2);
     assert!(rt; history.graph.is_same(&chain(alloc, [2, 5, 7])?));
-    Ok(())
-}
-
-#[test]
-fn a_change_is_refused(rt: HostRuntime) -> Result<(), Fail> {
-    let alloc = rt.alloc();
-    let (world, pass) = one_pass(alloc, Kind::WaitDie, chain(alloc, [1, 2, 3])?, 3)?;
-    assert!(rt; world.size() == 3);
-    let (pass, fault) = refused(&rt, levelled(&rt, &world, pass, 1, 1));
-    assert!(rt; fault == ChangeFault::Already(1));
-    let answer = change(&rt, &world, pass, &[0], |_| Some(Txn::Peek(1)));
-    let (pass, fault) = refused(&rt, answer);
-    assert!(rt; fault == ChangeFault::NotServed(Txn::Peek(1)));
-    let answer = change(&rt, &world, pass, &[0], |_| Some(Txn::Peek(200)));
-    let (pass, fault) = refused(&rt, answer);
-    assert!(rt; fault == ChangeFault::NotServed(Txn::Peek(200)));
-    let (pass, fault) = refused(&rt, levelled(&rt, &world, pass, 0, 1));
-    assert!(rt; fault == ChangeFault::PassSpent);
-    let history = closed(&rt, world, vec![in alloc; pass]?);
-    assert!(rt; history.records.is_empty());
     Ok(())
 }
 

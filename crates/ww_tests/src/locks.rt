@@ -8,12 +8,10 @@ use std::alloc::{AllocError, Global};
 use std::process::Abort;
 use std::sync::Wait;
 use std::test::Fail;
-use ww_lock::{
-    Acquiring, Backoff, CloseFault, History, Lock, OpenFault, Pass, Receipt, Try, World,
-};
-use ww_plain::{By, Graph, Node, PORTS, Reply, Txn};
+use ww_lock::{Acquiring, Backoff, CloseFault, History, Lock, OpenFault, Pass, Try, World};
+use ww_plain::{Graph, Node, PORTS};
 use ww_queue::Kind;
-use ww_test_parts::{KINDS, chain, ended, graph_of, is_possible_alone, node, one_pass};
+use ww_test_parts::{KINDS, ended, graph_of, node};
 
 /// A world of these nodes, with two passes, each of which may begin once.
 fn two_passes(
@@ -147,16 +145,13 @@ pub(crate) fn full_graph(alloc: Global) -> Result<Graph, AllocError> {
 }
 
 #[test]
-fn bad_sizes_give_the_graph_back(rt: HostRuntime) -> Result<(), Fail> {
+fn seventeen_passes_are_too_many(rt: HostRuntime) -> Result<(), Fail> {
     let alloc = rt.alloc();
-    for (passes, budget) in [(17, 1), (0, 1), (1, 0)] {
-        let (graph, fault) = World::open(alloc, Kind::WaitDie, full_graph(alloc)?, passes, budget)
-            .err()
-            .ok_or("a bad size")?;
-        assert_eq!(rt; fault, OpenFault::BadSize);
-        assert_eq!(rt; fault.number(), 1);
-        assert!(rt; graph.is_same(&full_graph(alloc)?));
-    }
+    let (graph, fault) = World::open(alloc, Kind::WaitDie, full_graph(alloc)?, 17, 1)
+        .err()
+        .ok_or("a bad size")?;
+    assert_eq!(rt; (fault, fault.number()), (OpenFault::BadSize, 1));
+    assert!(rt; graph.is_same(&full_graph(alloc)?));
     Ok(())
 }
 
@@ -228,21 +223,22 @@ fn closes_with_all<R: Abort>(rt: &R, alloc: Global, kind: Kind, count: u8) -> Re
 }
 
 #[test]
-fn full_world_closes_with_all_its_passes(rt: HostRuntime) -> Result<(), Fail> {
+fn worlds_close_with_all_their_passes(rt: HostRuntime) -> Result<(), Fail> {
     for kind in KINDS {
+        closes_with_all(&rt, rt.alloc(), kind, 2)?;
         closes_with_all(&rt, rt.alloc(), kind, 16)?;
     }
     Ok(())
 }
 
-#[test]
-fn world_of_two_closes_with_both(rt: HostRuntime) -> Result<(), Fail> {
-    for kind in KINDS {
-        closes_with_all(&rt, rt.alloc(), kind, 2)?;
-    }
-    Ok(())
+/// How often a pass lost a try, looked, slept and backed off.
+fn waits_of(pass: &Pass) -> (u64, u64, u64, u64) {
+    let waited = pass.waited();
+    (waited.lost, waited.looks, waited.sleeps, waited.back_offs)
 }
 
+/// The younger one loses its try for a lock, and gets EDEADLK in its only look. The older one took its lock at once, and
+/// didn't wait.
 #[test]
 fn younger_holder_backs_off(rt: HostRuntime) -> Result<(), Fail> {
     let (world, zero, one) = two_passes(rt.alloc(), Kind::WaitDie, &[(7, None), (8, None)])?;
@@ -252,160 +248,51 @@ fn younger_holder_backs_off(rt: HostRuntime) -> Result<(), Fail> {
     let one = refused(&rt, &world, one, 0);
     assert_eq!(rt; (one.contended(), one.met()), (0, 1));
     let one = one.unlock_all(&rt, &world);
-    ended(&rt, &world, zero);
+    let zero = ended(&rt, &world, zero);
     let one = one.lock_slow(&rt, &world);
     assert_eq!(rt; one.stamp(), 2);
     assert_eq!(rt; (one.held(0), one.held(1)), (true, false));
-    ended(&rt, &world, one);
-    Ok(())
-}
-
-/// A pass that took its lock at once didn't wait. The younger one lost its try for that lock, and got EDEADLK in its
-/// only look.
-#[test]
-fn each_pass_tells_how_it_waited(rt: HostRuntime) -> Result<(), Fail> {
-    let (world, zero, one) = two_passes(rt.alloc(), Kind::WaitDie, &[(7, None), (8, None)])?;
-    assert!(rt; world.size() == 2);
-    let zero = locked(&rt, &world, begun(&rt, &world, zero), 0, 0);
-    let one = locked(&rt, &world, begun(&rt, &world, one), 1, 0);
-    let one = refused(&rt, &world, one, 0).unlock_all(&rt, &world);
-    let (zero, one) = (ended(&rt, &world, zero), one.fini(&world));
-    let waited = zero.waited();
-    assert_eq!(rt;
-        (waited.lost, waited.looks, waited.sleeps, waited.back_offs),
-        (0, 0, 0, 0)
-    );
-    let waited = one.waited();
-    assert_eq!(rt;
-        (waited.lost, waited.looks, waited.sleeps, waited.back_offs),
-        (1, 1, 0, 1)
-    );
+    let one = ended(&rt, &world, one);
+    assert_eq!(rt; waits_of(&zero), (0, 0, 0, 0));
+    assert_eq!(rt; waits_of(&one), (1, 1, 0, 1));
     Ok(())
 }
 
 /// Pass 1 takes node 1, and then begins anew with node 0: its stamp is what it was, and node 1 is free again.
-fn started_over<R: Wait + Abort>(rt: &R, alloc: Global, kind: Kind) -> Result<(), Fail> {
-    let (world, zero, one) = two_passes(alloc, kind, &[(7, None), (8, None)])?;
-    assert!(rt; world.size() == 2);
-    let zero = begun(rt, &world, zero);
-    let one = locked(rt, &world, begun(rt, &world, one), 1, 0);
-    let one = one.start_over(rt, &world, 0);
-    assert_eq!(rt; one.stamp(), 2);
-    assert_eq!(rt; (one.held(0), one.held(1)), (true, false));
-    let zero = tried(rt, &world, zero, 1, false);
-    ended(rt, &world, zero);
-    let one = locked(rt, &world, one, 1, 0);
-    ended(rt, &world, one);
-    Ok(())
-}
-
 #[test]
 fn starting_over_keeps_the_stamp(rt: HostRuntime) -> Result<(), Fail> {
-    for kind in KINDS {
-        started_over(&rt, rt.alloc(), kind)?;
-    }
+    let (world, zero, one) = two_passes(rt.alloc(), Kind::WoundWait, &[(7, None), (8, None)])?;
+    assert!(rt; world.size() == 2);
+    let zero = begun(&rt, &world, zero);
+    let one = locked(&rt, &world, begun(&rt, &world, one), 1, 0);
+    let one = one.start_over(&rt, &world, 0);
+    assert_eq!(rt; one.stamp(), 2);
+    assert_eq!(rt; (one.held(0), one.held(1)), (true, false));
+    let zero = tried(&rt, &world, zero, 1, false);
+    ended(&rt, &world, zero);
+    ended(&rt, &world, one);
     Ok(())
 }
 
-/// Commits a transaction on one node without a context.
-fn committed_alone<R: Wait + Abort>(
-    rt: &R,
-    world: &World,
-    pass: Pass,
-    n: u8,
-    txn: Txn,
-) -> (Pass, Receipt)
-    requires home { IsAtHome pass world.now }
-    requires node { n < length world.now.first }
-    ensures home { IsAtHome result.0 world.now }
-{
-    let Ok(mut solo) = pass.lock_solo(rt, world, n) else {
-        panic!(rt; "the pass is spent")
-    };
-    assert!(rt; is_possible_alone(world, &solo, &txn));
-    let Ok(prepared) = solo.prepare(world, txn) else {
-        panic!(rt; "no memory")
-    };
-    assert!(rt; solo.made(&prepared));
-    let (done, receipt) = solo.commit(world, prepared);
-    (done.unlock(rt, world), receipt)
-}
-
+/// Each pass may begin once, and does: with a context, or with a lock of its own.
 #[test]
 fn spent_pass_comes_back(rt: HostRuntime) -> Result<(), Fail> {
     let (world, zero, one) = two_passes(rt.alloc(), Kind::WoundWait, &[(7, None)])?;
     assert!(rt; world.size() == 1);
-    assert_eq!(rt; (zero.left(), one.left()), (1, 1));
     let zero = ended(&rt, &world, begun(&rt, &world, zero));
-    assert_eq!(rt; (zero.left(), one.left()), (0, 1));
     let zero = match zero.begin(&world) {
         Ok(_acquiring) => panic!(rt; "it had nothing left"),
         Err(zero) => zero,
     };
-    let zero = match zero.lock_solo(&rt, &world, 0) {
-        Ok(_solo) => panic!(rt; "it had nothing left"),
-        Err(zero) => zero,
-    };
     assert_eq!(rt; (zero.caller(), zero.left()), (0, 0));
-    Ok(())
-}
-
-#[test]
-fn one_solo_spends_a_pass(rt: HostRuntime) -> Result<(), Fail> {
-    let (world, zero, _one) = two_passes(rt.alloc(), Kind::WaitDie, &[(7, None)])?;
-    assert!(rt; world.size() == 1);
-    let zero = match zero.lock_solo(&rt, &world, 0) {
+    let one = match one.lock_solo(&rt, &world, 0) {
         Ok(solo) => solo.unlock(&rt, &world),
-        Err(_zero) => panic!(rt; "it had one left"),
+        Err(_one) => panic!(rt; "it had one left"),
     };
-    let zero = match zero.lock_solo(&rt, &world, 0) {
+    let one = match one.lock_solo(&rt, &world, 0) {
         Ok(_solo) => panic!(rt; "it had nothing left"),
-        Err(zero) => zero,
+        Err(one) => one,
     };
-    assert_eq!(rt; (zero.caller(), zero.left()), (0, 0));
-    Ok(())
-}
-
-fn peeked<R: Wait + Abort>(rt: &R, alloc: Global, kind: Kind) -> Result<(), Fail> {
-    let (world, zero, _one) = two_passes(alloc, kind, &[(0, None), (9, None)])?;
-    assert!(rt; world.size() == 2);
-    let (_zero, told) = committed_alone(rt, &world, zero, 1, Txn::Peek(1));
-    assert!(rt; told.place == 0 && told.seq == 0);
-    assert!(rt;
-        matches!(&told.reply, Reply::Values(values) if values.as_slice() == [9].as_slice())
-    );
-    Ok(())
-}
-
-#[test]
-fn solo_peeks(rt: HostRuntime) -> Result<(), Fail> {
-    for kind in KINDS {
-        peeked(&rt, rt.alloc(), kind)?;
-    }
-    Ok(())
-}
-
-fn written_and_read<R: Wait + Abort>(rt: &R, alloc: Global, kind: Kind) -> Result<(), Fail> {
-    let (world, zero, one) = two_passes(alloc, kind, &[(5, None)])?;
-    assert!(rt; world.size() == 1);
-    let add = Txn::Add(By::List, [(0, 7)].to_vec(alloc)?);
-    let (zero, _) = committed_alone(rt, &world, zero, 0, add);
-    let get = Txn::Get(By::Order, [0].to_vec(alloc)?);
-    let (one, told) = committed_alone(rt, &world, one, 0, get);
-    assert!(rt; told.place == 1 && told.seq == 0);
-    assert!(rt;
-        matches!(&told.reply, Reply::Values(values) if values.as_slice() == [12].as_slice())
-    );
-    let history = closed(rt, world, vec![in alloc; zero, one]?);
-    assert!(rt; history.records.len() == 2);
-    assert!(rt; history.graph.is_same(&graph_of(alloc, &[(12, None)])?));
-    Ok(())
-}
-
-#[test]
-fn later_get_reads_what_was_written(rt: HostRuntime) -> Result<(), Fail> {
-    for kind in KINDS {
-        written_and_read(&rt, rt.alloc(), kind)?;
-    }
+    assert_eq!(rt; (one.caller(), one.left()), (1, 0));
     Ok(())
 }

@@ -1,5 +1,5 @@
-//! Transactions, each in one call: what their contracts leave open, which is that they succeed where nothing is
-//! against it, and when the gate is called.
+//! Transactions, each in one call: what their contracts leave open, which is that one is made where there is memory, and
+//! when the gate is called. Each kind of them is made in the program's cases.
 
 ghost use Rattle.std.specs.Prelude.{◌≡◌};
 ghost use Rattle.ww_lock.specs.Holding.{IsAtHome};
@@ -10,10 +10,10 @@ use std::cell::{Cell, RefCell};
 use std::process::Abort;
 use std::sync::Wait;
 use std::test::Fail;
-use ww_lock::{Pass, Receipt, Try, Waits, World};
+use ww_lock::{Pass, Receipt, Waits, World};
 use ww_plain::{By, Reply, Txn};
 use ww_queue::Kind;
-use ww_test_parts::{KINDS, add, chain, graph_of, one_pass, tries};
+use ww_test_parts::{KINDS, add, graph_of, one_pass, tries};
 use ww_txn::{Gate, Open, TxnFault, transact, transact_interruptible};
 
 /// Asks for a transaction.
@@ -116,82 +116,6 @@ fn spent<R: Wait + Abort>(rt: &R, alloc: Global, kind: Kind) -> Result<(), Fail>
 fn a_spent_pass_makes_nothing_more(rt: HostRuntime) -> Result<(), Fail> {
     for kind in KINDS {
         spent(&rt, rt.alloc(), kind)?;
-    }
-    Ok(())
-}
-
-/// Each kind of transaction, by both ways where it may name one, and what it is answered when they are made in this
-/// order.
-fn all_kinds(alloc: Global) -> Result<Vec<(Txn, Reply)>, AllocError> {
-    Ok(vec![in alloc;
-        (get(alloc, By::List, &[2, 0])?, values(alloc, &[3, 1])?),
-        (get(alloc, By::Order, &[1])?, values(alloc, &[2])?),
-        (add(alloc, By::List, &[(0, 5)])?, Reply::Done),
-        (add(alloc, By::Order, &[(1, 1), (0, 1)])?, Reply::Done),
-        (Txn::Move(0, 2, 4), Reply::Moved),
-        (Txn::Link(2, 0, Some(2)), Reply::Was(None)),
-        (Txn::Link(2, 0, None), Reply::Was(Some(2))),
-        (Txn::Link(2, 0, Some(0)), Reply::Was(None)),
-        (Txn::Sum(0, 0, 64), Reply::Sum(3, 13)),
-        (Txn::Reverse(0, 0, 64), Reply::End(2)),
-        (Txn::Peek(1), values(alloc, &[3])?),
-    ]?)
-}
-
-/// Makes transactions one after another, the first of the world, which must be answered so.
-fn made_in_turn<R: Wait + Abort>(
-    rt: &R,
-    world: &World,
-    mut pass: Pass,
-    all: Vec<(Txn, Reply)>,
-) -> Pass
-    requires home { IsAtHome pass world.now }
-    ensures home { IsAtHome result world.now }
-{
-    for (txn, reply) in all {
-        let (next, told) = asked(rt, world, pass, &Open, txn);
-        match told {
-            Ok(told) => assert!(rt; told.reply == reply && told.place == told.seq),
-            Err(fault) => panic!(rt; "{fault:?}"),
-        }
-        pass = next;
-    }
-    pass
-}
-
-#[test]
-fn each_kind_is_made(rt: HostRuntime) -> Result<(), Fail> {
-    let alloc = rt.alloc();
-    let (world, pass) = one_pass(alloc, Kind::WoundWait, chain(alloc, [1, 2, 3])?, 11)?;
-    let pass = made_in_turn(&rt, &world, pass, all_kinds(alloc)?);
-    assert!(rt; pass.left() == 0 && pass.commits() == 11);
-    let history = closed(&rt, world, vec![in alloc; pass]?);
-    assert!(rt; history.records.len() == 11);
-    let last = [(3, Some(0)), (3, Some(0)), (7, Some(1))];
-    assert!(rt; history.graph.is_same(&graph_of(alloc, &last)?));
-    Ok(())
-}
-
-fn doubled<R: Wait + Abort>(rt: &R, alloc: Global, kind: Kind) -> Result<(), Fail> {
-    let nodes = [(5, None), (6, None)];
-    let (world, pass) = one_pass(alloc, kind, graph_of(alloc, &nodes)?, 3)?;
-    let (pass, of_get) = asked(rt, &world, pass, &Open, get(alloc, By::List, &[0, 1, 0])?);
-    let amounts = [(0, 1), (1, 1), (1, 2), (0, 3)];
-    let (pass, of_add) = asked(rt, &world, pass, &Open, add(alloc, By::Order, &amounts)?);
-    let (pass, of_move) = asked(rt, &world, pass, &Open, Txn::Move(1, 1, 4));
-    assert!(rt; of_get.err() == Some(TxnFault::Already(0)) && TxnFault::Already(0).number() == 9);
-    assert!(rt; of_add.err() == Some(TxnFault::Already(1)));
-    assert!(rt; of_move.err() == Some(TxnFault::Already(1)));
-    let history = closed(rt, world, vec![in alloc; pass]?);
-    assert!(rt; history.records.is_empty());
-    assert!(rt; history.graph.is_same(&graph_of(alloc, &nodes)?));
-    Ok(())
-}
-
-#[test]
-fn a_double_is_refused(rt: HostRuntime) -> Result<(), Fail> {
-    for kind in KINDS {
-        doubled(&rt, rt.alloc(), kind)?;
     }
     Ok(())
 }

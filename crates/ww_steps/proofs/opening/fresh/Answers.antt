@@ -55,7 +55,6 @@ loop-seat-preserved c =
       told = None;
       turn = Rests;
       left = c.args.left;
-      memory = c.new-in-loop-seat.result;
       wake = c.in_ok-wake.wake;
     } in
     let f : IsFirst b (length c.loop-seat.yielded) c.in-Some.seat h = record {

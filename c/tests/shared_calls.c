@@ -1,0 +1,384 @@
+/*
+ * Shared mutexes: what each call of ww_shared.h returns, how they mix with those of ww_mutex.h, what ends a wait of a reader or a
+ * writer, which context gets -EDEADLK, and what a loop does after it.  Compiled with -DWW_DEBUG: which calls the debug library reports.
+ */
+#include "mutex_test.h"
+#include "../ww_shared.h"
+
+static DEFINE_WW_CLASS(wound_wait);
+static DEFINE_WD_CLASS(wait_die);
+static struct ww_class *c;
+static struct ww_shared_mutex m, n;
+static struct ww_mutex plain;
+static struct ww_acquire_ctx x, y; /* x is older */
+static const struct timespec past = { 0, 0 };
+
+/* So that the debug library makes nothing up. */
+static void begins(struct ww_acquire_ctx *ctx)
+{
+	ww_acquire_init(ctx, c);
+	ctx->deadlock_inject_countdown = ~0u;
+}
+
+static void begin_both(void)
+{
+	begins(&x);
+	begins(&y);
+}
+
+static void end_both(void)
+{
+	MUST(!x.acquired && !y.acquired);
+	ww_acquire_fini(&y);
+	ww_acquire_fini(&x);
+}
+
+static int reads(struct ww_shared_mutex *it, struct ww_acquire_ctx *by) { return ww_shared_mutex_lock_shared(it, by); }
+static int writes(struct ww_shared_mutex *it, struct ww_acquire_ctx *by) { return ww_shared_mutex_lock(it, by); }
+static void unlocks(struct ww_shared_mutex *it, struct ww_acquire_ctx *by) { MUST(!ww_shared_mutex_unlock(it, by)); }
+
+/* How many calls the debug library has reported, in its own build. */
+static unsigned long faults(void)
+{
+#ifdef WW_DEBUG
+	return ww_debug_faults();
+#else
+	return 0;
+#endif
+}
+enum {
+#ifdef WW_DEBUG
+	TOLD = 1,
+#else
+	TOLD = 0,
+#endif
+};
+
+/* What `by` can have now. */
+static bool can_read(struct ww_shared_mutex *it, struct ww_acquire_ctx *by)
+{
+	bool can = ww_shared_mutex_trylock_shared(it, by);
+
+	if (can)
+		unlocks(it, by);
+	return can;
+}
+
+static bool can_write(struct ww_shared_mutex *it, struct ww_acquire_ctx *by)
+{
+	bool can = ww_shared_mutex_trylock(it, by);
+
+	if (can)
+		unlocks(it, by);
+	return can;
+}
+
+/* ---- by hand ---- */
+
+static void read_beside_each_other(void)
+{
+	begin_both();
+	MUST(!reads(&m, &x) && !reads(&m, &y) && !reads(&n, &x));
+	MUST(ww_shared_mutex_is_read_by(&m, &x) && ww_shared_mutex_is_read_by(&m, &y) && !ww_shared_mutex_is_read_by(&n, &y));
+	MUST(x.acquired == 1 && !ww_shared_mutex_is_written_by(&m, &x));
+	MUST(!can_write(&m, &x) && !can_write(&m, &y) && can_write(&n, &x) && !can_write(&n, &y));
+	unlocks(&m, &y);
+	MUST(can_write(&m, &x));
+	unlocks(&m, &x);
+	MUST(!can_write(&m, &y) && x.acquired == 1); /* reads end together */
+	unlocks(&n, &x);
+	MUST(can_write(&m, &y) && can_write(&n, &y));
+	end_both();
+}
+
+static void each_read_has_an_unlock(void)
+{
+	unsigned long before = faults();
+
+	begin_both();
+	MUST(!reads(&m, &x) && !reads(&m, &x) && can_read(&m, &x));
+	unlocks(&m, &x);
+	MUST(!can_write(&m, &y));
+	unlocks(&m, &x);
+	MUST(can_write(&m, &y) && ww_shared_mutex_unlock(&m, &x) == -EINVAL && ww_shared_mutex_unlock(&n, &x) == -EINVAL);
+	MUST(faults() == before + 2 * TOLD);
+	end_both();
+}
+
+static void write_alone(void)
+{
+	begin_both();
+	MUST(!writes(&m, &x) && writes(&m, &x) == -EALREADY && ww_shared_mutex_is_written_by(&m, &x));
+	MUST(!can_read(&m, &y) && !can_write(&m, &y) && ww_shared_mutex_lock_shared_until(&m, &y, &past) == -ETIMEDOUT);
+	MUST(ww_shared_mutex_lock_until(&m, &y, &past) == -ETIMEDOUT && !y.acquired);
+	MUST(!reads(&m, &x)); /* what it writes it may read, and goes on reading */
+	unlocks(&m, &x);
+	MUST(ww_shared_mutex_is_read_by(&m, &x) && can_read(&m, &y) && !can_write(&m, &y));
+	unlocks(&m, &x);
+	end_both();
+}
+
+static void upgrades(void)
+{
+	begin_both();
+	MUST(!reads(&m, &x) && !reads(&m, &y));
+	MUST(ww_shared_mutex_lock_until(&m, &x, &past) == -ETIMEDOUT && ww_shared_mutex_is_read_by(&m, &x) && can_read(&m, &y));
+	unlocks(&m, &y);
+	MUST(!writes(&m, &x) && !can_read(&m, &y));
+	unlocks(&m, &x);
+	MUST(can_read(&m, &y) && !can_write(&m, &y));
+	unlocks(&m, &x);
+	MUST(can_write(&m, &y));
+	end_both();
+}
+
+static void downgrades(void)
+{
+	unsigned long before = faults();
+
+	begin_both();
+	MUST(!writes(&m, &x));
+	ww_acquire_done(&x);
+	ww_shared_mutex_downgrade(&m, &x);
+	MUST(ww_shared_mutex_is_read_by(&m, &x) && !ww_shared_mutex_is_written_by(&m, &x) && can_read(&m, &y) && !can_write(&m, &y));
+	unlocks(&m, &x);
+	MUST(can_write(&m, &y) && faults() == before);
+	end_both();
+}
+
+static void stay_while_used(void)
+{
+	unsigned long before = faults();
+
+	begin_both();
+	MUST(!reads(&m, &x) && ww_shared_mutex_destroy(&m) == -EBUSY && faults() == before + TOLD && !ww_shared_mutex_destroy(&n));
+	ww_shared_mutex_init(&n, c);
+	unlocks(&m, &x);
+	MUST(!reads(&n, &x) && !ww_shared_mutex_destroy(&m)); /* what it read before doesn't matter */
+	unlocks(&n, &x);
+	ww_shared_mutex_init(&m, c);
+	MUST(!writes(&m, &x) && ww_shared_mutex_destroy(&m) == -EBUSY);
+	unlocks(&m, &x);
+	end_both();
+	MUST(!ww_shared_mutex_destroy(&m) && ww_shared_mutex_destroy(&m) == -EINVAL);
+	m = (struct ww_shared_mutex)WW_SHARED_MUTEX_INIT(c);
+	MUST(ww_shared_mutex_size() == sizeof m);
+}
+
+static void refuse_misuse(void)
+{
+	static const struct timespec none = { 0, -1 };
+	static DEFINE_WW_CLASS(other);
+	struct ww_acquire_ctx of_other;
+
+	begin_both();
+	ww_acquire_init(&of_other, &other);
+	MUST(reads(&m, NULL) == -EINVAL && writes(&m, NULL) == -EINVAL && !ww_shared_mutex_trylock_shared(&m, NULL));
+	MUST(reads(&m, &of_other) == -EINVAL && writes(&m, &of_other) == -EINVAL);
+	MUST(ww_shared_mutex_lock_shared_until(&m, &x, &none) == -EINVAL && ww_shared_mutex_lock_until(&m, &x, &none) == -EINVAL);
+	ww_acquire_fini(&of_other);
+	MUST(!ww_class_free(&other));
+	end_both();
+	MUST(reads(&m, &x) == -EINVAL && writes(&m, &x) == -EINVAL && !ww_shared_mutex_is_read_by(&m, &x));
+}
+
+static void end_by_a_cancel(void)
+{
+	begin_both();
+	MUST(!writes(&m, &x) && !reads(&n, &x));
+	MUST(!ww_acquire_cancel(&y) && ww_shared_mutex_lock_shared_until(&m, &y, NULL) == -EINTR);
+	MUST(!ww_acquire_cancel(&y) && ww_shared_mutex_lock_until(&n, &y, NULL) == -EINTR);
+	ww_acquire_flags(&y, WW_INTERRUPTIBLE);
+	MUST(!ww_acquire_cancel(&y) && reads(&m, &y) == -EINTR && !y.acquired);
+	MUST(!ww_acquire_cancel(&y) && writes(&n, &y) == -EINTR && !y.acquired);
+	unlocks(&m, &x);
+	unlocks(&n, &x);
+	end_both();
+}
+
+/* ---- -EDEADLK ---- */
+
+static uint32_t both_read;
+
+/* The younger one gives way, whichever comes first. */
+static void *upgrade(void *arg)
+{
+	struct ww_acquire_ctx *ctx = arg;
+	int r;
+
+	MUST(!reads(&m, ctx));
+	__atomic_fetch_add(&both_read, 1, __ATOMIC_SEQ_CST);
+	while (__atomic_load_n(&both_read, __ATOMIC_SEQ_CST) < 2)
+		sched_yield();
+	r = writes(&m, ctx);
+	MUST(r == (ctx == &y ? -EDEADLK : 0) && ww_shared_mutex_is_read_by(&m, ctx));
+	if (!r)
+		unlocks(&m, ctx);
+	unlocks(&m, ctx);
+	if (r)
+		MUST(!ww_shared_mutex_await(ctx, NULL) && !writes(&m, ctx) && !ww_shared_mutex_unlock(&m, ctx));
+	return NULL;
+}
+
+static void one_of_two_upgrades_gives_way(void)
+{
+	pthread_t thread;
+
+	both_read = 0;
+	begin_both();
+	thread = begin_thread(upgrade, &y);
+	upgrade(&x);
+	end_thread(thread);
+	end_both();
+}
+
+/* By Wait-Die a younger context gets it at once. */
+static void a_loop_goes_on_after_a_writer(void)
+{
+	begin_both();
+	MUST(!writes(&m, &x));
+	ww_until_all_locked(&y) {
+		MUST(!reads(&n, &y) && !ww_mutex_lock(&plain, &y));
+		if (!ww_shared_mutex_is_written_by(&m, &x)) {
+			MUST(!reads(&m, &y) && y.acquired == 2);
+			break;
+		}
+		MUST(reads(&m, &y) == -EDEADLK && ww_is_contended(&y) && ww_shared_mutex_is_read_by(&n, &y));
+		MUST(reads(&n, &y) == -EINVAL && !ww_shared_mutex_trylock_shared(&n, &y) && writes(&n, &y) == -EINVAL);
+		unlocks(&m, &x);
+		ww_retry_on_contention(&y);
+	}
+	MUST(can_read(&m, &x) && !can_write(&n, &x));
+	ww_acquire_unlock_all(&y);
+	MUST(can_write(&n, &x));
+	end_both();
+}
+
+/* The desk at which it collided isn't kept; what was written before stays so while the context has to back off. */
+static void a_loop_goes_on_after_a_reader(void)
+{
+	bool again = false;
+
+	begin_both();
+	MUST(!reads(&m, &x));
+	ww_until_all_locked(&y) {
+		MUST(!writes(&n, &y) && y.acquired == 1);
+		if (again)
+			break;
+		MUST(writes(&m, &y) == -EDEADLK && !ww_shared_mutex_is_written_by(&m, &y) && can_write(&m, &x));
+		ww_shared_mutex_downgrade(&n, &y);
+		MUST(ww_shared_mutex_is_written_by(&n, &y));
+		again = true;
+		unlocks(&m, &x);
+		ww_retry_on_contention(&y);
+	}
+	MUST(!writes(&m, &y) && y.acquired == 2);
+	ww_acquire_unlock_all(&y);
+	end_both();
+}
+
+/* ---- in a loop ---- */
+
+static void reads_are_listed(void)
+{
+	size_t mark;
+
+	begin_both();
+	ww_acquire_flags(&y, WW_IGNORE_DUPLICATES);
+	ww_until_all_locked(&y) {
+		MUST(!ww_mutex_lock(&plain, &y) && (mark = ww_acquire_mark(&y)) == 1);
+		MUST(!reads(&m, &y) && !reads(&m, &y) && !writes(&n, &y) && !writes(&n, &y) && !reads(&n, &y) && y.acquired == 3);
+	}
+	MUST(!can_write(&m, &x) && !can_read(&n, &x));
+	ww_acquire_unlock_to(&y, mark);
+	MUST(y.acquired == 1 && can_write(&m, &x) && can_write(&n, &x) && ww_mutex_is_held_by(&plain, &y));
+	MUST(!reads(&n, &y) && !can_write(&n, &x) && can_write(&m, &x));
+	ww_acquire_unlock_all(&y);
+	end_both();
+}
+
+/* ---- by number ---- */
+
+static void numbers_are_read(void)
+{
+	uint64_t readers = 0;
+	uint32_t number;
+
+	MUST(!ww_number_take(&number, c));
+	begin_both();
+	MUST(!ww_number_lock_shared(number, &readers, &x, NULL) && !ww_number_lock_shared(number, &readers, &y, NULL));
+	MUST(ww_number_is_read(number, &x) && !ww_number_is_held(number, &x));
+	MUST(ww_number_lock_exclusive(number, &readers, &x, &past) == -ETIMEDOUT && !reads(&m, &y));
+	ww_acquire_end_reads(&y);
+	MUST(!y.acquired && can_write(&m, &x));
+	MUST(!ww_number_lock_exclusive(number, &readers, &x, NULL) && ww_number_is_held(number, &x));
+	MUST(ww_number_lock_exclusive(number, &readers, &x, NULL) == -EALREADY);
+	MUST(ww_number_lock_shared(number, &readers, &y, &past) == -ETIMEDOUT && !y.acquired);
+	MUST(!ww_number_unlock(number, &x) && !ww_number_lock_shared(number, &readers, &y, &past));
+	ww_acquire_end_reads(&x);
+	ww_acquire_end_reads(&y);
+	MUST(!ww_number_lock_exclusive(number, &readers, &y, NULL) && ww_number_lock_shared(number, &readers, &y, NULL) == -EALREADY);
+	MUST(ww_number_lock_shared(number, &readers, &x, &past) == -ETIMEDOUT && !ww_number_unlock(number, &y));
+	MUST(ww_number_lock_shared(number + 1, &readers, &y, NULL) == -EINVAL);
+	end_both();
+	MUST(!ww_number_put(number, c));
+}
+
+/* ---- limits ---- */
+
+static void readers_take_mutexes_of_the_class(void)
+{
+	struct ww_class few;
+	struct ww_shared_mutex only;
+
+	ww_class_init(&few, 0, "few");
+	MUST(!ww_class_limit(&few, 1, 1) && !ww_shared_mutex_init_checked(&only, &few));
+	ww_acquire_init(&x, &few);
+	MUST(reads(&only, &x) == -ENOSPC && !ww_shared_mutex_trylock_shared(&only, &x) && !writes(&only, &x));
+	ww_shared_mutex_downgrade(&only, &x);
+	MUST(ww_shared_mutex_is_written_by(&only, &x));
+	unlocks(&only, &x);
+	ww_acquire_fini(&x);
+	MUST(!ww_shared_mutex_destroy(&only) && !ww_class_free(&few));
+	MUST(!ww_class_limit(&few, 2, 1) && !ww_shared_mutex_init_checked(&only, &few));
+	for (unsigned k = 0; k < 3; k++) {
+		ww_acquire_init(&x, &few);
+		MUST(!reads(&only, &x) && ww_class_free(&few) == -EBUSY);
+		unlocks(&only, &x);
+		ww_acquire_fini(&x);
+	}
+	MUST(!ww_shared_mutex_destroy(&only) && !ww_class_free(&few)); /* its desk doesn't keep it open */
+}
+
+static void of(struct ww_class *class)
+{
+	c = class;
+	ww_shared_mutex_init(&m, c);
+	ww_shared_mutex_init(&n, c);
+	ww_mutex_init(&plain, c);
+	read_beside_each_other();
+	each_read_has_an_unlock();
+	write_alone();
+	upgrades();
+	downgrades();
+	stay_while_used();
+	refuse_misuse();
+	end_by_a_cancel();
+	one_of_two_upgrades_gives_way();
+	if (c->is_wait_die) {
+		a_loop_goes_on_after_a_writer();
+		a_loop_goes_on_after_a_reader();
+	}
+	reads_are_listed();
+	numbers_are_read();
+	MUST(!ww_shared_mutex_destroy(&m) && !ww_shared_mutex_destroy(&n) && !ww_mutex_destroy(&plain) && !ww_class_free(c));
+}
+
+int main(void)
+{
+	of(&wound_wait);
+	of(&wait_die);
+	readers_take_mutexes_of_the_class();
+	puts("shared_calls: readers beside each other, or one writer");
+	return 0;
+}

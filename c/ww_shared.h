@@ -1,0 +1,126 @@
+/*
+ * ww_shared.h - shared mutexes: contexts that read beside each other, or one that writes.
+ *
+ * A struct ww_shared_mutex is for an object that is read much more often than written.  A context reads it (lock_shared) or
+ * writes it (lock), in any order with its other mutexes of the class, of each kind, and in ww_until_all_locked as by hand:
+ *
+ *	ww_acquire_init(&ctx, &boxes);
+ *	ww_until_all_locked(&ctx) {
+ *		err = ww_shared_mutex_lock_shared(&box->lock, &ctx);
+ *		ww_retry_on_contention(&ctx);
+ *		if (!err && box->is_stale)
+ *			err = ww_shared_mutex_lock(&box->lock, &ctx);
+ *		ww_retry_on_contention(&ctx);
+ *	}
+ *	..
+ *	ww_acquire_unlock_all(&ctx);
+ *	ww_acquire_fini(&ctx);
+ *
+ * Reads end together: an object that a context reads stays protected until the context has ended all its reads.  Each call needs a
+ * context, since all waits are those of contexts, and so every deadlock among readers and writers ends by -EDEADLK.
+ *
+ * Return values are those of ww_mutex.h.  -EDEADLK of any of these calls, also of a context's first: release everything, then
+ * ww_shared_mutex_await, and begin again; a loop does so by itself.  The limits of the class count also, for each of its contexts
+ * that reads at a time, one mutex.
+ */
+#ifndef WW_SHARED_H
+#define WW_SHARED_H
+#include "ww_number.h"
+
+#ifdef __cplusplus
+extern "C" {
+#endif
+
+/* The fields are the library's. */
+struct ww_shared_mutex {
+	struct ww_mutex mutex_;	/* a writer's */
+	uint64_t readers_;	/* where those may be found that read it */
+};
+
+/* As WW_MUTEX_INIT. */
+#define WW_SHARED_MUTEX_INIT(of_class) { WW_MUTEX_INIT(of_class), 0 }
+/* As ww_mutex_init, and ww_mutex_init_checked. */
+void ww_shared_mutex_init(struct ww_shared_mutex *lock, struct ww_class *ww_class);
+WW_MUST_CHECK int ww_shared_mutex_init_checked(struct ww_shared_mutex *lock, struct ww_class *ww_class);
+/* As ww_mutex_destroy: -EBUSY also while a context reads it. */
+int ww_shared_mutex_destroy(struct ww_shared_mutex *lock);
+
+/*
+ * Reads it: waits while somebody writes it, or waits to write it.  It returns 0 also if the context reads or writes it already.
+ * -ENOMEM, -ENOSPC: the context's first read found no memory, or no mutex of the class was left for it.
+ */
+WW_MUST_CHECK int ww_shared_mutex_lock_shared(struct ww_shared_mutex *lock, struct ww_acquire_ctx *ctx);
+/* The same, but at most until a time of the monotonic clock, if that isn't NULL: -ETIMEDOUT; or ww_acquire_cancel: -EINTR. */
+WW_MUST_CHECK int ww_shared_mutex_lock_shared_until(struct ww_shared_mutex *lock, struct ww_acquire_ctx *ctx,
+						    const struct timespec *monotonic);
+/* Returns 1 if the context reads it now, else 0. */
+WW_MUST_CHECK int ww_shared_mutex_trylock_shared(struct ww_shared_mutex *lock, struct ww_acquire_ctx *ctx);
+
+/*
+ * Writes it: waits until nobody else reads or writes it.  If the context reads it, that is an upgrade: nobody writes it in between.
+ * Of two contexts that upgrade it at the same time one gets -EDEADLK.  -EALREADY: the context writes it.  After an error it holds
+ * what it held before.
+ */
+WW_MUST_CHECK int ww_shared_mutex_lock(struct ww_shared_mutex *lock, struct ww_acquire_ctx *ctx);
+/* The same with limits, likewise. */
+WW_MUST_CHECK int ww_shared_mutex_lock_until(struct ww_shared_mutex *lock, struct ww_acquire_ctx *ctx,
+					     const struct timespec *monotonic);
+/* Returns 1 if the context writes it now, else 0. */
+WW_MUST_CHECK int ww_shared_mutex_trylock(struct ww_shared_mutex *lock, struct ww_acquire_ctx *ctx);
+/*
+ * Of a context that writes it: from now on it reads it, and others may.  It can't fail, and nobody writes it in between; but a
+ * context that got -EDEADLK, or would get -ENOMEM or -ENOSPC for its first read, goes on writing it.
+ */
+void ww_shared_mutex_downgrade(struct ww_shared_mutex *lock, struct ww_acquire_ctx *ctx);
+
+/*
+ * Of a context that writes it: ends that; and else one of its reads.  Each lock call that returned 0, and trylock that returned 1,
+ * needs one, or ww_acquire_unlock_all for all.  -EINVAL: the context neither writes nor reads it.
+ */
+int ww_shared_mutex_unlock(struct ww_shared_mutex *lock, struct ww_acquire_ctx *ctx);
+/* Ends all reads of the context. */
+void ww_acquire_end_reads(struct ww_acquire_ctx *ctx);
+/*
+ * By hand, after -EDEADLK: waits for what the context collided with, and holds nothing then.  It has the limits, and returns the
+ * errors, of ww_mutex_lock_slow_until.
+ */
+WW_MUST_CHECK int ww_shared_mutex_await(struct ww_acquire_ctx *ctx, const struct timespec *monotonic);
+/* Whether the context writes it; and whether it reads it, for the thread that uses the context. */
+bool ww_shared_mutex_is_written_by(const struct ww_shared_mutex *lock, const struct ww_acquire_ctx *ctx);
+bool ww_shared_mutex_is_read_by(const struct ww_shared_mutex *lock, const struct ww_acquire_ctx *ctx);
+/*
+ * By number (ww_number.h), with a word beside the data that is 0 at first, and moves with them.  These have the limits of
+ * ww_shared_mutex_lock_shared_until and ww_shared_mutex_lock_until; the other calls of such a number are these alone, but
+ * ww_number_unlock ends a write, and ww_acquire_end_reads all reads.  Reading what it writes is -EALREADY outside loops.
+ */
+WW_MUST_CHECK int ww_number_lock_shared(uint32_t number, uint64_t *readers, struct ww_acquire_ctx *ctx,
+					const struct timespec *monotonic);
+WW_MUST_CHECK int ww_number_lock_exclusive(uint32_t number, uint64_t *readers, struct ww_acquire_ctx *ctx,
+					   const struct timespec *monotonic);
+bool ww_number_is_read(uint32_t number, const struct ww_acquire_ctx *ctx);
+/* For C++, as ww_mutex_end_. */
+int ww_shared_mutex_end_(struct ww_shared_mutex *lock);
+/* The size of the structure in this library, for languages that don't read this header. */
+size_t ww_shared_mutex_size(void);
+
+#if defined(WW_DEBUG) && !defined(WW_POOL_H)
+#define ww_shared_mutex_init(...) (WW_HERE_, ww_shared_mutex_init(__VA_ARGS__))
+#define ww_shared_mutex_destroy(...) (WW_HERE_, ww_shared_mutex_destroy(__VA_ARGS__))
+#define ww_shared_mutex_end_(...) (WW_HERE_, ww_shared_mutex_end_(__VA_ARGS__))
+#define ww_shared_mutex_lock_shared(...) (WW_HERE_, ww_shared_mutex_lock_shared(__VA_ARGS__))
+#define ww_shared_mutex_lock_shared_until(...) (WW_HERE_, ww_shared_mutex_lock_shared_until(__VA_ARGS__))
+#define ww_shared_mutex_trylock_shared(...) (WW_HERE_, ww_shared_mutex_trylock_shared(__VA_ARGS__))
+#define ww_shared_mutex_lock(...) (WW_HERE_, ww_shared_mutex_lock(__VA_ARGS__))
+#define ww_shared_mutex_lock_until(...) (WW_HERE_, ww_shared_mutex_lock_until(__VA_ARGS__))
+#define ww_shared_mutex_trylock(...) (WW_HERE_, ww_shared_mutex_trylock(__VA_ARGS__))
+#define ww_shared_mutex_downgrade(...) (WW_HERE_, ww_shared_mutex_downgrade(__VA_ARGS__))
+#define ww_shared_mutex_unlock(...) (WW_HERE_, ww_shared_mutex_unlock(__VA_ARGS__))
+#define ww_shared_mutex_await(...) (WW_HERE_, ww_shared_mutex_await(__VA_ARGS__))
+#define ww_number_lock_shared(...) (WW_HERE_, ww_number_lock_shared(__VA_ARGS__))
+#define ww_number_lock_exclusive(...) (WW_HERE_, ww_number_lock_exclusive(__VA_ARGS__))
+#endif
+
+#ifdef __cplusplus
+}
+#endif
+#endif

@@ -1,5 +1,0 @@
-use Rattle.ww_drives.proofs.Drives as kept
-use Rattle.ww_drives.proofs.laws.new_worlds_begin.Goals as goal
-
-pub returns : goal.returns
-returns c = kept.new_worlds_begin

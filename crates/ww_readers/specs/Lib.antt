@@ -1,0 +1,4 @@
+pub mod Hall
+pub mod Invariant
+pub mod Theorem
+pub mod Ways

@@ -1,0 +1,4 @@
+pub mod Seat
+pub mod Class
+pub mod Theorem
+pub mod Witness

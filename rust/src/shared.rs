@@ -1,0 +1,161 @@
+use crate::class::RawClass;
+use crate::guard::Holder;
+use crate::number::{Handle, Number};
+use crate::{Class, Error};
+use core::cell::UnsafeCell;
+use core::fmt;
+use core::ops::{Deref, DerefMut};
+use core::sync::atomic::AtomicU64;
+
+/// A mutex around a value that transactions read beside each other ([`Tx::read`](crate::Tx::read)), or one of them writes
+/// ([`Tx::write`](crate::Tx::write)): for what is read much more often than written.
+///
+/// Reads end with the attempt: the references that they give live as long as the body may.
+///
+/// ```
+/// # use ww_mutex::{class, Class, Error, SharedMutex};
+/// class!(struct Cache: WoundWait);
+/// static RATE: SharedMutex<Cache, u64> = SharedMutex::new(7);
+/// static PRICES: [SharedMutex<Cache, u64>; 2] = [SharedMutex::new(0), SharedMutex::new(0)];
+///
+/// Cache::run(|tx| {
+///     let rate = tx.read(&RATE)?;
+///     *tx.write(&PRICES[1])? = 100 * rate;
+///     Ok(())
+/// })?;
+/// assert_eq!(Cache::run(|tx| Ok(tx.read(&PRICES[0])? + tx.read(&PRICES[1])?)), Ok(700));
+/// # Ok::<(), Error>(())
+/// ```
+///
+/// A reference doesn't leave the body:
+///
+/// ```compile_fail,E0521
+/// # use ww_mutex::{class, Class, SharedMutex};
+/// # class!(struct Boxes: WoundWait);
+/// # static BOX: SharedMutex<Boxes, u64> = SharedMutex::new(0);
+/// let mut kept = None;
+/// Boxes::run(|tx| {
+///     kept = Some(tx.read(&BOX)?);
+///     Ok(())
+/// });
+/// ```
+///
+/// Threads share it only if they may share its value:
+///
+/// ```compile_fail,E0277
+/// # use ww_mutex::{class, SharedMutex};
+/// # class!(struct Boxes: WoundWait);
+/// fn shared<M: Sync>(_: &M) {}
+/// shared(&SharedMutex::<Boxes, _>::new(std::cell::Cell::new(1)));
+/// ```
+pub struct SharedMutex<C: Class, T: ?Sized> {
+    handle: Handle<C>,
+    /// The library's, beside the number.
+    readers: AtomicU64,
+    value: UnsafeCell<T>,
+}
+
+// SAFETY: transactions of several threads get `&T` at a time, or one of them `&mut T`; what was done under the one is seen
+// under the next.
+unsafe impl<C: Class, T: ?Sized + Send + Sync> Sync for SharedMutex<C, T> {}
+// SAFETY: one that is moved to another thread has no guard and no reference to its value, which comes along.
+unsafe impl<C: Class, T: ?Sized + Send> Send for SharedMutex<C, T> {}
+
+impl<C: Class, T> SharedMutex<C, T> {
+    /// It takes a number of its class with its first lock.
+    #[inline]
+    #[must_use]
+    pub const fn new(value: T) -> Self {
+        SharedMutex { handle: Handle::new(), readers: AtomicU64::new(0), value: UnsafeCell::new(value) }
+    }
+
+    /// The value. Nobody reads or writes it, since nobody borrows it.
+    #[inline]
+    pub fn into_inner(self) -> T {
+        self.value.into_inner()
+    }
+}
+
+impl<C: Class, T: ?Sized> SharedMutex<C, T> {
+    /// The value. Nobody reads or writes it, since nobody else borrows it.
+    #[inline]
+    pub fn get_mut(&mut self) -> &mut T {
+        self.value.get_mut()
+    }
+
+    #[inline]
+    pub(crate) fn value(&self) -> *mut T {
+        self.value.get()
+    }
+
+    #[inline]
+    pub(crate) fn readers(&self) -> *mut u64 {
+        self.readers.as_ptr()
+    }
+
+    #[inline]
+    pub(crate) fn number(&self, class: &'static RawClass) -> Result<Number, Error> {
+        self.handle.number(class)
+    }
+}
+
+impl<C: Class, T: ?Sized> fmt::Debug for SharedMutex<C, T> {
+    fn fmt(&self, f: &mut fmt::Formatter<'_>) -> fmt::Result {
+        f.debug_struct("SharedMutex").finish_non_exhaustive()
+    }
+}
+
+/// A shared mutex that a transaction writes, with access to its value. Its drop ends that.
+#[must_use = "the mutex is released as soon as its guard is dropped"]
+#[clippy::has_significant_drop]
+pub struct SharedMutexGuard<'g, C: Class, T: ?Sized> {
+    mutex: &'g SharedMutex<C, T>,
+    /// A pointer, so that the guard isn't `Send`.
+    holder: Holder,
+}
+
+// SAFETY: threads that share it get `&T`.
+unsafe impl<C: Class, T: ?Sized + Send + Sync> Sync for SharedMutexGuard<'_, C, T> {}
+
+impl<'g, C: Class, T: ?Sized> SharedMutexGuard<'g, C, T> {
+    /// # Safety
+    ///
+    /// This thread's context writes the mutex, doesn't read it, and there is no other guard for that. `'g` ends before the
+    /// context does.
+    #[inline]
+    pub(crate) unsafe fn of(mutex: &'g SharedMutex<C, T>, holder: Holder) -> Self {
+        SharedMutexGuard { mutex, holder }
+    }
+}
+
+impl<C: Class, T: ?Sized> Deref for SharedMutexGuard<'_, C, T> {
+    type Target = T;
+
+    #[inline]
+    fn deref(&self) -> &T {
+        // SAFETY: the mutex is held, and the guard is borrowed.
+        unsafe { &*self.mutex.value() }
+    }
+}
+
+impl<C: Class, T: ?Sized> DerefMut for SharedMutexGuard<'_, C, T> {
+    #[inline]
+    fn deref_mut(&mut self) -> &mut T {
+        // SAFETY: the mutex is held, nobody reads it, and this is its one guard, borrowed exclusively.
+        unsafe { &mut *self.mutex.value() }
+    }
+}
+
+impl<C: Class, T: ?Sized> Drop for SharedMutexGuard<'_, C, T> {
+    #[inline]
+    fn drop(&mut self) {
+        // SAFETY: each guard is for one lock by its holder, and is dropped once.
+        unsafe { self.holder.release(self.mutex.handle.index()) };
+    }
+}
+
+impl<C: Class, T: ?Sized + fmt::Debug> fmt::Debug for SharedMutexGuard<'_, C, T> {
+    fn fmt(&self, f: &mut fmt::Formatter<'_>) -> fmt::Result {
+        (**self).fmt(f)
+    }
+}

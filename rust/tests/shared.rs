@@ -1,0 +1,103 @@
+//! Readers beside each other, or one writer.
+
+use std::sync::atomic::{AtomicU64, Ordering};
+use std::sync::Barrier;
+use std::thread;
+use std::time::Duration;
+use ww_mutex::{class, Class, Error, Options, SharedMutex};
+
+#[test]
+fn readers_stand_beside_each_other() {
+    class!(struct Boxes: WoundWait);
+    static ONE: SharedMutex<Boxes, u64> = SharedMutex::new(7);
+    let both = Barrier::new(2);
+    thread::scope(|scope| {
+        for _ in 0..2 {
+            scope.spawn(|| {
+                let read = Boxes::run(|tx| {
+                    let value = tx.read(&ONE)?;
+                    both.wait(); // where one had to wait for the other, neither would come here
+                    Ok(*value + *tx.read(&ONE)?)
+                });
+                assert_eq!(read, Ok(14));
+            });
+        }
+    });
+}
+
+#[test]
+fn a_writer_stands_alone() {
+    class!(struct Boxes: WaitDie);
+    static ONE: SharedMutex<Boxes, u64> = SharedMutex::new(7);
+    let soon = || Options::new().timeout(Duration::from_millis(5));
+    Boxes::run(|tx| {
+        let mut guard = tx.write(&ONE)?;
+        *guard += 1;
+        assert_eq!((tx.read(&ONE).err(), tx.write(&ONE).err()), (Some(Error::Duplicate), Some(Error::Duplicate)));
+        thread::scope(|scope| {
+            scope.spawn(|| {
+                assert_eq!(soon().run(|tx: &ww_mutex::Tx<Boxes>| tx.read(&ONE).copied()), Err(Error::TimedOut));
+            });
+        });
+        drop(guard);
+        assert_eq!(*tx.read(&ONE)?, 8);
+        assert_eq!(tx.write(&ONE).err(), Some(Error::Duplicate));
+        thread::scope(|scope| {
+            scope.spawn(|| {
+                let told = soon().run(|tx: &ww_mutex::Tx<Boxes>| tx.write(&ONE).map(drop));
+                assert_eq!(told, Err(Error::TimedOut));
+            });
+        });
+        Ok(())
+    })
+    .unwrap();
+    assert_eq!(Boxes::run(|tx| tx.write(&ONE).map(|mut it| std::mem::replace(&mut *it, 0))), Ok(8));
+}
+
+/// What was forgotten is released when the body has returned.
+#[test]
+fn a_forgotten_guard_is_released() {
+    class!(struct Boxes: WoundWait);
+    let one: SharedMutex<Boxes, u64> = SharedMutex::new(7);
+    Boxes::run(|tx| tx.write(&one).map(std::mem::forget)).unwrap();
+    assert_eq!(Boxes::run(|tx| tx.read(&one).copied()), Ok(7));
+    assert_eq!(one.into_inner(), 7);
+}
+
+#[test]
+fn no_half_is_seen_and_no_write_lost() {
+    class!(struct Boxes: WoundWait; struct Others: WaitDie);
+    storm::<Boxes>();
+    storm::<Others>();
+}
+
+fn storm<C: Class>() {
+    const ROUNDS: u64 = 2000;
+    let cells: Vec<SharedMutex<C, (u64, u64)>> = (0..4).map(|_| SharedMutex::new((0, 0))).collect();
+    let written = AtomicU64::new(0);
+    thread::scope(|scope| {
+        for me in 0..4_u64 {
+            let (cells, written) = (&cells, &written);
+            scope.spawn(move || {
+                let mut x = 17 * me + 1;
+                for _ in 0..ROUNDS {
+                    x = x.wrapping_mul(6_364_136_223_846_793_005).wrapping_add(1_442_695_040_888_963_407);
+                    let (a, b) = ((x >> 33) as usize % 4, (x >> 37) as usize % 4);
+                    let done = C::run(|tx| {
+                        let (one, other) = *tx.read(&cells[a])?;
+                        assert_eq!(one, other);
+                        if a != b {
+                            let mut cell = tx.write(&cells[b])?;
+                            cell.0 += 1;
+                            cell.1 += 1;
+                        }
+                        Ok(u64::from(a != b))
+                    });
+                    written.fetch_add(done.unwrap(), Ordering::Relaxed);
+                }
+            });
+        }
+    });
+    let sum: u64 = cells.into_iter().map(|cell| cell.into_inner().0).sum();
+    assert_eq!(sum, written.into_inner());
+}
