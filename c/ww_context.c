@@ -61,12 +61,12 @@ static const struct timespec at_once;
 static int begin(struct ww_acquire_ctx *x, struct ww_class *c, const struct timespec *until, bool heeds)
 {
 	bool stood = false;
+	struct ww_pool *p = NULL;
 	ww_seat *s = NULL;
-	struct ww_pool *p;
 	int r = is_time(until) ? pool_of(c, &p) : -EINVAL;
 
 	if (!r && UNLIKELY(is_crowded(p)))
-		stood = ww_await_permit(p, until);
+		r = ww_await_permit(p, until, heeds, &stood);
 	if (!r)
 		s = seat_at_once(p);
 	if (!r && !s)

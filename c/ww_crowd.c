@@ -105,6 +105,22 @@ static void call(struct ww_in_line *it)
 	ww_futex_wake(&it->is_called);
 }
 
+/* All that stand in the line look whether they still have to. The crowd is locked. */
+static void call_all(struct ww_crowd *crowd)
+{
+	for (struct ww_in_line *it = crowd->first; it; it = it->next)
+		call(it);
+}
+
+void ww_crowd_cancel(struct ww_pool *p)
+{
+	struct ww_crowd *crowd = &p->crowd;
+
+	pthread_mutex_lock(&crowd->lock);
+	call_all(crowd);
+	pthread_mutex_unlock(&crowd->lock);
+}
+
 /* Looks at the gate, and ends a crowd that is of no use. The crowd is locked. */
 static void look(struct ww_pool *p, uint64_t now)
 {
@@ -121,8 +137,7 @@ static void look(struct ww_pool *p, uint64_t now)
 	__atomic_store_n(&crowd->rests, now + crowd->rest, __ATOMIC_RELAXED);
 	crowd->rest = crowd->rest < LONGEST_REST / 2 ? 2 * crowd->rest : LONGEST_REST;
 	be(p, false);
-	for (struct ww_in_line *it = crowd->first; it; it = it->next)
-		call(it);
+	call_all(crowd);
 }
 
 /* ---- permits ---- */
@@ -212,11 +227,15 @@ static uint64_t looks_at(const struct ww_pool *p, uint64_t now, const struct ww_
 	return at;
 }
 
-/* Waits for a permit, but not longer than until this time. The crowd isn't locked meanwhile. */
-static void stand_in_line(struct ww_pool *p, uint64_t now, uint64_t until)
+/*
+ * Waits for a permit, but not longer than until this time; -EINTR if the class ended the wait, which heeds that.  It looks for that
+ * under the lock, so who cancels the class finds it in the line, or was before it.  The crowd isn't locked while it sleeps.
+ */
+static int stand_in_line(struct ww_pool *p, uint64_t now, uint64_t until, bool heeds)
 {
 	struct ww_crowd *crowd = &p->crowd;
 	struct ww_in_line me = { 0 };
+	int r = 0;
 
 	join(crowd, &me);
 	count(&crowd->awaited);
@@ -225,6 +244,10 @@ static void stand_in_line(struct ww_pool *p, uint64_t now, uint64_t until)
 		uint64_t looks = looks_at(p, now, &me), at = looks < until ? looks : until;
 		const struct timespec then = { .tv_sec = (time_t)(at / 1000000000), .tv_nsec = (long)(at % 1000000000) };
 
+		if (heeds && ww_ends_waits(p)) {
+			r = -EINTR;
+			break;
+		}
 		__atomic_store_n(&me.is_called, 0, __ATOMIC_RELAXED);
 		pthread_mutex_unlock(&crowd->lock);
 		ww_futex_wait(&me.is_called, 0, &then);
@@ -232,13 +255,14 @@ static void stand_in_line(struct ww_pool *p, uint64_t now, uint64_t until)
 		now = ww_now();
 	} while (is_crowded(p) && now < until && !takes(p, now, &me));
 	leave(crowd, &me);
+	return r;
 }
 
-/* This thread's last permit has ended, and the first in the line comes before this one gets another. True if it stood there. */
-COLD static bool find_permit(struct ww_pool *p, uint64_t now, uint64_t until)
+/* This thread's last permit has ended, and the first in the line comes before this one gets another. */
+COLD static int find_permit(struct ww_pool *p, uint64_t now, uint64_t until, bool heeds, bool *stood)
 {
 	struct ww_crowd *crowd = &p->crowd;
-	bool stands;
+	int r = 0;
 
 	pthread_mutex_lock(&crowd->lock);
 	if (ww_mine.permit.id == p->id && ww_mine.permit.it && ww_mine.permit.it->ends == ww_mine.permit.ends)
@@ -246,11 +270,11 @@ COLD static bool find_permit(struct ww_pool *p, uint64_t now, uint64_t until)
 	ww_mine.permit = (struct ww_my_permit){ .id = p->id };
 	look(p, now);
 	call_first(crowd, now);
-	stands = is_crowded(p) && !takes(p, now, NULL);
-	if (stands)
-		stand_in_line(p, now, until);
+	*stood = is_crowded(p) && !takes(p, now, NULL);
+	if (*stood)
+		r = stand_in_line(p, now, until, heeds);
 	pthread_mutex_unlock(&crowd->lock);
-	return stands;
+	return r;
 }
 
 /* Whether this thread already uses the seat of the class that it keeps: then others may wait for what it holds. */
@@ -273,17 +297,17 @@ static void goes_on(struct ww_pool *p, uint64_t now)
 	}
 }
 
-bool ww_await_permit(struct ww_pool *p, const struct timespec *until)
+int ww_await_permit(struct ww_pool *p, const struct timespec *until, bool heeds, bool *stood)
 {
 	uint64_t now = ww_now(), last = nanoseconds(until);
 	uint32_t begun = ww_mine.permit.id == p->id ? ww_mine.permit.begun : 0;
 
 	if (p->gone || has_another(p))
-		return false;
+		return 0;
 	__atomic_fetch_add(&p->crowd.begun, begun + 1, __ATOMIC_RELAXED);
 	ww_mine.permit.begun = 0;
 	if (ww_mine.permit.id != p->id || now >= ww_mine.permit.ends)
-		return now < last && find_permit(p, now, last);
+		return now < last ? find_permit(p, now, last, heeds, stood) : 0;
 	goes_on(p, now);
-	return false;
+	return 0;
 }

@@ -766,6 +766,7 @@ int ww_class_cancel(struct ww_class *c)
 		ww_unpark(&p->seats[k]);
 	end_seeking(&p->threads);
 	end_seeking(&p->tasks);
+	ww_crowd_cancel(p);
 	return 0;
 }
 

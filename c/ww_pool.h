@@ -36,7 +36,7 @@
  *	permits gate holds awaited rest	crowd	likewise						crowd-line-kept
  *	seat ends	permit		likewise						crowd-stale
  *	first next	crowd		who stands in the line, likewise				crowd-leaves
- *	is_called	in_line		itself, and who calls it, likewise				crowd-line
+ *	is_called	in_line		itself, and who calls it, likewise				class-cancel-line
  *	awaits		seat		its user						ring
  *	readers		shared mutex	each that reads it, and who writes it: see ww_shared.c	read-write
  *	marks		desk		who has it: likewise					again
@@ -265,10 +265,13 @@ WW_HIDDEN uint32_t ww_patience(void);
 WW_HIDDEN uint32_t ww_processors(void);
 WW_HIDDEN void ww_crowd_open(struct ww_pool *p);
 /*
- * Called in a crowd before a context begins: waits for a permit, until a time if that isn't NULL.  True if it stood in line: then it
- * counts as one that waits, so that nobody frees the class, until ww_has_begun is called, once it has a seat.
+ * Called in a crowd before a context begins: waits for a permit, until a time if that isn't NULL, or until the class ends waits that
+ * heed that (-EINTR).  Who stood in line counts as one that waits, so that nobody frees the class, until ww_has_begun is called, once
+ * it has a seat, or gets none.
  */
-WW_HIDDEN bool ww_await_permit(struct ww_pool *p, const struct timespec *until);
+WW_HIDDEN int ww_await_permit(struct ww_pool *p, const struct timespec *until, bool heeds, bool *stood);
+/* The class ends waits from now on: calls all that stand in line. */
+WW_HIDDEN void ww_crowd_cancel(struct ww_pool *p);
 /* This thread has waited for a lock for so long. */
 WW_HIDDEN void ww_has_waited(struct ww_pool *p, uint64_t now, uint64_t took);
 /*

@@ -393,7 +393,8 @@ TABLE = {
     "sought": {"open_seats_of": "store rlx, store rlx", "ww_class_stats": "load rlx, load rlx"},
     "waits": {"ww_class_stats": "load rlx"},
     "back_offs": {"ww_class_stats": "load rlx"},
-    # Said before a waiter is woken, which looks at it after it took its token away, or was taken out of the queue under its lock.
+    # Said before a waiter is woken, which looks at it after it took its token away, or was taken out of the queue under its lock; or
+    # before those in the line for a permit are called, which look at it under its lock.
     "ends_waits": {"make_pool": "store sc", "ww_ends_waits": "load sc", "ww_class_cancel": "store sc"},
     "is_told": {"make_pool": "store rlx", "is_stuck": "exchange rlx"},
     "is_told_of_lock": {"make_pool": "store rlx", "ww_says_if_long": "exchange rlx"},

@@ -1,7 +1,7 @@
 /*
  * Crowds under load.  Contexts that need one another to begin all begin, though there are fewer permits; sums over hot mutexes are
  * exact while a crowd's gate tries one width after the other, and each thread gets about as far as the others; as they are where
- * threads sleep under their mutexes.
+ * threads sleep under their mutexes.  A cancel of the class ends them all.
  */
 #include "crowd.h"
 
@@ -134,6 +134,55 @@ static void storms(unsigned count, unsigned times, unsigned sleeps)
 	__atomic_store_n(&c->pool->at_hand, c->pool->id, __ATOMIC_RELAXED);
 }
 
+/* ---- a cancel ---- */
+
+/* Far more than permits, so some always have to stand in the line, until the first of them was told to stop. */
+static void *until_cancelled(void *arg)
+{
+	struct ww_acquire_ctx x;
+	int r = 0;
+
+	while (!r && !__atomic_load_n(&stops, __ATOMIC_SEQ_CST)) {
+		r = ww_acquire_init_until(&x, c, NULL);
+		MUST(!r || r == -EINTR);
+		if (r)
+			__atomic_store_n(&stops, true, __ATOMIC_SEQ_CST);
+		else
+			ww_acquire_fini(&x);
+	}
+	if (r)
+		__atomic_sub_fetch(&to_do, 1, __ATOMIC_SEQ_CST);
+	return arg;
+}
+
+/* Again and again, as its gate may end a crowd. */
+static void *cancels(void *arg)
+{
+	while (!__atomic_load_n(&stops, __ATOMIC_SEQ_CST)) {
+		if (!is_crowded(c->pool))
+			crowds(c, PERMITS, LEASE);
+		if (permit_seekers(c->pool))
+			MUST(!ww_class_cancel(c));
+		usleep(100);
+	}
+	return arg;
+}
+
+/* All end, whoever sleeps in the line then. */
+static void a_cancel_ends_all(void)
+{
+	pthread_t by;
+
+	crowds(c, PERMITS, LEASE);
+	stops = false;
+	to_do = THREADS;
+	by = begin_thread(cancels, NULL);
+	in_many(until_cancelled);
+	end_thread(by);
+	MUST(to_do < THREADS && !permit_seekers(c->pool) && !c->pool->crowd.first);
+	__atomic_store_n(&c->pool->at_hand, c->pool->id, __ATOMIC_RELAXED);
+}
+
 static void all(struct ww_class *of)
 {
 	c = of;
@@ -147,6 +196,7 @@ static void all(struct ww_class *of)
 	__atomic_store_n(&c->pool->at_hand, c->pool->id, __ATOMIC_RELAXED);
 	storms(HOT, QUICK, 0);
 	storms(WARM, SLOW, 1000);
+	a_cancel_ends_all();
 	for (unsigned k = 0; k < WARM; k++)
 		MUST(!ww_mutex_destroy(&hot[k]));
 	MUST(!ww_class_free(c));

@@ -81,8 +81,10 @@ static struct one {
 	uint64_t in;	 /* its time, or 0 */
 	bool keeps;	 /* a seat, before there is a crowd */
 	bool gives_back; /* its permit, once it may go on, and stays */
+	bool heeds_none; /* that something ends its wait */
 	pthread_t thread;
 	sem_t keeps_one, may_begin, begun, may_go_on;
+	int r;
 	bool had;
 	unsigned place;
 } ones[8];
@@ -99,10 +101,15 @@ static void *one_begins(void *arg)
 		sem_post(&me->keeps_one);
 		sem_wait(&me->may_begin);
 	}
-	MUST(!ww_acquire_init_until(&x, me->of, me->in ? &until : NULL));
+	if (me->heeds_none)
+		ww_acquire_init(&x, me->of);
+	else
+		me->r = ww_acquire_init_until(&x, me->of, me->in ? &until : NULL);
 	me->had = has_one();
 	me->place = __atomic_add_fetch(&places, 1, __ATOMIC_SEQ_CST);
 	sem_post(&me->begun);
+	if (me->r)
+		return NULL;
 	sem_wait(&me->may_go_on);
 	ww_acquire_fini(&x);
 	if (me->gives_back) {
@@ -132,15 +139,34 @@ static struct one *stands(unsigned k, struct one what)
 	return it;
 }
 
-/* Whether it began with a permit; it goes on. */
-static bool got_one(struct one *it)
+/* What its begin returned; it goes on. */
+static int began(struct one *it)
 {
 	const struct timespec late = in_ms(LATE);
 
 	MUST(!sem_clockwait(&it->begun, CLOCK_MONOTONIC, &late));
 	sem_post(&it->may_go_on);
 	end_thread(it->thread);
+	return it->r;
+}
+
+/* Whether it began with a permit; it goes on. */
+static bool got_one(struct one *it)
+{
+	MUST(!began(it));
 	return it->had;
+}
+
+/* The crowd is locked. */
+static void calls_first(struct ww_class *of)
+{
+	struct ww_in_line { /* as in ww_crowd.c */
+		struct ww_in_line *next;
+		uint32_t is_called;
+	} *first = (void *)of->pool->crowd.first;
+
+	__atomic_store_n(&first->is_called, 1, __ATOMIC_RELAXED);
+	ww_futex_wake(&first->is_called);
 }
 
 /* ---- free: taken by who comes, if nobody stands in the line ---- */
@@ -210,10 +236,6 @@ static void in_turn(void)
 /* Two permits come to be free while the first one in the line rises: that calls the second one. */
 static void two_at_once(void)
 {
-	struct ww_in_line { /* as in ww_crowd.c */
-		struct ww_in_line *next;
-		uint32_t is_called;
-	} *first;
 	struct one *it[2];
 
 	opens_crowded(&c, 2);
@@ -223,9 +245,7 @@ static void two_at_once(void)
 		it[k] = stands(k, (struct one){ .of = &c });
 	pthread_mutex_lock(&c.pool->crowd.lock);
 	c.pool->crowd.permits[0].ends = c.pool->crowd.permits[1].ends = now();
-	first = (void *)c.pool->crowd.first;
-	__atomic_store_n(&first->is_called, 1, __ATOMIC_RELAXED);
-	ww_futex_wake(&first->is_called);
+	calls_first(&c);
 	pthread_mutex_unlock(&c.pool->crowd.lock);
 	MUST(got_one(it[0]) && got_one(it[1]) && !ww_class_free(&c));
 }
@@ -364,6 +384,40 @@ static void stays_while_one_waits(void)
 	MUST(ww_class_free(&c) == -EBUSY);
 	sem_post(&it->begun);
 	MUST(!got_one(it) && !ww_class_free(&c));
+}
+
+/*
+ * A cancel of the class ends the waits in the line that heed that, wherever they stand, and each later one at once.  Who needn't wait
+ * goes on, as does who heeds no cancel, which then gets the permit.
+ */
+static void a_cancel_ends_it(void)
+{
+	struct ww_acquire_ctx x;
+	struct one *it[4];
+
+	opens_crowded(&c, 1);
+	ends_in(&c, 0, ms(FAR));
+	for (unsigned k = 0; k < 4; k++)
+		it[k] = stands(k, (struct one){ .of = &c, .in = k == 2 ? FAR : 0, .heeds_none = k == 1 });
+	MUST(!ww_class_cancel(&c));
+	for (unsigned k = 0; k < 4; k++)
+		MUST(k == 1 || (began(it[k]) == -EINTR && !it[k]->had));
+	MUST(in_line(&c) == 1 && ww_acquire_init_until(&x, &c, NULL) == -EINTR && ww_acquire_init_until(&x, &c, NULL) == -EINTR);
+	MUST(in_line(&c) == 1 && ww_acquire_fini_checked(&x) == -EINVAL && !ww_acquire_init_checked(&x, &c));
+	ww_acquire_fini(&x);
+	pthread_mutex_lock(&c.pool->crowd.lock);
+	c.pool->crowd.permits[0].ends = now();
+	calls_first(&c);
+	pthread_mutex_unlock(&c.pool->crowd.lock);
+	MUST(got_one(it[1]) && !in_line(&c));
+	ends_in(&c, 0, 0);
+	MUST(!ww_acquire_init_until(&x, &c, NULL) && has_one());
+	ww_acquire_fini(&x);
+	MUST(!ww_class_free(&c));
+	/* One that is opened again isn't cancelled. */
+	opens_crowded(&c, 1);
+	ends_in(&c, 0, ms(FAR));
+	MUST(!begins_within(&c, 1) && permit_waits(&c) == 1 && !ww_class_free(&c));
 }
 
 /* ---- when there is a crowd ---- */
@@ -565,6 +619,7 @@ int main(void)
 	of_its_class_alone();
 	amid_a_context();
 	stays_while_one_waits();
+	a_cancel_ends_it();
 	begins_by_waits();
 	ends_for_all();
 	none_in_a_child();

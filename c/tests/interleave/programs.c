@@ -81,6 +81,7 @@ static unsigned holder[3];
 static bool put[IL_THREADS + 1];
 /* The numbers are so far apart. */
 enum { IN_A_LINE = 4 };
+static uint32_t heeding; /* how many begin contexts in a way that a cancel of the class ends */
 static uint32_t inside, most, keep, tasks, users[8], happened[10], refs, owner[3], cancels, met;
 static struct timespec soon;
 unsigned il_looks, il_bits = MANY_BITS;
@@ -123,6 +124,9 @@ static void is_held_no_more(struct user *u, unsigned k)
 
 static const uint64_t lease = (uint64_t)1 << 55; /* which no program's time comes to, unless nobody could go on otherwise */
 static uint64_t leases_end;
+
+/* A crowd's leases are. */
+static bool is_over(void) { return leases_end && ww_now() >= leases_end; }
 
 static void begin_crowd(void)
 {
@@ -241,7 +245,7 @@ void il_check(const struct il_program *p)
 	MUST(met <= cancels && put[1] + put[2] == names(p, "P"));
 #ifdef WW_DEBUG
 	/* Of these, each call is right, and none is dangerous; but a time is long over once a lease is. */
-	MUST(names(p, "n>LKdDFP") || (leases_end && ww_now() >= leases_end) || (!ww_debug_faults() && !ww_debug_warnings()));
+	MUST(names(p, "n>LKdDFP") || is_over() || (!ww_debug_faults() && !ww_debug_warnings()));
 #endif
 	for (unsigned k = 1; k <= IL_THREADS; k++)
 		for (unsigned i = 0; i < polls[k]; i++)
@@ -286,6 +290,7 @@ void il_rests(void)
 {
 	MUST(!c.pool || !(is_forgotten(&c.pool->threads) || is_forgotten(&c.pool->tasks)));
 	MUST(!c.pool || !is_uncalled(&c.pool->crowd));
+	MUST(!c.pool || !heeding || !ww_ends_waits(c.pool));
 }
 
 static uint32_t *user_of(const ww_seat *s) { return &users[s - c.pool->seats]; }
@@ -395,6 +400,17 @@ static bool goes_on(struct user *u)
 	return true;
 }
 
+static int begin_heeding(struct ww_acquire_ctx *x)
+{
+	int r;
+
+	ADD(heeding, 1);
+	r = ww_acquire_init_until(x, &c, NULL);
+	ADD(heeding, -1u);
+	return r;
+}
+
+/* What has to fail may get a permit whose lease is over. */
 static int begin(struct user *u, char how, const char *words)
 {
 	int r = 0;
@@ -402,7 +418,7 @@ static int begin(struct user *u, char how, const char *words)
 	if (strpbrk(words, "lxyz"))
 		r = by_polls(u, -1, words);
 	else if (strchr(words, 'i'))
-		r = ww_acquire_init_until(u->x, &c, NULL);
+		r = begin_heeding(u->x);
 	else if (how == '(')
 		ww_acquire_init(u->x, &c);
 	else if (how == '[')
@@ -410,7 +426,7 @@ static int begin(struct user *u, char how, const char *words)
 	else
 		r = ww_acquire_init_checked(u->x, &c);
 	MUST(!r || r == (strchr(words, 'i') ? -EINTR : how == '{' ? -EAGAIN : -ETIMEDOUT));
-	MUST(!strchr(words, '!') || r);
+	MUST(!strchr(words, '!') || r || is_over());
 	if (!r)
 		enter(u->x->own);
 	return r;
@@ -665,7 +681,7 @@ static bool are_waiting(void) { return numbered ? SEEN(c.pool->numbered[numbers[
 /* Or it was, but no longer: all leases are over. */
 static bool is_sought(void)
 {
-	return SEEN(c.pool->threads.seekers) || SEEN(c.pool->tasks.seekers) || permit_seekers(c.pool) || (leases_end && ww_now() >= leases_end);
+	return SEEN(c.pool->threads.seekers) || SEEN(c.pool->tasks.seekers) || permit_seekers(c.pool) || is_over();
 }
 
 static void act(struct user *u, char what, const char *how)
@@ -830,6 +846,8 @@ const struct il_program il_programs[] = {
 	{ "class-cancel-soon", { "(aA)(aA)", "(1iaA~2)i(iaA)", "~1C2" }, CONTEXTS(4), 2 },
 	{ "class-cancel-seek", { "(1~2)", "~13!i()2", "~3C" }, CONTEXTS(1), 2 },
 	{ "class-cancel-seek-on", { "(1~2)", "~1()", "~1C2" }, CONTEXTS(1), 2 },
+	{ "class-cancel-line", { "(1~2)", "~13!i()2", "~3C" }, CONTEXTS(4) | CROWD, 2 },
+	{ "class-cancel-line-on", { "(1~2)e()", "~1()", "~1C2" }, CONTEXTS(4) | CROWD, 2 },
 	{ "class-cancel-poll", { "na1~2A", "~1(3!yiaA2)", "~3C" }, CONTEXTS(4), 2 },
 	{ "class-cancel-poll-seek", { "(1~2)", "~13!yi()2", "~3C" }, CONTEXTS(1), 2 },
 	{ "class-cancel-tasks", { "y()yi()", "y()", "yi()C" }, TASKS, 2 },
