@@ -8,6 +8,7 @@
 #include "ww_shared.h"
 #include <algorithm>
 #include <cassert>
+#include <cerrno>
 #include <chrono>
 #include <cstdint>
 #include <initializer_list>
@@ -78,7 +79,8 @@ public:
 		ww_class_stats(&it_, &counts);
 		return counts;
 	}
-	// As ww_class_cancel: from now on all waits with a limit end with -EINTR. By a std::stop_token:
+	// As ww_class_cancel: from now on each wait with limits ends with -EINTR, and the class stays so until ww_class_free. Nothing else
+	// is stopped: what needn't wait goes on, as do waits without limits. By a std::stop_token:
 	//	std::stop_callback ends(token, [&] { c.cancel(); });
 	int cancel() noexcept { return ww_class_cancel(&it_); }
 	operator struct ww_class &() noexcept { return it_; }
@@ -196,6 +198,22 @@ public:
 	guard(const guard &) = delete;
 	guard &operator=(const guard &) = delete;
 };
+
+// What an error of these calls means; strerror of ENOSPC would speak of a disk.
+inline const char *message(int error) noexcept
+{
+	switch (error) {
+	case -EDEADLK: return "an older context goes first: release all mutexes, and begin again";
+	case -EALREADY: return "the context holds this mutex already, or the list has it twice; or a cancel is pending";
+	case -EINTR: return "the wait was cancelled";
+	case -ETIMEDOUT: return "the time limit came first";
+	case -ENOSPC: return "all mutexes of the class are in use: 65,536, or as many as mutex_class::limit said";
+	case -ENOMEM: return "there is no memory to open the class";
+	case -EBUSY: return "it is in use: a class has its limits before its first use";
+	case -EINVAL: return "a call was misused, which libww_debug reports, or the class was opened before a fork";
+	default: return error ? "no error of these calls" : "no error";
+	}
+}
 
 // What a callable returned under its locks, or the error because of which it wasn't called.
 template <class T> class [[nodiscard]] result {
@@ -396,8 +414,8 @@ public:
 		return lock_all<std::initializer_list<mutex *>>(list WW_AND_THERE_);
 	}
 
-	// The same by a callable, which acquires what it likes by calls of this context, and returns the first error of these, or 0. It
-	// runs again after each -EDEADLK, with nothing held.
+	// The same by a callable, which acquires what it likes by calls of this context, and returns the first error of these, or 0; or a
+	// number above 0 to give up. It runs again after each -EDEADLK, with nothing held; the contended mutex must still exist then.
 	template <class Locks> [[nodiscard]] int lock_by(Locks &&locks) { return acquire(std::forward<Locks>(locks)); }
 
 	// The same for mutexes that are found while others are held: next(restart) returns the next mutex, or nullptr at the end.
@@ -450,8 +468,14 @@ template <class Next, class Fn> auto lock_walk(struct ww_class &c, Next &&next, 
 	return context(c, how WW_AND_THERE_).with_walk(std::forward<Next>(next), std::forward<Fn>(fn) WW_AND_THERE_);
 }
 
-// As it was called before version 4.
-namespace kernel = ::ww;
+// The same by locks(context), which acquires what it likes by calls of that context: see context::lock_by. clang's analysis, which
+// can't follow that, has to leave the callable out: [&](ww::context &x) __attribute__((no_thread_safety_analysis)) { .. }.
+template <class Locks, class Fn> auto lock_by(struct ww_class &c, Locks &&locks, Fn &&fn, limits how = {} WW_AND_FROM_)
+{
+	context x(c, how WW_AND_THERE_);
+
+	return x.with([&] { return locks(x); }, std::forward<Fn>(fn));
+}
 
 } // namespace ww
 

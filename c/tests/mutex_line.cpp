@@ -36,6 +36,7 @@ int main()
 	must(x.lock_walk(next) == -EINVAL);	// wrong
 	must(!x.with_walk(next, [] {}));	// wrong
 	must(!ww::lock_walk(c, next, [] {}));	// wrong
-	must(ww_debug_faults() == 9);
+	must(!ww::lock_by(c, [&](context &y) { return y.lock(m); }, [] {}));	// wrong
+	must(ww_debug_faults() == 10);
 	return 0;
 }

@@ -5,6 +5,7 @@
 #include <array>
 #include <atomic>
 #include <csignal>
+#include <cstring>
 #include <ctime>
 #include <memory>
 #include <mutex>
@@ -392,6 +393,49 @@ static void ends() WW_SAFETY_(no_thread_safety_analysis)
 }
 
 // Readers beside each other, an upgrade, and a writer that only reads in the end; by a callable that runs again after a back-off.
+// The locks are what the callable acquires, with the context's limits; one that gives up holds nothing, and nothing is called.
+static void by_callables(mutex_class &c)
+{
+	account a(c), b(c);
+	const auto both = [&](context &x) WW_SAFETY_(no_thread_safety_analysis) {
+		if (const int r = x.lock(a.lock))
+			return r;
+		return a.sum ? 1 : x.lock(b.lock);
+	};
+	const auto twice = [&](context &x) WW_SAFETY_(no_thread_safety_analysis) {
+		const int r = x.lock(b.lock);
+
+		return r ? r : x.lock(b.lock);
+	};
+	const auto adds = [&] {
+		a.lock.assert_held();
+		b.lock.assert_held();
+		return a.sum += ++b.sum;
+	};
+
+	MUST(*ww::lock_by(c, both, adds) == 1 && !a.lock.is_locked() && !b.lock.is_locked());
+	MUST(ww::lock_by(c, both, adds).error() == 1 && !a.lock.is_locked());
+	MUST(ww::lock_by(c, twice, [] {}).error() == -EALREADY && ww::lock_by(c, twice, [] {}, WW_IGNORE_DUPLICATES));
+	guard held(b.lock);
+	MUST(ww::lock_by(c, twice, [] {}, std::chrono::milliseconds(1)).error() == -ETIMEDOUT);
+}
+
+// Each error of these calls has words of its own, none of which are those of a disk.
+static void messages()
+{
+	std::vector<std::string> all{ ww::message(0), ww::message(-EPERM) };
+
+	for (int error : { EDEADLK, EALREADY, EINTR, ETIMEDOUT, ENOSPC, ENOMEM, EBUSY, EINVAL }) {
+		MUST(std::find(all.begin(), all.end(), ww::message(-error)) == all.end() && std::strerror(error) != std::string(ww::message(-error)));
+		all.emplace_back(ww::message(-error));
+	}
+	mutex_class few(mutex_class::wait_die, "few");
+	MUST(!few.limit(1, 0));
+	mutex one(few), other(few);
+	MUST(ww::lock_all(few, { &one }, [] {}));
+	MUST(std::string(ww::message(ww::lock_all(few, { &other }, [] {}).error())).find("mutexes of the class are in use") != std::string::npos);
+}
+
 static void readers(mutex_class &c)
 {
 	ww::shared_mutex a(c), b(c, ww::numbered);
@@ -450,9 +494,11 @@ int main()
 		walks(own);
 		scopes(own);
 		readers(own);
+		by_callables(own);
 		storm(own);
 	}
 	ends();
+	messages();
 	lists(ww_class);
 	backs_off(ww_class);
 	forks();
