@@ -479,6 +479,45 @@ int ww_shared_mutex_await(struct ww_acquire_ctx *x, const struct timespec *until
 	return r;
 }
 
+/* ---- lists ---- */
+
+static int lock_items(struct ww_acquire_ctx *x, const void *items, size_t count)
+{
+	const struct ww_shared_item *all = items;
+	int r = 0;
+
+	for (size_t k = 0; k < count && !r; k++) {
+		const struct ww_shared_item *it = &all[k];
+
+		r = it->read ? ww_shared_mutex_lock_shared(it->read, x) : it->write ? ww_shared_mutex_lock(it->write, x) :
+			it->lock ? ww_mutex_lock(it->lock, x) : -EINVAL;
+	}
+	return r;
+}
+
+/* If it fails, the reads that it has made end, but for the desk where the context read before. */
+int ww_shared_mutex_lock_all(struct ww_acquire_ctx *x, const struct ww_shared_item *items, size_t count)
+{
+	bool sat;
+	uint32_t before;
+	int r;
+
+	if (UNLIKELY(!x || !x->own || is_loop(x))) {
+		ww_debug_fault(NULL, "ww_shared_mutex_lock_all", "the context has ended, or is in or behind ww_until_all_locked");
+		return -EINVAL;
+	}
+	if (is_polled(x))
+		return -EBUSY;
+	sat = sits(x, x->own->desk);
+	before = sat ? x->own->desk->reads : 0;
+	x->newest = NULL;
+	may_be_older(x);
+	r = ww_lock_list(x, lock_items, items, count, 0);
+	if (r && sat)
+		reads_on(x->own->desk, before);
+	return r;
+}
+
 /*
  * ---- by polls ----
  *

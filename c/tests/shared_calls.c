@@ -482,6 +482,73 @@ static void numbers_are_polled(void)
 	MUST(!ww_number_put(number, c) && !was_called());
 }
 
+/* ---- lists ---- */
+
+static int lists(struct ww_acquire_ctx *by, struct ww_shared_item one, struct ww_shared_item other)
+{
+	return ww_shared_mutex_lock_all(by, (const struct ww_shared_item[]){ one, other }, 2);
+}
+
+static void lists_are_acquired(void)
+{
+	const struct ww_shared_item items[] = { { .read = &m }, { .write = &n }, { .lock = &plain } };
+
+	begin_both();
+	MUST(!ww_shared_mutex_lock_all(&x, items, 3) && x.acquired == 3 && ww_mutex_is_held_by(&plain, &x));
+	MUST(ww_shared_mutex_is_read_by(&m, &x) && ww_shared_mutex_is_written_by(&n, &x) && can_read(&m, &y) && !can_read(&n, &y));
+	ww_mutex_unlock(&plain);
+	unlocks(&n, &x);
+	unlocks(&m, &x);
+	MUST(!ww_shared_mutex_lock_all(&x, items, 0) && !ww_shared_mutex_lock_all(&x, items, 1));
+	unlocks(&m, &x);
+	end_both();
+}
+
+static void lists_have_things_twice(void)
+{
+	unsigned long before = faults();
+
+	begin_both();
+	MUST(!lists(&x, (struct ww_shared_item){ .read = &m }, (struct ww_shared_item){ .read = &m }));
+	unlocks(&m, &x);
+	MUST(!can_write(&m, &y));
+	unlocks(&m, &x);
+	MUST(!lists(&x, (struct ww_shared_item){ .read = &m }, (struct ww_shared_item){ .write = &m }));
+	unlocks(&m, &x);
+	unlocks(&m, &x);
+	MUST(lists(&x, (struct ww_shared_item){ .write = &m }, (struct ww_shared_item){ .write = &m }) == -EALREADY);
+	MUST(lists(&x, (struct ww_shared_item){ .lock = &plain }, (struct ww_shared_item){ .lock = &plain }) == -EALREADY);
+	MUST(lists(&x, (struct ww_shared_item){ .read = &m }, (struct ww_shared_item){ 0 }) == -EINVAL && !x.acquired);
+	MUST(can_write(&m, &y) && !reads(&n, &x) && !reads(&n, &x)); /* what was read before still is, as often */
+	MUST(lists(&x, (struct ww_shared_item){ .read = &m }, (struct ww_shared_item){ 0 }) == -EINVAL && x.acquired == 1);
+	unlocks(&n, &x);
+	unlocks(&n, &x);
+	MUST(!x.acquired && can_write(&n, &y));
+	ww_acquire_flags(&x, WW_IGNORE_DUPLICATES);
+	MUST(!lists(&x, (struct ww_shared_item){ .write = &m }, (struct ww_shared_item){ .write = &m }) && x.acquired == 1 && faults() == before);
+	unlocks(&m, &x);
+	ww_until_all_locked(&y)
+		MUST(lists(&y, (struct ww_shared_item){ .read = &m }, (struct ww_shared_item){ .read = &n }) == -EINVAL);
+	MUST(faults() == before + TOLD);
+	end_both();
+}
+
+/* By Wait-Die it would have to back off, but for what it had before. */
+static void a_list_keeps_what_was_read(void)
+{
+	begin_both();
+	MUST(!writes(&m, &x) && !reads(&n, &y));
+	MUST(lists(&y, (struct ww_shared_item){ .lock = &plain }, (struct ww_shared_item){ .read = &m }) == -EDEADLK && y.acquired == 1);
+	MUST(!ww_mutex_is_held_by(&plain, &y) && ww_shared_mutex_is_read_by(&n, &y));
+	unlocks(&n, &y);
+	MUST(!y.acquired);
+	unlocks(&m, &x);
+	MUST(!lists(&y, (struct ww_shared_item){ .read = &m }, (struct ww_shared_item){ .write = &n }));
+	unlocks(&n, &y);
+	unlocks(&m, &y);
+	end_both();
+}
+
 /* ---- limits ---- */
 
 static void readers_take_mutexes_of_the_class(void)
@@ -528,7 +595,10 @@ static void of(struct ww_class *class)
 	a_poll_ends();
 	refuse_others_amid_a_poll();
 	numbers_are_polled();
+	lists_are_acquired();
+	lists_have_things_twice();
 	if (c->is_wait_die) {
+		a_list_keeps_what_was_read();
 		a_poll_backs_off();
 		a_loop_goes_on_after_a_writer();
 		a_loop_goes_on_after_a_reader();

@@ -1,7 +1,7 @@
 /*
  * shared.c - small programs of shared mutexes, each of which has to be right by every schedule.
  *
- * A thread is a text of transactions, each of which is a loop, in ( ), or by hand, in [ ]. Mutexes are a and b.
+ * A thread is a text of transactions, each of which is a loop, in ( ), or by hand, in [ ], or a list, in { }. Mutexes are a and b.
  *
  *	a b	reads			A B	writes, or comes to write what it reads
  *	?	the next is tried: where that fails the rest of the transaction is left out
@@ -235,6 +235,25 @@ static void by_hand(struct user *u, const char *at)
 	}
 }
 
+static void by_list(struct user *u, const char *at)
+{
+	struct ww_shared_item items[MOST] = { 0 };
+	size_t count = strcspn(at, "}");
+
+	MUST(count <= MOST);
+	for (size_t k = 0; k < count; k++)
+		*(isupper(at[k]) ? &items[k].write : &items[k].read) = &it_of(at[k])->lock;
+	MUST(!ww_shared_mutex_lock_all(&u->x, items, count));
+	for (size_t k = 0; k < count; k++)
+		strncat(u->got, &at[k], 1);
+	for (size_t k = 0; k < count; k++) {
+		struct it *it = it_of(at[k]);
+
+		(isupper(at[k]) ? u->writes : u->reads)[it - its] = true;
+		u->was[it - its] = it->data;
+	}
+}
+
 /* What readers and writers may find of each other, and what they leave. */
 static void use(struct user *u)
 {
@@ -284,11 +303,13 @@ static const char *transaction(const char *text)
 {
 	struct user u = { .got = "" };
 	bool is_loop = *text == '(';
-	const char *end = text + strcspn(text, ")]");
+	const char *end = text + strcspn(text, ")]}");
 
 	ww_acquire_init(&u.x, &c);
 	if (is_loop)
 		in_loop(&u, text + 1);
+	else if (*text == '{')
+		by_list(&u, text + 1);
 	else
 		by_hand(&u, text + 1);
 	use(&u);
@@ -321,7 +342,7 @@ static void destroy(bool is_had)
 void il_thread(const char *at)
 {
 	for (; *at; at++) {
-		if (strchr("([", *at))
+		if (strchr("([{", *at))
 			at = transaction(at);
 		else if (tolower(*at) == 'd')
 			destroy(*at == 'D');
@@ -407,5 +428,11 @@ const struct il_program il_programs[] = {
 	{ "poll-two-readers", { "(a1~2)3", "(a2~3)", "~1~2[yA]" }, CONTEXTS(4), 1 },
 	{ "poll-one-bit", { "[ya]", "(a)", "[zA]" }, CONTEXTS(4) | ONE_BIT, 1 },
 	{ "poll-downgrade", { "[yA]>", "[ya]", "(A)" }, CONTEXTS(4), 1 },
+	{ "list-cross", { "{aB}", "{bA}" }, CONTEXTS(4), 2 },
+	{ "list-cross-die", { "{aB}", "{bA}" }, CONTEXTS(4) | WAIT_DIE, 2 },
+	{ "list-upgrades", { "{aA}", "{aAb}" }, CONTEXTS(4), 2 },
+	{ "list-opposite", { "{AbB}", "{BbA}" }, CONTEXTS(4), 2 },
+	{ "list-readers", { "{ab}", "{ba}", "{aB}" }, CONTEXTS(4), 1 },
+	{ "list-beside", { "{aB}", "(bA)" }, CONTEXTS(4) | WAIT_DIE, 2 },
 	{ 0 },
 };
