@@ -479,6 +479,34 @@ int ww_shared_mutex_await(struct ww_acquire_ctx *x, const struct timespec *until
 	return r;
 }
 
+#ifdef WW_DEBUG
+static const struct ww_desk *desk_at(const struct ww_pool *p, uint32_t number)
+{
+	for (unsigned k = 0; k < MANY_BITS; k++)
+		for (const struct ww_desk *d = __atomic_load_n(&p->desks[k], __ATOMIC_SEQ_CST); d; d = d->next)
+			if (d->mutex.number == number)
+				return d;
+	return NULL;
+}
+
+/* What is seen here may be out of date. A mark may be from a read that has ended, as long as another one of its context hasn't. */
+void ww_debug_reads(const struct ww_pool *p, uint32_t number, FILE *to)
+{
+	const struct ww_desk *d = desk_at(p, number);
+	const char *before = "";
+
+	if (!d || !holder_of(&d->mutex) || !__atomic_load_n(&d->reads, __ATOMIC_RELAXED))
+		return;
+	fprintf(to, "\nseat %u reads mutex", d->seat);
+	for (uint32_t n = 0; n < p->locks; n++)
+		if (is_marked(d, n)) {
+			fprintf(to, "%s %u", before, n);
+			before = ",";
+		}
+	fprintf(to, "; for that it holds mutex %u", number);
+}
+#endif
+
 /* ---- lists ---- */
 
 static int lock_items(struct ww_acquire_ctx *x, const void *items, size_t count)

@@ -549,6 +549,100 @@ static void a_list_keeps_what_was_read(void)
 	end_both();
 }
 
+/* ---- who reads ---- */
+
+#ifdef WW_DEBUG
+static void readers_are_printed(void)
+{
+	uint32_t first = m.mutex_.number < n.mutex_.number ? m.mutex_.number : n.mutex_.number;
+	char *words, both[80], one[80];
+	size_t size;
+	FILE *to = open_memstream(&words, &size);
+
+	begin_both();
+	MUST(to && !reads(&m, &x) && !reads(&n, &x) && !reads(&m, &y));
+	ww_class_print(c, to);
+	MUST(!fclose(to));
+	snprintf(both, sizeof both, " reads mutex %u, %u; for that it holds mutex ", first, m.mutex_.number + n.mutex_.number - first);
+	snprintf(one, sizeof one, " reads mutex %u; for that it holds mutex ", m.mutex_.number);
+	MUST(strstr(words, both) && strstr(words, one) && !strstr(strstr(words, one) + 1, one));
+	free(words);
+	unlocks(&m, &y);
+	ww_acquire_end_reads(&x);
+	end_both();
+}
+
+static DEFINE_WW_CLASS(second_class);
+static struct ww_mutex of_second;
+static pthread_barrier_t both_hold;
+
+/* Reads, and waits for what is held by the other thread, which waits to write; until a cancel. */
+static void *reads_and_waits(void *arg)
+{
+	struct ww_acquire_ctx of_its;
+	int r;
+
+	ww_acquire_init(&of_its, &second_class);
+	MUST(!reads(&m, &x));
+	pthread_barrier_wait(&both_hold);
+	r = ww_mutex_lock_until(&of_second, &of_its, NULL);
+	MUST(!r || r == -EINTR);
+	if (!r) /* the other one was quicker */
+		ww_mutex_unlock(&of_second);
+	unlocks(&m, &x);
+	ww_acquire_fini(&of_its);
+	return arg;
+}
+
+static void *holds_and_writes(void *arg)
+{
+	struct ww_acquire_ctx of_its;
+	int r;
+
+	ww_acquire_init(&of_its, &second_class);
+	MUST(!ww_mutex_lock(&of_second, &of_its));
+	pthread_barrier_wait(&both_hold);
+	r = ww_shared_mutex_lock_until(&m, &y, NULL);
+	MUST(!r || r == -EINTR);
+	if (!r) /* likewise */
+		unlocks(&m, &y);
+	ww_mutex_unlock(&of_second);
+	ww_acquire_fini(&of_its);
+	return arg;
+}
+
+/* What the debug library says until it has warned of this. */
+static void deadlocks_name_readers(void)
+{
+	char words[8192] = "", reader[80];
+	FILE *said = tmpfile();
+	int standard_error = dup(2);
+	pthread_t threads[2];
+
+	begins(&y);
+	begins(&x);
+	ww_mutex_init(&of_second, &second_class);
+	ww_debug_check_interval(20);
+	MUST(said && standard_error >= 0 && dup2(fileno(said), 2) == 2 && !pthread_barrier_init(&both_hold, NULL, 2));
+	threads[0] = begin_thread(reads_and_waits, NULL);
+	threads[1] = begin_thread(holds_and_writes, NULL);
+	snprintf(reader, sizeof reader, " reads mutex %u; for that it holds mutex ", m.mutex_.number);
+	while (!strstr(words, reader)) {
+		usleep(1000);
+		fflush(stderr);
+		MUST(!fseek(said, 0, SEEK_SET));
+		words[fread(words, 1, sizeof words - 1, said)] = 0;
+	}
+	MUST(dup2(standard_error, 2) == 2 && strstr(words, "no class detects this deadlock of 2 threads"));
+	MUST(!ww_class_cancel(c) && !ww_class_cancel(&second_class));
+	end_thread(threads[0]);
+	end_thread(threads[1]);
+	MUST(!fclose(said) && !close(standard_error) && !pthread_barrier_destroy(&both_hold));
+	end_both();
+	MUST(!ww_mutex_destroy(&of_second) && !ww_class_free(&second_class));
+}
+#endif
+
 /* ---- limits ---- */
 
 static void readers_take_mutexes_of_the_class(void)
@@ -595,6 +689,9 @@ static void of(struct ww_class *class)
 	a_poll_ends();
 	refuse_others_amid_a_poll();
 	numbers_are_polled();
+#ifdef WW_DEBUG
+	readers_are_printed();
+#endif
 	lists_are_acquired();
 	lists_have_things_twice();
 	if (c->is_wait_die) {
@@ -605,6 +702,9 @@ static void of(struct ww_class *class)
 	}
 	reads_are_listed();
 	numbers_are_read();
+#ifdef WW_DEBUG
+	deadlocks_name_readers(); /* at last, since it cancels the class */
+#endif
 	MUST(!ww_shared_mutex_destroy(&m) && !ww_shared_mutex_destroy(&n) && !ww_mutex_destroy(&plain) && !ww_class_free(c));
 }
 
