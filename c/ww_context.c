@@ -156,13 +156,22 @@ int ww_acquire_fini_checked(struct ww_acquire_ctx *x)
 	return 0;
 }
 
+/* Whether what it holds is what it reads by: see ww_shared.c. */
+static const char *told_of_held(const struct ww_acquire_ctx *x)
+{
+	const struct ww_desk *d = x->own->desk;
+	bool reads = d && holder_of(&d->mutex) == x && x->acquired == 1;
+
+	return reads ? "the context still reads a mutex" : "the context still holds a mutex";
+}
+
 COLD static void fini_else(struct ww_acquire_ctx *x)
 {
 	if (!ww_acquire_fini_checked(x))
 		return;
 	DEBUG(ww_debug_unended(x));
 	end_of(class_of(x), "ww_acquire_fini", !x->own ? "the context has ended" : is_polled(x) ? WAITS_BY_POLL :
-		x->acquired ? "the context still holds a mutex" : told_at_begin(-ENOSPC));
+		x->acquired ? told_of_held(x) : told_at_begin(-ENOSPC));
 }
 
 void ww_acquire_fini(struct ww_acquire_ctx *x)

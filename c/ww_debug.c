@@ -634,6 +634,7 @@ static char *text_of_deadlock(const struct ww_pool *of, unsigned count)
 		print_wait(to, watch_of(s), "\n");
 		fprintf(to, " of class \"%s\", which thread %ld holds", name_of(s->pool),
 			__atomic_load_n(&watch_of(next)->tid, __ATOMIC_RELAXED));
+		ww_debug_reads(s->pool, __atomic_load_n(&watch_of(s)->wants, __ATOMIC_RELAXED) - 1, to);
 	}
 	return to && !fclose(to) ? words : NULL;
 }
@@ -756,8 +757,10 @@ char *ww_debug_seen(struct ww_pool *p)
 	for (uint32_t n = 0; n < p->locks; n++) {
 		uint32_t holder = __atomic_load_n(&p->debug->mutexes[n].seat, __ATOMIC_RELAXED);
 
-		if (holder)
-			fprintf(to, "\nmutex %u is held by seat %u", n, holder - 1);
+		if (!holder)
+			continue;
+		fprintf(to, "\nmutex %u is held by seat %u", n, holder - 1);
+		ww_debug_reads(p, n, to);
 	}
 	return fclose(to) ? NULL : words;
 }

@@ -43,6 +43,8 @@ WW_HIDDEN bool ww_debug_refuses(const char *call, const struct ww_mutex *m, cons
 WW_HIDDEN int ww_debug_told(struct ww_mutex *m, struct ww_acquire_ctx *x, int r, bool injects);
 /* Whether the last -EDEADLK of the context was made up, at this mutex, and it has released all since. */
 WW_HIDDEN bool ww_debug_injected(const struct ww_mutex *m, const struct ww_acquire_ctx *x);
+/* Of ww_shared.c: a line of what somebody reads by the mutex of this number, if it is a desk's. */
+WW_HIDDEN void ww_debug_reads(const struct ww_pool *p, uint32_t number, FILE *to);
 /* Of ww_pool.c: the pools of all classes, whose list is locked until the other is called. */
 WW_HIDDEN const struct ww_pool *ww_lock_pools(void);
 WW_HIDDEN void ww_unlock_pools(void);

@@ -258,18 +258,17 @@ static bool held_before(const struct ww_acquire_ctx *x)
 	return x->acquired > listed;
 }
 
-/* Goes on as in a loop, which ends here; r is what the locks returned so far, or 0 if none was made. */
-COLD static int lock_all_on(struct ww_acquire_ctx *x, struct ww_mutex *const *locks, size_t count, int r)
+COLD int ww_lock_list(struct ww_acquire_ctx *x, ww_locks_each *each, const void *locks, size_t count, int r)
 {
 	bool held = held_before(x);
 
 	begin_loop(x);
 	become(x, TRIES, 0);
 	if (!r)
-		r = lock_each(x, locks, count);
+		r = each(x, locks, count);
 	while (r == -EDEADLK && !held) {
 		back_off(x);
-		r = lock_each(x, locks, count);
+		r = each(x, locks, count);
 	}
 	if (r)
 		release_all(x);
@@ -277,6 +276,8 @@ COLD static int lock_all_on(struct ww_acquire_ctx *x, struct ww_mutex *const *lo
 	become(x, TRIES | IS_PRELOCKED, 0);
 	return r;
 }
+
+static int each_mutex(struct ww_acquire_ctx *x, const void *locks, size_t count) { return lock_each(x, locks, count); }
 
 static inline void begin_list(struct ww_acquire_ctx *x, struct ww_mutex *const *locks, size_t count)
 {
@@ -292,7 +293,7 @@ COLD static int lock_all_else(struct ww_acquire_ctx *x, struct ww_mutex *const *
 	if (is_polled(x))
 		return -EBUSY;
 	begin_list(x, locks, count);
-	return lock_all_on(x, locks, count, 0);
+	return ww_lock_list(x, each_mutex, locks, count, 0);
 }
 
 int ww_mutex_lock_all(struct ww_acquire_ctx *x, struct ww_mutex *const *locks, size_t count)
@@ -307,5 +308,5 @@ int ww_mutex_lock_all(struct ww_acquire_ctx *x, struct ww_mutex *const *locks, s
 		return lock_all_else(x, locks, count);
 	begin_list(x, locks, count);
 	r = lock_each(x, locks, count);
-	return LIKELY(!r) ? 0 : lock_all_on(x, locks, count, r);
+	return LIKELY(!r) ? 0 : ww_lock_list(x, each_mutex, locks, count, r);
 }

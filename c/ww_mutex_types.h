@@ -70,6 +70,9 @@ struct ww_acquire_ctx {
 	unsigned int cancelled;
 	unsigned int deadlock_inject_interval, deadlock_inject_countdown; /* of the debug library */
 	unsigned long stamp;		/* likewise */
-	void *empty_[2];		/* an empty handle: by it an unlock returns that it has more to do */
+	__extension__ union {		/* in a loop, and outside: */
+		void *empty_[2];	/* an empty handle: by it an unlock returns that it has more to do */
+		const void *poller;	/* IS_POLLED: which call of a shared mutex waits: see ww_shared.c */
+	};
 };
 #endif

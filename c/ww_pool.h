@@ -509,6 +509,13 @@ WW_HIDDEN int ww_try_by(struct ww_mutex *m, struct ww_acquire_ctx *x);
 WW_HIDDEN int ww_lock_in_loop(struct ww_mutex *m, struct ww_acquire_ctx *x, const struct ww_wait *how);
 /* What a lock call in a loop returns, if the proved library returned r. */
 WW_HIDDEN int ww_looped(struct ww_mutex *m, struct ww_acquire_ctx *x, int r);
+/* Locks each of a list, up to the first one that fails. */
+typedef int ww_locks_each(struct ww_acquire_ctx *x, const void *locks, size_t count);
+/*
+ * Acquires all of a list, as in a loop, which ends here, and backs off unless the context held something before; r is what the
+ * locks returned so far, or 0 if none was made.  `newest` is what they acquired so far.
+ */
+WW_HIDDEN int ww_lock_list(struct ww_acquire_ctx *x, ww_locks_each *each, const void *locks, size_t count, int r);
 /* Whether a lock call of a mutex that its context holds already succeeds: see ww_loop.c. */
 WW_HIDDEN bool ww_has_for(struct ww_acquire_ctx *x, struct ww_mutex *m, bool twice);
 /* Whether the context has waited for the mutex before the body of its loop asked for it, as that has yet to do. */

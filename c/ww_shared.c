@@ -47,16 +47,21 @@
 #endif
 enum { WORD = 64 };
 
-/* How a call waits: as its context does, or until a time, or a cancel, or not at all. */
+/* How a call waits: as its context does, or until a time, or a cancel, or not at all, or by polls. */
 struct limit {
-	enum { WAITS_ON, ENDS, TRIES_ONCE } how;
-	const struct timespec *until;
+	enum { WAITS_ON, ENDS, TRIES_ONCE, POLLS } how;
+	union {
+		const struct timespec *until;
+		const struct ww_waker *waker;
+	};
 };
 
 static inline int acquire(struct ww_mutex *m, struct ww_acquire_ctx *x, struct limit limit)
 {
 	if (LIKELY(limit.how == WAITS_ON))
 		return ww_mutex_lock(m, x);
+	if (limit.how == POLLS)
+		return ww_mutex_lock_poll(m, x, limit.waker);
 	return limit.how == ENDS ? ww_mutex_lock_until(m, x, limit.until) : ww_mutex_trylock_checked(m, x) == 1 ? 0 : -EBUSY;
 }
 
@@ -323,16 +328,18 @@ static __attribute__((noinline)) int read_by(struct ww_mutex *m, uint64_t *reade
 	int r = LIKELY(x) && LIKELY(pool_at(m) == x->pool) ? 0 : may_read(m, x);
 	struct ww_desk *d;
 
+	if (UNLIKELY(!r && is_polled(x)) && limit.how != POLLS)
+		return -EBUSY;
 	if (LIKELY(!r) && !sits(x, x->own->desk))
 		r = sit(x, limit);
 	if (UNLIKELY(r))
 		return r;
 	d = x->own->desk;
-	if (UNLIKELY(!reads_at_once(m, readers, x, d)))
+	if (is_polled(x) || UNLIKELY(!reads_at_once(m, readers, x, d)))
 		r = reads_in_turn(m, readers, x, d, limit);
 	if (LIKELY(!r))
 		reads_more(d);
-	else
+	else if (r != -EINPROGRESS)
 		reads_on(d, d->reads);
 	return r;
 }
@@ -340,7 +347,7 @@ static __attribute__((noinline)) int read_by(struct ww_mutex *m, uint64_t *reade
 /* First the quick way, which is enough where nobody writes. */
 int ww_shared_mutex_lock_shared(struct ww_shared_mutex *m, struct ww_acquire_ctx *x)
 {
-	struct ww_desk *d = LIKELY(x) && LIKELY(pool_at(&m->mutex_) == x->pool) ? x->own->desk : NULL;
+	struct ww_desk *d = LIKELY(x) && LIKELY(pool_at(&m->mutex_) == x->pool) && !is_polled(x) ? x->own->desk : NULL;
 	int r = LIKELY(d) && !sits(x, d) ? sit(x, (struct limit){ 0 }) : 0;
 
 	if (UNLIKELY(!d) || UNLIKELY(r) || UNLIKELY(!reads_at_once(&m->mutex_, &m->readers_, x, d)))
@@ -351,12 +358,12 @@ int ww_shared_mutex_lock_shared(struct ww_shared_mutex *m, struct ww_acquire_ctx
 
 int ww_shared_mutex_lock_shared_until(struct ww_shared_mutex *m, struct ww_acquire_ctx *x, const struct timespec *until)
 {
-	return is_time(until) ? read_by(&m->mutex_, &m->readers_, x, (struct limit){ ENDS, until }) : -EINVAL;
+	return is_time(until) ? read_by(&m->mutex_, &m->readers_, x, (struct limit){ ENDS, { until } }) : -EINVAL;
 }
 
 int ww_shared_mutex_trylock_shared(struct ww_shared_mutex *m, struct ww_acquire_ctx *x)
 {
-	return !read_by(&m->mutex_, &m->readers_, x, (struct limit){ TRIES_ONCE, NULL });
+	return !read_by(&m->mutex_, &m->readers_, x, (struct limit){ TRIES_ONCE, { NULL } });
 }
 
 /* ---- writes ---- */
@@ -412,6 +419,8 @@ static inline int write_by(struct ww_mutex *m, uint64_t *readers, struct ww_acqu
 	if (UNLIKELY(r) || LIKELY(!__atomic_load_n(readers, __ATOMIC_SEQ_CST)) || writes)
 		return r;
 	r = await_readers(m, readers, x, limit);
+	if (r == -EINPROGRESS)
+		return r;
 	if (r)
 		ww_mutex_unlock(m);
 	return r;
@@ -421,17 +430,17 @@ int ww_shared_mutex_lock(struct ww_shared_mutex *m, struct ww_acquire_ctx *x) { 
 
 int ww_shared_mutex_lock_until(struct ww_shared_mutex *m, struct ww_acquire_ctx *x, const struct timespec *until)
 {
-	return write_by(&m->mutex_, &m->readers_, x, (struct limit){ ENDS, until });
+	return write_by(&m->mutex_, &m->readers_, x, (struct limit){ ENDS, { until } });
 }
 
-int ww_shared_mutex_trylock(struct ww_shared_mutex *m, struct ww_acquire_ctx *x) { return !write_by(&m->mutex_, &m->readers_, x, (struct limit){ TRIES_ONCE, NULL }); }
+int ww_shared_mutex_trylock(struct ww_shared_mutex *m, struct ww_acquire_ctx *x) { return !write_by(&m->mutex_, &m->readers_, x, (struct limit){ TRIES_ONCE, { NULL } }); }
 
 void ww_shared_mutex_downgrade(struct ww_shared_mutex *m, struct ww_acquire_ctx *x)
 {
 	struct ww_desk *d;
 
-	if (UNLIKELY(!x || !x->own || !has(x, &m->mutex_)))
-		end("ww_shared_mutex_downgrade", "the context doesn't write the mutex");
+	if (UNLIKELY(!x || !x->own || is_polled(x) || !has(x, &m->mutex_)))
+		end("ww_shared_mutex_downgrade", x && x->own && is_polled(x) ? WAITS_BY_POLL : "the context doesn't write the mutex");
 	if (!x->own->desk && make_desk(x->own))
 		return;
 	d = x->own->desk;
@@ -470,20 +479,185 @@ int ww_shared_mutex_await(struct ww_acquire_ctx *x, const struct timespec *until
 	return r;
 }
 
+#ifdef WW_DEBUG
+static const struct ww_desk *desk_at(const struct ww_pool *p, uint32_t number)
+{
+	for (unsigned k = 0; k < MANY_BITS; k++)
+		for (const struct ww_desk *d = __atomic_load_n(&p->desks[k], __ATOMIC_SEQ_CST); d; d = d->next)
+			if (d->mutex.number == number)
+				return d;
+	return NULL;
+}
+
+/* What is seen here may be out of date. A mark may be from a read that has ended, as long as another one of its context hasn't. */
+void ww_debug_reads(const struct ww_pool *p, uint32_t number, FILE *to)
+{
+	const struct ww_desk *d = desk_at(p, number);
+	const char *before = "";
+
+	if (!d || !holder_of(&d->mutex) || !__atomic_load_n(&d->reads, __ATOMIC_RELAXED))
+		return;
+	fprintf(to, "\nseat %u reads mutex", d->seat);
+	for (uint32_t n = 0; n < p->locks; n++)
+		if (is_marked(d, n)) {
+			fprintf(to, "%s %u", before, n);
+			before = ",";
+		}
+	fprintf(to, "; for that it holds mutex %u", number);
+}
+#endif
+
+/* ---- lists ---- */
+
+static int lock_items(struct ww_acquire_ctx *x, const void *items, size_t count)
+{
+	const struct ww_shared_item *all = items;
+	int r = 0;
+
+	for (size_t k = 0; k < count && !r; k++) {
+		const struct ww_shared_item *it = &all[k];
+
+		r = it->read ? ww_shared_mutex_lock_shared(it->read, x) : it->write ? ww_shared_mutex_lock(it->write, x) :
+			it->lock ? ww_mutex_lock(it->lock, x) : -EINVAL;
+	}
+	return r;
+}
+
+/* If it fails, the reads that it has made end, but for the desk where the context read before. */
+int ww_shared_mutex_lock_all(struct ww_acquire_ctx *x, const struct ww_shared_item *items, size_t count)
+{
+	bool sat;
+	uint32_t before;
+	int r;
+
+	if (UNLIKELY(!x || !x->own || is_loop(x))) {
+		ww_debug_fault(NULL, "ww_shared_mutex_lock_all", "the context has ended, or is in or behind ww_until_all_locked");
+		return -EINVAL;
+	}
+	if (is_polled(x))
+		return -EBUSY;
+	sat = sits(x, x->own->desk);
+	before = sat ? x->own->desk->reads : 0;
+	x->newest = NULL;
+	may_be_older(x);
+	r = ww_lock_list(x, lock_items, items, count, 0);
+	if (r && sat)
+		reads_on(x->own->desk, before);
+	return r;
+}
+
+/*
+ * ---- by polls ----
+ *
+ * Each lock on the way is a poll of its own, and a further call goes on at the lock for which the context waits (`polled`): its own
+ * desk, the mutex, or for a write somebody else's desk, while it has the mutex.  Once such a lock is acquired it goes on as a call
+ * that begins there.  -EINPROGRESS leaves all as it is, since from then on another thread may go on with the context.
+ */
+
+/* What `poller` is: of a write the mutex, of a read an odd address, and NULL of one that awaits another context. */
+static const void *reader_of(const struct ww_mutex *m) { return (const char *)m + 1; }
+
+static inline bool waits_at_desk(const struct ww_acquire_ctx *x)
+{
+	return __atomic_load_n(&x->polled->waiters, __ATOMIC_RELAXED) & IS_DESK;
+}
+
+/* Only the same call goes on with a wait. */
+static int may_poll(struct ww_acquire_ctx *x, const struct ww_mutex *m, const void *poller)
+{
+	if (UNLIKELY(!x || (x->own && is_loop(x))))
+		return -EINVAL;
+	if (is_polled(x))
+		return x->poller == poller && (x->polled == m || waits_at_desk(x)) ? 0 : -EBUSY;
+	x->poller = poller;
+	return 0;
+}
+
+static int read_poll(struct ww_mutex *m, uint64_t *readers, struct ww_acquire_ctx *x, const struct ww_waker *waker)
+{
+	int r = may_poll(x, m, reader_of(m));
+
+	return r ? r : read_by(m, readers, x, (struct limit){ POLLS, .waker = waker });
+}
+
+/* It waits for whoever has this desk, and then for the other readers. */
+static int await_polled(struct ww_mutex *m, uint64_t *readers, struct ww_acquire_ctx *x, struct limit limit)
+{
+	struct ww_desk *d = (struct ww_desk *)(void *)x->polled;
+	int r = acquire(&d->mutex, x, limit);
+
+	if (!r) {
+		wipe(d);
+		ww_mutex_unlock(&d->mutex);
+		r = await_readers(m, readers, x, limit);
+	}
+	if (r && r != -EINPROGRESS)
+		ww_mutex_unlock(m);
+	return r;
+}
+
+static int write_poll(struct ww_mutex *m, uint64_t *readers, struct ww_acquire_ctx *x, const struct ww_waker *waker)
+{
+	const struct limit limit = { POLLS, .waker = waker };
+	int r = may_poll(x, m, m);
+
+	if (r)
+		return r;
+	return is_polled(x) && x->polled != m ? await_polled(m, readers, x, limit) : write_by(m, readers, x, limit);
+}
+
+int ww_shared_mutex_lock_shared_poll(struct ww_shared_mutex *m, struct ww_acquire_ctx *x, const struct ww_waker *waker)
+{
+	return read_poll(&m->mutex_, &m->readers_, x, waker);
+}
+
+int ww_shared_mutex_lock_poll(struct ww_shared_mutex *m, struct ww_acquire_ctx *x, const struct ww_waker *waker)
+{
+	return write_poll(&m->mutex_, &m->readers_, x, waker);
+}
+
+int ww_shared_mutex_await_poll(struct ww_acquire_ctx *x, const struct ww_waker *waker)
+{
+	struct ww_mutex *m = x->contending_lock;
+	int r = may_poll(x, m, NULL);
+
+	if (!r)
+		r = ww_mutex_lock_poll(m, x, waker);
+	if (!r)
+		ww_mutex_unlock(m);
+	return r;
+}
+
 /* ---- by number: outside loops the library's mutex doesn't say who holds it, as in ww_number.c ---- */
 
 int ww_number_lock_shared(uint32_t number, uint64_t *readers, struct ww_acquire_ctx *x, const struct timespec *until)
 {
 	struct ww_mutex *m = ww_number_asked("ww_number_lock_shared", number, x, 0);
 
-	return m && is_time(until) ? read_by(m, readers, x, (struct limit){ ENDS, until }) : -EINVAL;
+	return m && is_time(until) ? read_by(m, readers, x, (struct limit){ ENDS, { until } }) : -EINVAL;
 }
 
 int ww_number_lock_exclusive(uint32_t number, uint64_t *readers, struct ww_acquire_ctx *x, const struct timespec *until)
 {
 	struct ww_mutex *m = ww_number_asked("ww_number_lock_exclusive", number, x, 0);
 
-	return m ? ww_number_told(m, x, write_by(m, readers, x, (struct limit){ ENDS, until })) : -EINVAL;
+	return m ? ww_number_told(m, x, write_by(m, readers, x, (struct limit){ ENDS, { until } })) : -EINVAL;
+}
+
+int ww_number_lock_shared_poll(uint32_t number, uint64_t *readers, struct ww_acquire_ctx *x, const struct ww_waker *waker)
+{
+	struct ww_mutex *m = ww_number_asked("ww_number_lock_shared_poll", number, x, 0);
+
+	return m ? read_poll(m, readers, x, waker) : -EINVAL;
+}
+
+/* If it waits, another thread may already use the context. */
+int ww_number_lock_exclusive_poll(uint32_t number, uint64_t *readers, struct ww_acquire_ctx *x, const struct ww_waker *waker)
+{
+	struct ww_mutex *m = ww_number_asked("ww_number_lock_exclusive_poll", number, x, 0);
+	int r = m ? write_poll(m, readers, x, waker) : -EINVAL;
+
+	return m && r != -EINPROGRESS ? ww_number_told(m, x, r) : r;
 }
 
 bool ww_number_is_read(uint32_t number, const struct ww_acquire_ctx *x)

@@ -98,6 +98,32 @@ WW_MUST_CHECK int ww_number_lock_shared(uint32_t number, uint64_t *readers, stru
 WW_MUST_CHECK int ww_number_lock_exclusive(uint32_t number, uint64_t *readers, struct ww_acquire_ctx *ctx,
 					   const struct timespec *monotonic);
 bool ww_number_is_read(uint32_t number, const struct ww_acquire_ctx *ctx);
+/* One of a list: a shared mutex that is read or written, or another mutex; the others are NULL. */
+struct ww_shared_item {
+	struct ww_shared_mutex *read, *write;
+	struct ww_mutex *lock;
+};
+/*
+ * Acquires all of a list in this order, as ww_mutex_lock_all: it backs off by itself, and if it returns an error, it has released
+ * what it had acquired.  What the list has twice, or the context had before, is -EALREADY if it is written or locked again.
+ * -EDEADLK: only if the context held or read something before, which it has to release.
+ */
+WW_MUST_CHECK int ww_shared_mutex_lock_all(struct ww_acquire_ctx *ctx, const struct ww_shared_item *items, size_t count);
+/*
+ * For event loops and coroutines: the same as polls of ww_poll.h, as ww_mutex_lock_poll is one.  A further call goes on only if it
+ * is the same one.  Without a waker (NULL) a call ends the wait, and what it has acquired on its way is released again: what was
+ * read and written before still is.  After -EDEADLK release everything, and poll ww_shared_mutex_await_poll, which holds nothing
+ * once it returns 0; then begin again.
+ */
+struct ww_waker;
+WW_MUST_CHECK int ww_shared_mutex_lock_shared_poll(struct ww_shared_mutex *lock, struct ww_acquire_ctx *ctx,
+						   const struct ww_waker *waker);
+WW_MUST_CHECK int ww_shared_mutex_lock_poll(struct ww_shared_mutex *lock, struct ww_acquire_ctx *ctx, const struct ww_waker *waker);
+WW_MUST_CHECK int ww_shared_mutex_await_poll(struct ww_acquire_ctx *ctx, const struct ww_waker *waker);
+WW_MUST_CHECK int ww_number_lock_shared_poll(uint32_t number, uint64_t *readers, struct ww_acquire_ctx *ctx,
+					     const struct ww_waker *waker);
+WW_MUST_CHECK int ww_number_lock_exclusive_poll(uint32_t number, uint64_t *readers, struct ww_acquire_ctx *ctx,
+						const struct ww_waker *waker);
 /* For C++, as ww_mutex_end_. */
 int ww_shared_mutex_end_(struct ww_shared_mutex *lock);
 /* The size of the structure in this library, for languages that don't read this header. */
@@ -116,6 +142,12 @@ size_t ww_shared_mutex_size(void);
 #define ww_shared_mutex_downgrade(...) (WW_HERE_, ww_shared_mutex_downgrade(__VA_ARGS__))
 #define ww_shared_mutex_unlock(...) (WW_HERE_, ww_shared_mutex_unlock(__VA_ARGS__))
 #define ww_shared_mutex_await(...) (WW_HERE_, ww_shared_mutex_await(__VA_ARGS__))
+#define ww_shared_mutex_lock_all(...) (WW_HERE_, ww_shared_mutex_lock_all(__VA_ARGS__))
+#define ww_shared_mutex_lock_shared_poll(...) (WW_HERE_, ww_shared_mutex_lock_shared_poll(__VA_ARGS__))
+#define ww_shared_mutex_lock_poll(...) (WW_HERE_, ww_shared_mutex_lock_poll(__VA_ARGS__))
+#define ww_shared_mutex_await_poll(...) (WW_HERE_, ww_shared_mutex_await_poll(__VA_ARGS__))
+#define ww_number_lock_shared_poll(...) (WW_HERE_, ww_number_lock_shared_poll(__VA_ARGS__))
+#define ww_number_lock_exclusive_poll(...) (WW_HERE_, ww_number_lock_exclusive_poll(__VA_ARGS__))
 #define ww_number_lock_shared(...) (WW_HERE_, ww_number_lock_shared(__VA_ARGS__))
 #define ww_number_lock_exclusive(...) (WW_HERE_, ww_number_lock_exclusive(__VA_ARGS__))
 #endif

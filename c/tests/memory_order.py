@@ -315,6 +315,7 @@ TABLE = {
         "lock_by_any": "fetch_add sc, fetch_sub sc", "ww_number_put": "load sc, compare_exchange sc/sc",
         "ww_number_take": "fetch_add rlx",
         "wait_first": "load rlx", # whether it is a desk's, which it always is
+        "waits_at_desk": "load rlx", # likewise
     },
     # A reader marks, and then looks whether the mutex is free; a writer has that, and then looks for bits, desks and marks. Of bits
     # the same: who finds its mutex free again, after another had it, finds the bit that this one cleared gone.
@@ -323,7 +324,7 @@ TABLE = {
         "reads_at_once": "load sc, fetch_or sc, load sc", "read_held": "fetch_or sc",
         "await_readers": "load sc, fetch_and sc", "write_by": "load sc",
     },
-    "desks": {"make_desk": "store sc", "is_read": "load sc", "await_readers": "load sc"},
+    "desks": {"make_desk": "store sc", "is_read": "load sc", "await_readers": "load sc", "desk_at": "load sc"},
     # What was read comes before a mark that is gone. Others than its own thread look at marks alone.
     "marks": {
         "mark": "exchange sc", "unmark": "store rel", "wipe": "store rel", "await_desk": "load sc", "reads_it": "load acq",
@@ -332,7 +333,7 @@ TABLE = {
     # Whoever sees a read sees that the marks from before it are gone.
     "reads": {
         "sit": "store rlx", "sit_for_certain": "store rlx", "reads_more": "store rel", "reads_it": "load acq",
-        "reads_on": "store rlx",
+        "reads_on": "store rlx", "ww_debug_reads": "load rlx",
     },
     # All of an open class; and of a mutex the number, which its first lock may just have given it.
     "pool": {
@@ -420,7 +421,7 @@ TABLE = {
     },
     "wants": {
         "has": "load rlx", "ww_debug_waits": "store rlx", "next_wait": "load rlx", "print_wait": "load rlx",
-        "look_for_long_wait": "load rlx", "print_seat": "load rlx",
+        "look_for_long_wait": "load rlx", "print_seat": "load rlx", "text_of_deadlock": "load rlx",
     },
     "tid": {"use": "store rlx", "text_of_deadlock": "load rlx", "print_wait": "load rlx", "has_ended": "load rlx", "print_seat": "load rlx"},
     "endless": {"ww_debug_waits": "store rlx", "deadlock": "load rlx"},

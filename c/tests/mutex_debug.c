@@ -7,6 +7,7 @@
 #define WW_DEBUG
 #endif
 #include "mutex_test.h"
+#include "../ww_shared.h"
 #include <sys/mman.h>
 #include <sys/wait.h>
 
@@ -39,6 +40,15 @@ static void done_twice(void)
 	HERE(ww_acquire_done(&x));
 }
 static void fini_with_a_mutex(void) { HERE(ww_acquire_fini(&x)); }
+static void fini_while_it_reads(void)
+{
+	static struct ww_shared_mutex read;
+
+	ww_shared_mutex_init(&read, &c);
+	ww_mutex_unlock(&a);
+	MUST(!ww_shared_mutex_lock_shared(&read, &x));
+	HERE(ww_acquire_fini(&x));
+}
 static void releases_all_without_a_loop(void)
 {
 	HERE(ww_acquire_unlock_all(&x));
@@ -359,6 +369,7 @@ int main(int count, char **words)
 	tells(tries_after_done, "ww_mutex_lock: class \"c\": the context is done");
 	tells(done_twice, "ww_acquire_done: class \"c\": the context is done, or has ended");
 	tells(fini_with_a_mutex, "ww_acquire_fini: class \"c\": the context still holds a mutex");
+	tells(fini_while_it_reads, "ww_acquire_fini: class \"c\": the context still reads a mutex");
 	tells(ends_without_looking, "ww_acquire_fini: class \"c\": the context still holds a mutex, and got -EDEADLK at $");
 	tells(releases_all_without_a_loop,
 	      "ww_acquire_unlock_all: class \"c\": outside ww_until_all_locked this call releases nothing");

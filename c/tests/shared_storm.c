@@ -1,12 +1,15 @@
 /*
- * Storms of shared mutexes, in both kinds: threads read, write, upgrade and downgrade some of few cells, in a loop or by hand.  A
+ * Storms of shared mutexes, in both kinds: threads read, write, upgrade and downgrade some of few cells, in a loop, as a list, by
+ * hand or by polls, some of which end the wait and begin again.  A
  * read never sees half of a write, an upgrade finds what it read, readers and writers inside a cell are counted, and what was written
  * sums up exactly; two contexts of a thread read beside each other; and what somebody reads isn't destroyed.
  *
  *	shared_storm [ROUNDS [THREADS [CELLS]]]
  */
 #include "mutex_test.h"
+#include "../ww_poll.h"
 #include "../ww_shared.h"
+#include <semaphore.h>
 
 enum { MOST = 6, MANY = 16, CELLS = 64 };
 enum what { READS, WRITES, UPGRADES, DOWNGRADES };
@@ -54,20 +57,62 @@ static unsigned draw(struct step *steps, unsigned *x)
 	return count;
 }
 
+enum way { LOOP, LIST, BY_HAND, BY_POLLS };
+
+/* A thread sleeps there. A waker that comes late only makes it poll once more. */
+static sem_t called[MANY];
+
+static void call(void *loop, void *task)
+{
+	(void)loop;
+	MUST(!sem_post(task));
+}
+
+/* A poll of a cell, or without one of the wait after -EDEADLK. */
+static int poll_once(const struct step *s, bool writes, struct ww_acquire_ctx *ctx, const struct ww_waker *waker)
+{
+	if (!s)
+		return ww_shared_mutex_await_poll(ctx, waker);
+	return writes ? ww_shared_mutex_lock_poll(&s->it->lock, ctx, waker) : ww_shared_mutex_lock_shared_poll(&s->it->lock, ctx, waker);
+}
+
+/* Each fourth wait ends, and begins again. */
+static int by_polls(const struct step *s, bool writes, struct ww_acquire_ctx *ctx, unsigned me)
+{
+	static __thread unsigned waits;
+	const struct ww_waker waker = { call, NULL, &called[me] };
+	int r;
+
+	while ((r = poll_once(s, writes, ctx, &waker)) == -EINPROGRESS) {
+		if (++waits % 4)
+			sem_wait(&called[me]);
+		else if ((r = poll_once(s, writes, ctx, NULL)) != -ETIMEDOUT)
+			break;
+	}
+	return r;
+}
+
+static int lock(const struct step *s, bool writes, struct ww_acquire_ctx *ctx, unsigned me, enum way way)
+{
+	if (way == BY_POLLS)
+		return by_polls(s, writes, ctx, me);
+	return writes ? ww_shared_mutex_lock(&s->it->lock, ctx) : ww_shared_mutex_lock_shared(&s->it->lock, ctx);
+}
+
 /* The locks of a step; -EDEADLK. */
-static int locks(struct step *s, struct ww_acquire_ctx *ctx)
+static int locks(struct step *s, struct ww_acquire_ctx *ctx, unsigned me, enum way way)
 {
 	int r = 0;
 
 	if (s->what == READS || s->what == UPGRADES) {
-		r = ww_shared_mutex_lock_shared(&s->it->lock, ctx);
+		r = lock(s, false, ctx, me, way);
 		if (r)
 			return r;
 		MUST(s->it->a == s->it->b && ww_shared_mutex_is_read_by(&s->it->lock, ctx));
 		s->seen = s->it->a;
 	}
 	if (s->what != READS)
-		r = ww_shared_mutex_lock(&s->it->lock, ctx);
+		r = lock(s, true, ctx, me, way);
 	MUST(r || s->what != UPGRADES || s->it->a == s->seen);
 	return r;
 }
@@ -76,12 +121,26 @@ static void in_loop(struct step *steps, unsigned count, struct ww_acquire_ctx *c
 {
 	ww_until_all_locked(ctx) {
 		for (unsigned k = 0; k < count; k++) {
-			int r = locks(&steps[k], ctx);
+			int r = locks(&steps[k], ctx, 0, LOOP);
 
 			ww_retry_on_contention(ctx);
 			MUST(!r);
 		}
 	}
+}
+
+static void in_list(struct step *steps, unsigned count, struct ww_acquire_ctx *ctx)
+{
+	struct ww_shared_item items[2 * MOST];
+	unsigned k = 0;
+
+	for (const struct step *s = steps; s < steps + count; s++) {
+		if (s->what == READS || s->what == UPGRADES)
+			items[k++] = (struct ww_shared_item){ .read = &s->it->lock };
+		if (s->what != READS)
+			items[k++] = (struct ww_shared_item){ .write = &s->it->lock };
+	}
+	MUST(!ww_shared_mutex_lock_all(ctx, items, k));
 }
 
 /* What one lock call got, each by one unlock. */
@@ -92,10 +151,10 @@ static void unlock(const struct step *s, struct ww_acquire_ctx *ctx)
 		MUST(!ww_shared_mutex_unlock(&s->it->lock, ctx));
 }
 
-static void by_hand(struct step *steps, unsigned count, struct ww_acquire_ctx *ctx)
+static void by_hand(struct step *steps, unsigned count, struct ww_acquire_ctx *ctx, unsigned me, enum way way)
 {
 	for (unsigned k = 0; k < count; k++) {
-		int r = locks(&steps[k], ctx);
+		int r = locks(&steps[k], ctx, me, way);
 
 		if (!r)
 			continue;
@@ -104,7 +163,7 @@ static void by_hand(struct step *steps, unsigned count, struct ww_acquire_ctx *c
 			MUST(!ww_shared_mutex_unlock(&steps[k].it->lock, ctx));
 		while (k--)
 			unlock(&steps[k], ctx);
-		MUST(!ctx->acquired && !ww_shared_mutex_await(ctx, NULL));
+		MUST(!ctx->acquired && !(way == BY_POLLS ? by_polls(NULL, false, ctx, me) : ww_shared_mutex_await(ctx, NULL)));
 	}
 }
 
@@ -140,20 +199,22 @@ static void transact(unsigned me, unsigned *x)
 	struct ww_acquire_ctx ctx;
 	struct step steps[MOST];
 	unsigned count = draw(steps, x);
-	bool is_loop = next(x) % 2;
+	enum way way = (enum way)(next(x) % 4);
 
 	ww_acquire_init(&ctx, &c);
-	if (is_loop)
+	if (way == LOOP)
 		in_loop(steps, count, &ctx);
+	else if (way == LIST)
+		in_list(steps, count, &ctx);
 	else
-		by_hand(steps, count, &ctx);
+		by_hand(steps, count, &ctx, me, way);
 	use(steps, count, me, x);
 	for (unsigned k = 0; k < count; k++)
 		if (steps[k].what == DOWNGRADES)
 			downgrade(&steps[k], &ctx);
-	for (unsigned k = count; k-- && !is_loop;)
+	for (unsigned k = count; k-- && way != LOOP;)
 		unlock(&steps[k], &ctx);
-	MUST(is_loop || !ctx.acquired);
+	MUST(way == LOOP || !ctx.acquired);
 	ww_acquire_unlock_all(&ctx);
 	ww_acquire_fini(&ctx);
 }
@@ -220,6 +281,8 @@ int main(int argc, char **argv)
 	if (argc > 3)
 		many = (unsigned)atoi(argv[3]);
 	MUST(threads <= MANY && many <= CELLS);
+	for (unsigned k = 0; k < MANY; k++)
+		MUST(!sem_init(&called[k], 0, 0));
 	storm(0);
 	storm(1);
 	printf("shared_storm: %u threads, twice %u transactions each: no half was seen, and no write lost\n", threads, rounds);

@@ -1,11 +1,13 @@
 /*
  * shared.c - small programs of shared mutexes, each of which has to be right by every schedule.
  *
- * A thread is a text of transactions, each of which is a loop, in ( ), or by hand, in [ ]. Mutexes are a and b.
+ * A thread is a text of transactions, each of which is a loop, in ( ), or by hand, in [ ], or a list, in { }. Mutexes are a and b.
  *
  *	a b	reads			A B	writes, or comes to write what it reads
  *	?	the next is tried: where that fails the rest of the transaction is left out
  *	t	the next is until a time, likewise
+ *	y	the next is by polls, and so is the wait after -EDEADLK: it sleeps until its waker is called; z: it polls once more without need;
+ *		x: it ends the wait, and where it has none, the rest of the transaction is left out
  *	> <	behind a transaction: what it writes it only reads from here on; that has its mutex asked for by a second context first
  *	d	destroys a, and makes it anew, where nobody has it; D: somebody has
  *	1-9 ~1	something has happened; waits for that, which orders	_1	waits for it, which doesn't
@@ -35,6 +37,13 @@ static long writes[BOTH];
 static uint32_t happened[10];
 static struct timespec soon;
 unsigned il_looks, il_bits;
+/* Of each poll of a thread whether its waker was called, and may be. */
+enum { POLLS = 16 };
+static struct polled {
+	uint32_t calls;
+	bool is_due;
+} polled[IL_THREADS + 1][POLLS];
+static unsigned polls[IL_THREADS + 1];
 
 #define ADD(word, by) __atomic_fetch_add(&(word), by, __ATOMIC_RELAXED)
 #define SEEN(word) __atomic_load_n(&(word), __ATOMIC_RELAXED)
@@ -65,12 +74,68 @@ struct user {
 
 static struct it *it_of(char letter) { return &its[tolower(letter) - 'a']; }
 
+static void is_called(void *loop, void *task)
+{
+	struct polled *it = task;
+
+	(void)loop;
+	MUST(!SEEN(it->calls));
+	il_set(&it->calls);
+}
+
+/* A poll of a mutex, or of the wait after -EDEADLK. */
+static int poll_once(struct user *u, char letter, const struct ww_waker *waker)
+{
+	if (!letter)
+		return ww_shared_mutex_await_poll(&u->x, waker);
+	return isupper(letter) ? ww_shared_mutex_lock_poll(&it_of(letter)->lock, &u->x, waker) :
+		ww_shared_mutex_lock_shared_poll(&it_of(letter)->lock, &u->x, waker);
+}
+
+/* What no poll of another call, nor any other call, changes while it waits. */
+static void others_are_refused(struct user *u, char letter)
+{
+	char other = isupper(letter) ? (char)tolower(letter) : (char)toupper(letter);
+
+	if (!letter)
+		return;
+	MUST(poll_once(u, other, NULL) == -EBUSY && poll_once(u, letter ^ 'a' ^ 'b', NULL) == -EBUSY && poll_once(u, 0, NULL) == -EBUSY);
+	MUST(ww_shared_mutex_lock_shared(&its[0].lock, &u->x) == -EBUSY && !ww_shared_mutex_trylock_shared(&its[1].lock, &u->x));
+}
+
+static int by_polls(struct user *u, char letter, char how)
+{
+	for (;;) {
+		struct polled *it = &polled[il_me()][polls[il_me()]++];
+		int r;
+
+		MUST(polls[il_me()] <= POLLS);
+		it->is_due = true;
+		r = poll_once(u, letter, &(struct ww_waker){ is_called, NULL, it });
+		if (r != -EINPROGRESS) {
+			it->is_due = false;
+			return r;
+		}
+		if (strchr("xz", how) && ww_poll_take_back(&u->x, NULL))
+			it->is_due = false;
+		if (how == 'z')
+			others_are_refused(u, letter);
+		if (how == 'x')
+			return poll_once(u, letter, NULL);
+		if (how == 'y')
+			il_await(&it->calls);
+		how = 'y';
+	}
+}
+
 /* By which words it is asked for stands before it. 0, -EDEADLK, or another error of a call that may fail. */
 static int lock(struct user *u, char letter, char how)
 {
 	struct ww_shared_mutex *m = &it_of(letter)->lock;
 	bool writes = isupper(letter);
 
+	if (how && strchr("xyz", how))
+		return by_polls(u, letter, how);
 	if (how == '?')
 		return (writes ? ww_shared_mutex_trylock(m, &u->x) : ww_shared_mutex_trylock_shared(m, &u->x)) ? 0 : -EBUSY;
 	if (how == 't')
@@ -136,12 +201,12 @@ static int lock_each(struct user *u, const char *at, bool is_loop)
 
 		if (happens(&at))
 			continue;
-		if (strchr("?t", *at)) {
+		if (strchr("?txyz", *at)) {
 			how = *at;
 			continue;
 		}
 		r = lock(u, *at, how);
-		MUST(!r || r == -EDEADLK || (how == '?' && r == -EBUSY) || (how == 't' && r == -ETIMEDOUT));
+		MUST(!r || r == -EDEADLK || (how == '?' && r == -EBUSY) || (how && strchr("tx", how) && r == -ETIMEDOUT));
 		MUST(!r || !is_loop || r != -EDEADLK || ww_is_contended(&u->x));
 		if (r)
 			return r;
@@ -162,9 +227,30 @@ static void in_loop(struct user *u, const char *at)
 
 static void by_hand(struct user *u, const char *at)
 {
+	bool is_polled = strcspn(at, "xyz") < strcspn(at, "]");
+
 	while (lock_each(u, at, false) == -EDEADLK) {
 		unlock_by_hand(u);
-		MUST(!ww_shared_mutex_await(&u->x, NULL));
+		MUST(!(is_polled ? by_polls(u, 0, 'z') : ww_shared_mutex_await(&u->x, NULL)) && !u->x.acquired);
+	}
+}
+
+static void by_list(struct user *u, const char *at)
+{
+	struct ww_shared_item items[MOST] = { 0 };
+	size_t count = strcspn(at, "}");
+
+	MUST(count <= MOST);
+	for (size_t k = 0; k < count; k++)
+		*(isupper(at[k]) ? &items[k].write : &items[k].read) = &it_of(at[k])->lock;
+	MUST(!ww_shared_mutex_lock_all(&u->x, items, count));
+	for (size_t k = 0; k < count; k++)
+		strncat(u->got, &at[k], 1);
+	for (size_t k = 0; k < count; k++) {
+		struct it *it = it_of(at[k]);
+
+		(isupper(at[k]) ? u->writes : u->reads)[it - its] = true;
+		u->was[it - its] = it->data;
 	}
 }
 
@@ -217,11 +303,13 @@ static const char *transaction(const char *text)
 {
 	struct user u = { .got = "" };
 	bool is_loop = *text == '(';
-	const char *end = text + strcspn(text, ")]");
+	const char *end = text + strcspn(text, ")]}");
 
 	ww_acquire_init(&u.x, &c);
 	if (is_loop)
 		in_loop(&u, text + 1);
+	else if (*text == '{')
+		by_list(&u, text + 1);
 	else
 		by_hand(&u, text + 1);
 	use(&u);
@@ -254,7 +342,7 @@ static void destroy(bool is_had)
 void il_thread(const char *at)
 {
 	for (; *at; at++) {
-		if (strchr("([", *at))
+		if (strchr("([{", *at))
 			at = transaction(at);
 		else if (tolower(*at) == 'd')
 			destroy(*at == 'D');
@@ -265,7 +353,9 @@ void il_thread(const char *at)
 
 void il_check(const struct il_program *p)
 {
-	(void)p;
+	for (unsigned t = 1; t <= IL_THREADS && p->threads[t - 1]; t++)
+		for (unsigned k = 0; k < polls[t]; k++)
+			MUST(polled[t][k].calls == polled[t][k].is_due);
 	for (unsigned k = 0; k < BOTH; k++) {
 		MUST(its[k].data == writes[k]);
 		MUST(!ww_shared_mutex_destroy(&its[k].lock));
@@ -320,5 +410,29 @@ const struct il_program il_programs[] = {
 	{ "destroy-own", { "(ab)1(B)", "_1d" }, CONTEXTS(4), 3 },
 	{ "destroy-beside", { "(ab)1", "_1d", "(~1B)" }, CONTEXTS(4), 2 },
 	{ "destroy-stale", { "(a)(B)1", "_1d", "(B)" }, CONTEXTS(4), 2 },
+	{ "poll-read", { "[ya]", "(A)" }, CONTEXTS(4), 3 },
+	{ "poll-read-die", { "[ya]", "(A)" }, CONTEXTS(4) | WAIT_DIE, 3 },
+	{ "poll-write", { "[yA]", "(a)" }, CONTEXTS(4), 3 },
+	{ "poll-poll", { "[za]", "[zA]" }, CONTEXTS(4), 2 },
+	{ "poll-again", { "[za](a)", "(A)" }, CONTEXTS(4), 2 },
+	{ "poll-again-write", { "[zA]", "(a)(a)" }, CONTEXTS(4), 2 },
+	{ "poll-ends", { "[xa]", "(A)" }, CONTEXTS(4), 3 },
+	{ "poll-ends-write", { "[xA]", "(a)" }, CONTEXTS(4), 3 },
+	{ "poll-ends-second", { "[bxa]", "(A)(B)" }, CONTEXTS(4), 2 },
+	{ "poll-upgrades", { "[yayA]", "[yayA]" }, CONTEXTS(4), 2 },
+	{ "poll-upgrades-die", { "[yayA]", "[yazA]" }, CONTEXTS(4) | WAIT_DIE, 2 },
+	{ "poll-upgrade-ends", { "[axA]", "(a)" }, CONTEXTS(4), 2 },
+	{ "poll-cross", { "[yazB]", "[ybzA]" }, CONTEXTS(4), 2 },
+	{ "poll-cross-die", { "[yayB]", "[ybyA]" }, CONTEXTS(4) | WAIT_DIE, 2 },
+	{ "poll-readers-writer", { "[ya]", "(a)", "[yA]" }, CONTEXTS(4), 1 },
+	{ "poll-two-readers", { "(a1~2)3", "(a2~3)", "~1~2[yA]" }, CONTEXTS(4), 1 },
+	{ "poll-one-bit", { "[ya]", "(a)", "[zA]" }, CONTEXTS(4) | ONE_BIT, 1 },
+	{ "poll-downgrade", { "[yA]>", "[ya]", "(A)" }, CONTEXTS(4), 1 },
+	{ "list-cross", { "{aB}", "{bA}" }, CONTEXTS(4), 2 },
+	{ "list-cross-die", { "{aB}", "{bA}" }, CONTEXTS(4) | WAIT_DIE, 2 },
+	{ "list-upgrades", { "{aA}", "{aAb}" }, CONTEXTS(4), 2 },
+	{ "list-opposite", { "{AbB}", "{BbA}" }, CONTEXTS(4), 2 },
+	{ "list-readers", { "{ab}", "{ba}", "{aB}" }, CONTEXTS(4), 1 },
+	{ "list-beside", { "{aB}", "(bA)" }, CONTEXTS(4) | WAIT_DIE, 2 },
 	{ 0 },
 };
