@@ -184,6 +184,7 @@ static void put(volatile void *at, unsigned size, uint64_t value) { memcpy((void
 void il_commit(struct thread *it)
 {
 	for (unsigned k = 0; k < it->lates; k++) {
+		il_puts(it->late[k].at, get(it->late[k].at, it->late[k].size), it->late[k].value, it->late[k].pc);
 		put(it->late[k].at, it->late[k].size, it->late[k].value);
 		happens(il_object_of(it->late[k].at), true);
 	}
@@ -217,6 +218,7 @@ static uint64_t load(const volatile void *at, unsigned size, int order, const vo
 	happens(o, false);
 	acquire(o, order);
 	il_access(IL_READS, at, value, value, pc);
+	il_gets(at, value, pc);
 	return value;
 }
 
@@ -236,9 +238,10 @@ static void store(volatile void *at, unsigned size, uint64_t value, int order, c
 	il_stores(at, get(at, size), value, pc);
 	il_access(IL_STORES, at, seen(at, size), value, pc);
 	if (it->lates < LATES && may_be_late(o, at, order) && (it->lates || il_chooses(COMMITS, DELAYS))) {
-		it->late[it->lates++] = (struct late_store){ (void *)(uintptr_t)at, value, size };
+		it->late[it->lates++] = (struct late_store){ (void *)(uintptr_t)at, value, size, pc };
 	} else {
 		il_commit(it);
+		il_puts(at, get(at, size), value, pc);
 		put(at, size, value);
 		happens(o, true);
 	}
@@ -266,6 +269,7 @@ static uint64_t change(volatile void *at, unsigned size, enum change how, uint64
 	il_access(changes ? IL_CHANGES : IL_FAILS, at, old, changes ? put_there : old, pc);
 	if (changes) {
 		il_stores(at, old, put_there, pc);
+		il_puts(at, old, put_there, pc);
 		put(at, size, put_there);
 		release(o, orders[0], true);
 	}
@@ -509,6 +513,7 @@ static int32_t answered(const ww_handle *h, int32_t r)
 {
 	if (h->at)
 		il_answers(h, r);
+	il_steps(NULL);
 	return r;
 }
 
@@ -568,8 +573,10 @@ STEP(ww_is_free_, ww_handle *h, uint32_t lock)
 {
 	int32_t r = (step("ww_is_free_", PC), by(h, PC), __real_ww_is_free_(h, lock));
 
-	if (!r)
+	if (!r) {
 		acquire(order_of(h, lock), __ATOMIC_ACQUIRE);
+		il_finds_free(h, lock, PC);
+	}
 	return answered(h, r);
 }
 /* These two look at something, and leave the call that is on its way as it was. A look sees what came before whatever it sees. */

@@ -29,6 +29,7 @@ struct thread {
 		void *at;
 		uint64_t value;
 		unsigned size;
+		const void *pc;
 	} late[LATES];
 	unsigned lates;
 	bool inside;	/* a guard, maybe, where it must not sleep */
@@ -122,6 +123,12 @@ void il_unlocks(const pthread_mutex_t *m, const void *pc);
 enum il_how { IL_READS, IL_STORES, IL_CHANGES, IL_FAILS };
 void il_access(enum il_how how, const volatile void *at, uint64_t was, uint64_t is, const void *pc);
 void il_uses(const ww_handle *h, const void *pc);
+bool il_is_user(unsigned seat); /* whether this thread uses it now */
+/* And readers.c: what is put somewhere by an atomic access, as soon as others see it, and what one reads; a step; what that found. */
+void il_puts(const volatile void *at, uint64_t was, uint64_t is, const void *pc);
+void il_gets(const volatile void *at, uint64_t value, const void *pc);
+void il_steps(const void *pc);
+void il_finds_free(const ww_handle *h, uint32_t lock, const void *pc);
 /* A class is freed; this thread waits, or ends. */
 void il_closes(void);
 void il_waits(const char *what, const void *pc);

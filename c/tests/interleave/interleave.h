@@ -24,6 +24,8 @@ struct il_program {
 extern const struct il_program il_programs[];
 /* The class that programs use. */
 extern struct ww_class *const il_class;
+/* The shared mutexes that programs use, of which there are two; or NULL. */
+struct ww_shared_mutex *il_shared(unsigned k);
 /* How often a call looks at a lock, awake, before it queues; and at its token, before it sleeps. */
 extern unsigned il_looks;
 /* Of how many bits each desk of a reader has one. */
@@ -49,6 +51,10 @@ void il_late(void);
 /* Sleeps until the word isn't 0, and sets it, which orders what came before. */
 void il_await(uint32_t *word);
 void il_set(uint32_t *word);
+/* A call says that the context reads that shared mutex from now on, or writes it. */
+struct ww_acquire_ctx;
+void il_reads(unsigned k, const struct ww_acquire_ctx *x);
+void il_writes(unsigned k, const struct ww_acquire_ctx *x);
 /* Which thread this is, from 1; 0 sets up and checks. */
 unsigned il_me(void);
 __attribute__((noreturn, format(printf, 1, 2))) void il_fail(const char *format, ...);

@@ -144,6 +144,8 @@ void il_access(enum il_how how, const volatile void *at, uint64_t was, uint64_t 
 	il.from = NULL;
 }
 
+bool il_is_user(unsigned seat) { return open_class() && known[seat].user == mine(); }
+
 void il_uses(const ww_handle *h, const void *pc)
 {
 	const struct ww_pool *p = open_class();

@@ -48,6 +48,8 @@ static unsigned polls[IL_THREADS + 1];
 #define ADD(word, by) __atomic_fetch_add(&(word), by, __ATOMIC_RELAXED)
 #define SEEN(word) __atomic_load_n(&(word), __ATOMIC_RELAXED)
 
+struct ww_shared_mutex *il_shared(unsigned k) { return its ? &its[k].lock : NULL; }
+
 void il_setup(const struct il_program *p)
 {
 	ww_class_init(&c, !!(p->flags & WAIT_DIE), "c");
@@ -148,6 +150,7 @@ static void got(struct user *u, char letter)
 {
 	size_t k = (size_t)(it_of(letter) - its);
 
+	(isupper(letter) ? il_writes : il_reads)((unsigned)k, &u->x);
 	MUST(isupper(letter) ? ww_shared_mutex_is_written_by(&its[k].lock, &u->x) : ww_shared_mutex_is_read_by(&its[k].lock, &u->x));
 	if (u->reads[k] || u->writes[k])
 		MUST(u->was[k] == its[k].data);
@@ -277,6 +280,7 @@ static void downgrade(struct user *u)
 		if (!u->writes[k])
 			continue;
 		ww_shared_mutex_downgrade(&its[k].lock, &u->x);
+		il_reads(k, &u->x);
 		MUST(ww_shared_mutex_is_read_by(&its[k].lock, &u->x) && its[k].data == writes[k]);
 		MUST(ww_shared_mutex_destroy(&its[k].lock) == -EBUSY);
 	}
@@ -294,6 +298,7 @@ static void beside(struct user *u)
 		MUST(!ww_shared_mutex_trylock(&its[k].lock, &second));
 		if (!ww_shared_mutex_trylock_shared(&its[k].lock, &second))
 			continue;
+		il_reads(k, &second);
 		MUST(its[k].data == writes[k] && !ww_shared_mutex_unlock(&its[k].lock, &second));
 	}
 	ww_acquire_fini(&second);
