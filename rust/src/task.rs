@@ -92,11 +92,13 @@
 //! stays changed.
 
 mod body;
+mod guards;
 mod inner;
 mod lock;
 mod seek;
 mod waker;
 
+pub use guards::Guards;
 pub use lock::{ArcGuard, Guard, Lock, LockArc, LoneGuard};
 
 use crate::{error, ffi, place, Class, Error, Mutex};
@@ -212,6 +214,13 @@ impl<C: Class> Tx<C> {
             guards.push(self.lock(mutex).await?);
         }
         Ok(guards)
+    }
+
+    /// An empty set of guards, which locks each mutex once: for lists in which one may come twice, where `lock_each` returns
+    /// `Duplicate`.
+    #[inline]
+    pub fn guards<T: ?Sized>(&self) -> Guards<'_, C, T> {
+        Guards::new(self)
     }
 
     /// How often the body has begun: 1 the first time.

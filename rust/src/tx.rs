@@ -1,5 +1,5 @@
 use crate::context::Context;
-use crate::{ArcMutexGuard, Class, Error, Mutex, MutexGuard, SharedMutex, SharedMutexGuard};
+use crate::{ArcMutexGuard, Class, Error, Guards, Mutex, MutexGuard, SharedMutex, SharedMutexGuard};
 use core::cell::Cell;
 use core::fmt;
 use core::marker::PhantomData;
@@ -174,6 +174,13 @@ impl<C: Class> Tx<C> {
         list: impl IntoIterator<Item = &'m Mutex<C, T>>,
     ) -> Result<Vec<MutexGuard<'g, C, T>>, Error> {
         list.into_iter().map(|mutex| self.lock(mutex)).collect()
+    }
+
+    /// An empty set of guards, which locks each mutex once: for lists in which one may come twice, where `lock_each` returns
+    /// `Duplicate`.
+    #[inline]
+    pub fn guards<T: ?Sized>(&self) -> Guards<'_, C, T> {
+        Guards::new(self)
     }
 
     /// Reads it, beside other transactions that do, and waits while one writes it. The reference lives as long as the body
