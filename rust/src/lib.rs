@@ -61,6 +61,7 @@
 //! and that a context has to back off only because of an older one. What `libww` adds to its core in C (waits, wake-ups,
 //! deadlines, cancels), and what this crate adds, is tested. It runs on Linux.
 
+mod age;
 mod cancel;
 mod class;
 mod clock;
@@ -82,6 +83,7 @@ pub mod task;
 mod tx;
 pub mod typed;
 
+pub use age::Age;
 pub use cancel::Canceller;
 pub use class::{Class, Counts, Kind, RawClass};
 pub use error::Error;

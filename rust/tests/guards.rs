@@ -180,7 +180,7 @@ mod of_tasks {
                 let mut draws = Draws(17 * me as u64 + 1);
                 for _ in 0..10 {
                     let list: Vec<usize> = (0..4).map(|_| draws.below(6)).collect();
-                    let told: Result<(), Error> = transaction!(C, |tx| {
+                    let told = transaction!(C, |tx| {
                         let mut held = tx.guards();
                         for &at in &list {
                             held.lock(&boxes[at]).await?;
