@@ -4,7 +4,7 @@ use crate::class::RawClass;
 use crate::guard::Holder;
 use crate::number::Number;
 use crate::{clock, error, ffi, own, place, Canceller, Class, Error, Kind, Mutex, MutexGuard, SharedMutex};
-use core::cell::{Cell, OnceCell, UnsafeCell};
+use core::cell::{Cell, OnceCell, RefCell, UnsafeCell};
 use core::ffi::c_int;
 use core::mem::MaybeUninit;
 use core::ptr;
@@ -21,7 +21,8 @@ pub(crate) struct Context {
 /// What a context has in addition if it has limits, or once it got `Deadlock`.
 #[derive(Default)]
 struct Rare {
-    limits: Limits,
+    /// They change between two runs of one age.
+    limits: RefCell<Limits>,
     /// A lock call got `Deadlock`, so nothing is locked until all is released.
     is_over: Cell<bool>,
     /// The number at which that was: it is locked first from then on, whatever happens to its mutex meanwhile.
@@ -33,6 +34,17 @@ struct Rare {
 }
 
 impl Rare {
+    /// From now on its canceller may cancel this context.
+    #[cold]
+    fn join(&self, context: *mut ffi::ww_acquire_ctx) {
+        self.limits.borrow().canceller.iter().for_each(|canceller| canceller.joins(context));
+    }
+
+    #[cold]
+    fn leave(&self, context: *mut ffi::ww_acquire_ctx) {
+        self.limits.borrow().canceller.iter().for_each(|canceller| canceller.leaves(context));
+    }
+
     /// Whether the context holds it since its back-off, without a guard.
     fn comes_first(&self, number: Number) -> bool {
         self.prelocked.get() == Some(number)
@@ -47,6 +59,10 @@ struct Limits {
 }
 
 impl Limits {
+    fn new(deadline: Option<Instant>, canceller: Option<&Canceller>) -> Self {
+        Limits { until: deadline.map(|at| (at, clock::monotonic(at))), canceller: canceller.cloned() }
+    }
+
     fn until(&self) -> *const ffi::timespec {
         self.until.as_ref().map_or(ptr::null(), |(_, until)| ptr::from_ref(until))
     }
@@ -79,8 +95,7 @@ impl Context {
         deadline: Option<Instant>,
         canceller: Option<&Canceller>,
     ) -> Self {
-        let until = deadline.map(|at| (at, clock::monotonic(at)));
-        let limits = Limits { until, canceller: canceller.cloned() };
+        let limits = Limits::new(deadline, canceller).into();
         Context { rare: Box::new(Rare { limits, ..Rare::default() }).into(), ..Self::new(class) }
     }
 
@@ -99,10 +114,6 @@ impl Context {
     #[inline]
     fn rare(&self) -> Option<&Rare> {
         self.rare.get().map(|rare| &**rare)
-    }
-
-    fn canceller(&self) -> Option<&Canceller> {
-        self.rare()?.limits.canceller.as_ref()
     }
 
     // ---- beginning and end ----
@@ -132,8 +143,8 @@ impl Context {
         // SAFETY: it has begun, and has locked nothing.
         unsafe { ffi::ww_acquire_flags(self.raw(), ffi::WW_MAY_BE_OLDER | ffi::WW_INTERRUPTIBLE) };
         own::begun(self.raw(), self.class);
-        if let Some(canceller) = self.canceller() {
-            canceller.joins(self.raw());
+        if let Some(rare) = self.rare() {
+            rare.join(self.raw());
         }
         Ok(())
     }
@@ -141,9 +152,10 @@ impl Context {
     /// The library's wait for a context ends at a time, but not by a canceller: with one, it is made of short waits.
     #[cold]
     fn begin_late(&self, mut answer: c_int, wait: impl Fn(Option<&ffi::timespec>) -> c_int) -> Result<(), Error> {
-        let limits = self.rare().map(|rare| &rare.limits);
+        let limits = self.rare().map(|rare| rare.limits.borrow());
+        let limits = limits.as_deref();
         let mut pause = Duration::from_micros(20);
-        if answer == -ffi::EAGAIN && self.canceller().is_none() {
+        if answer == -ffi::EAGAIN && limits.is_none_or(|limits| limits.canceller.is_none()) {
             answer = wait(limits.and_then(|limits| limits.until.as_ref()).map(|(_, until)| until));
         }
         while answer == -ffi::EAGAIN {
@@ -170,12 +182,36 @@ impl Context {
             // SAFETY: as asked for here.
             unsafe { self.release_all() };
         }
-        if let Some(canceller) = self.canceller() {
-            canceller.leaves(self.raw());
+        if let Some(rare) = self.rare() {
+            rare.leave(self.raw());
         }
         own::ended(self.raw());
         // SAFETY: it has begun, hasn't ended, and holds nothing.
         unsafe { ffi::ww_acquire_fini(self.raw()) };
+    }
+
+    /// Between two runs of one age: releases all, and leaves its canceller. False: it was cancelled, so it may not go on.
+    ///
+    /// # Safety
+    ///
+    /// No guard of the context is left that anybody could use.
+    pub(crate) unsafe fn pause(&self) -> bool {
+        let contended = self.take_contended();
+        // SAFETY: as asked for here.
+        unsafe { self.start() };
+        let Some(rare) = self.rare() else { return true };
+        rare.contended.set(contended);
+        rare.leave(self.raw());
+        let limits = rare.limits.take();
+        // What it said to the library may be still to come.
+        !limits.is_cancelled()
+    }
+
+    /// After `pause`.
+    pub(crate) fn limit(&self, deadline: Option<Instant>, canceller: Option<&Canceller>) {
+        let rare = self.rare.get_or_init(Box::default);
+        rare.limits.replace(Limits::new(deadline, canceller));
+        rare.join(self.raw());
     }
 
     // ---- locks ----
@@ -211,7 +247,7 @@ impl Context {
         if rare.is_over.get() {
             return Err(Error::Deadlock);
         }
-        match self.ask_within(number, &rare.limits) {
+        match self.ask_within(number, &rare.limits.borrow()) {
             0 => Ok(()),
             answer => self.refused(number, answer),
         }
@@ -342,8 +378,8 @@ impl Context {
         }
         place::said();
         let answer = match self.rare() {
-            Some(rare) if rare.limits.is_cancelled() => -ffi::EINTR,
-            Some(rare) => ask(rare.limits.until()),
+            Some(rare) if rare.limits.borrow().is_cancelled() => -ffi::EINTR,
+            Some(rare) => ask(rare.limits.borrow().until()),
             None => ask(ptr::null()),
         };
         match -answer {
@@ -363,11 +399,14 @@ impl Context {
     /// After a back-off: waits for what the context collided with, and holds nothing then.
     #[cold]
     fn await_shared(&self, rare: &Rare) -> Result<(), Error> {
-        if rare.limits.is_cancelled() {
+        let limits = rare.limits.borrow();
+        if limits.is_cancelled() {
             return Err(Error::Cancelled);
         }
         // SAFETY: the context got `Deadlock` at a shared mutex, and has released all since.
-        match unsafe { -ffi::ww_shared_mutex_await(self.raw(), rare.limits.until()) } {
+        let answer = unsafe { ffi::ww_shared_mutex_await(self.raw(), limits.until()) };
+        rare.awaits.set(answer != 0);
+        match -answer {
             0 => Ok(()),
             ffi::EINTR => Err(Error::Cancelled),
             ffi::ETIMEDOUT => Err(Error::TimedOut),
@@ -421,12 +460,16 @@ impl Context {
         let rare = self.rare.get_or_init(Box::default);
         // A context that holds nothing never gets `Deadlock`. So an ordinary lock call serves as the slow one, and has
         // the same limits.
-        match self.ask_within(first, &rare.limits) {
+        match self.ask_within(first, &rare.limits.borrow()) {
             0 => {
                 rare.prelocked.set(Some(first));
                 Ok(())
             }
-            answer => self.refused(first, answer),
+            answer => {
+                // It comes first in a further run, too.
+                rare.contended.set(Some(first));
+                self.refused(first, answer)
+            }
         }
     }
 

@@ -61,6 +61,7 @@
 //! and that a context has to back off only because of an older one. What `libww` adds to its core in C (waits, wake-ups,
 //! deadlines, cancels), and what this crate adds, is tested. It runs on Linux.
 
+mod age;
 mod cancel;
 mod class;
 mod clock;
@@ -68,6 +69,7 @@ mod context;
 mod error;
 mod ffi;
 mod guard;
+mod guards;
 mod lock;
 mod mutex;
 mod number;
@@ -81,10 +83,12 @@ pub mod task;
 mod tx;
 pub mod typed;
 
+pub use age::Age;
 pub use cancel::Canceller;
 pub use class::{Class, Counts, Kind, RawClass};
 pub use error::Error;
 pub use guard::{ArcMutexGuard, MutexGuard};
+pub use guards::Guards;
 pub use mutex::Mutex;
 pub use options::Options;
 pub use shared::{SharedMutex, SharedMutexGuard};

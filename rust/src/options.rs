@@ -1,3 +1,4 @@
+use crate::age::Kept;
 use crate::context::Context;
 use crate::tx::Running;
 use crate::{Canceller, Class, Error, Tx};
@@ -85,20 +86,21 @@ impl<'c, C: Class> Options<'c, C> {
     /// As [`Class::run`].
     #[inline]
     #[track_caller]
-    pub fn try_run<R, E: From<Error>>(&self, mut body: impl FnMut(&Tx<C>) -> Result<R, E>) -> Result<R, E> {
+    pub fn try_run<R, E: From<Error>>(&self, body: impl FnMut(&Tx<C>) -> Result<R, E>) -> Result<R, E> {
         let tx = Tx::new(self.context());
-        let running = Running::begin(&tx)?;
-        loop {
-            let result = body(&tx);
-            if !tx.is_over() {
-                return result;
-            }
-            if result.is_ok() {
-                return Err(Error::Swallowed.into());
-            }
-            drop(result);
-            running.back_off()?;
-        }
+        let _running = Running::begin(&tx)?;
+        // SAFETY: it has begun, and ends with that.
+        unsafe { tx.repeat(body) }
+    }
+
+    /// A context that is kept for further runs, with other limits.
+    #[track_caller]
+    pub(crate) fn begin(&self) -> Result<Kept<C>, Error> {
+        Kept::begin(Tx::new(Context::with_limits(C::raw(), self.deadline, self.canceller)))
+    }
+
+    pub(crate) fn resume(&self, kept: &Kept<C>) -> Result<(), Error> {
+        kept.resume(self.deadline, self.canceller)
     }
 }
 

@@ -92,11 +92,13 @@
 //! stays changed.
 
 mod body;
+mod guards;
 mod inner;
 mod lock;
 mod seek;
 mod waker;
 
+pub use guards::Guards;
 pub use lock::{ArcGuard, Guard, Lock, LockArc, LoneGuard};
 
 use crate::{error, ffi, place, Class, Error, Mutex};
@@ -131,7 +133,7 @@ use std::sync::Arc;
 /// # use ww_mutex::{class, transaction, Error, Mutex};
 /// # class!(struct Boxes: WoundWait);
 /// # static BOX: Mutex<Boxes, u64> = Mutex::new(0);
-/// async { transaction!(Boxes, |tx| Ok::<_, Error>(tx.lock(&BOX).await?)) };
+/// async { transaction!(Boxes, |tx| tx.lock(&BOX).await) };
 /// ```
 pub struct Tx<C: Class> {
     inner: Inner,
@@ -212,6 +214,13 @@ impl<C: Class> Tx<C> {
             guards.push(self.lock(mutex).await?);
         }
         Ok(guards)
+    }
+
+    /// An empty set of guards, which locks each mutex once: for lists in which one may come twice, where `lock_each` returns
+    /// `Duplicate`.
+    #[inline]
+    pub fn guards<T: ?Sized>(&self) -> Guards<'_, C, T> {
+        Guards::new(self)
     }
 
     /// How often the body has begun: 1 the first time.
@@ -354,6 +363,30 @@ impl<C: Class> Context<C> {
         unsafe { Body::new(block) }
     }
 
+    /// Awaits the body, again after each `Deadlock`, as [`run`] does. If it fails, or its future is dropped, everything is
+    /// released, and the next transaction of this context has its age.
+    ///
+    /// # Errors
+    ///
+    /// As [`Class::run`].
+    ///
+    /// # Panics
+    ///
+    /// As [`Class::run`].
+    pub async fn run<R, E: From<Error>>(&mut self, mut body: impl AsyncFnMut(&Tx<C>) -> Result<R, E>) -> Result<R, E> {
+        let mut kept = Kept_::new(self);
+        loop {
+            match kept.begin_now_() {
+                Poll::Ready(begun) => begun?,
+                Poll::Pending => kept.wait_().await?,
+            }
+            let told = body(kept.begun_()).await;
+            if let ControlFlow::Break(told) = kept.settle(told) {
+                return told;
+            }
+        }
+    }
+
     /// The result of an attempt; or, if that failed after `Deadlock`, everything is released, and another attempt follows.
     #[inline]
     pub fn settle<R, E: From<Error>>(&mut self, told: Result<R, E>) -> ControlFlow<Result<R, E>> {
@@ -417,16 +450,50 @@ impl<C: Class, T: ?Sized> Mutex<C, T> {
 /// # Panics
 ///
 /// As [`Class::run`].
-pub async fn run<C: Class, R, E: From<Error>>(mut body: impl AsyncFnMut(&Tx<C>) -> Result<R, E>) -> Result<R, E> {
-    let mut context = Context::new();
-    loop {
-        match context.begin_now_() {
-            Poll::Ready(begun) => begun?,
-            Poll::Pending => context.wait_().await?,
+pub async fn run<C: Class, R, E: From<Error>>(body: impl AsyncFnMut(&Tx<C>) -> Result<R, E>) -> Result<R, E> {
+    Context::new().run(body).await
+}
+
+/// A context of the caller's during one transaction, which may be dropped at any point.
+#[doc(hidden)]
+pub struct Kept_<'c, C: Class>(&'c mut Context<C>);
+
+impl<'c, C: Class> Kept_<'c, C> {
+    pub fn new(context: &'c mut Context<C>) -> Self {
+        Kept_(context)
+    }
+
+    #[allow(clippy::missing_errors_doc, reason = "as `attempt`")]
+    #[track_caller]
+    pub fn begin_now_(&mut self) -> Poll<Result<(), Error>> {
+        self.0.begin_now_()
+    }
+
+    #[allow(clippy::missing_errors_doc, reason = "as `attempt`")]
+    pub fn wait_(&mut self) -> impl Future<Output = Result<(), Error>> + use<'_, 'c, C> {
+        self.0.wait_()
+    }
+
+    pub fn begun_(&mut self) -> &Tx<C> {
+        self.0.begun_()
+    }
+
+    pub fn settle<R, E: From<Error>>(&mut self, told: Result<R, E>) -> ControlFlow<Result<R, E>> {
+        let told = self.0.settle(told);
+        if matches!(told, ControlFlow::Break(Ok(_))) {
+            // The next transaction is another one.
+            *self.0 = Context::new();
         }
-        let told = body(context.begun_()).await;
-        if let ControlFlow::Break(told) = context.settle(told) {
-            return told;
+        told
+    }
+}
+
+impl<C: Class> Drop for Kept_<'_, C> {
+    fn drop(&mut self) {
+        let inside = self.0.tx.inner.own();
+        if inside.has_begun() {
+            // SAFETY: it has begun, and each guard borrows what this borrows exclusively.
+            drop(unsafe { inside.release_all() });
         }
     }
 }
@@ -446,26 +513,115 @@ pub unsafe fn body_<F: Future>(block: F) -> impl Future<Output = F::Output> {
 /// its surroundings, and whose `?` ends the attempt; its result is that of the macro.
 ///
 /// Otherwise as [`Class::run_async`], but the future is `Send` also if the body borrows.
+///
+/// # Its result
+///
+/// A `Result<_, Error>`. A body with another error type says so, as a closure does:
+///
+/// ```
+/// # use ww_mutex::{class, transaction, Error, Mutex};
+/// # class!(struct Accounts: WoundWait);
+/// #[derive(Debug)]
+/// enum Refusal {
+///     Short,
+///     Lock(Error),
+/// }
+///
+/// impl From<Error> for Refusal {
+///     fn from(error: Error) -> Self {
+///         Refusal::Lock(error)
+///     }
+/// }
+///
+/// async fn take(from: &Mutex<Accounts, u64>, amount: u64) -> Result<u64, Refusal> {
+///     let seen = transaction!(Accounts, |tx| { Ok(*tx.lock(from).await?) })?;
+///     println!("it had {seen}");
+///     transaction!(Accounts, |tx| -> Result<u64, Refusal> {
+///         let mut from = tx.lock(from).await?;
+///         *from = from.checked_sub(amount).ok_or(Refusal::Short)?;
+///         Ok(*from)
+///     })
+/// }
+/// # fn sends(_: impl Send) {}
+/// # sends(take(&Mutex::new(70), 30));
+/// ```
+///
+/// # A retry that keeps its age
+///
+/// What is dropped, as by a timeout, and made again is the youngest then, behind all that came meanwhile. In a context of
+/// yours it keeps its age, until it returns `Ok`:
+///
+/// ```
+/// # use ww_mutex::{class, task::Context, transaction, Error, Mutex};
+/// # class!(struct Accounts: WoundWait);
+/// # async fn at_most<R>(future: impl core::future::Future<Output = R>) -> Option<R> { Some(future.await) }
+/// async fn deposit(account: &Mutex<Accounts, u64>, amount: u64) -> Result<(), Error> {
+///     let mut context = Context::new();
+///     loop {
+///         let deposit = async {
+///             transaction!(in &mut context, |tx| {
+///                 *tx.lock(account).await? += amount;
+///                 Ok(())
+///             })
+///         };
+///         // As `tokio::time::timeout` does.
+///         if let Some(told) = at_most(deposit).await {
+///             return told;
+///         }
+///         eprintln!("it takes long");
+///     }
+/// }
+/// # fn sends(_: impl Send) {}
+/// # sends(deposit(&Mutex::new(70), 30));
+/// ```
+///
+/// Between the two the transaction holds nothing, but keeps one of the class's contexts, until that is dropped. No guard gets
+/// there:
+///
+/// ```compile_fail,E0499
+/// # use ww_mutex::{class, task::Context, transaction, Error, Mutex};
+/// # class!(struct Boxes: WoundWait);
+/// # static BOX: Mutex<Boxes, u64> = Mutex::new(0);
+/// # async fn f(context: &mut Context<Boxes>) -> Result<(), Error> {
+/// let kept = transaction!(in context, |tx| tx.lock(&BOX).await)?;
+/// # Ok(())
+/// # }
+/// ```
 #[macro_export]
 macro_rules! transaction {
-    ($class:ty, |$tx:ident| $body:expr) => {{
-        let mut context = $crate::task::Context::<$class>::new();
+    (@again $context:ident, $tx:ident, $told:ty, $body:expr) => {
         loop {
-            let begun = match context.begin_now_() {
+            let begun = match $context.begin_now_() {
                 ::core::task::Poll::Ready(begun) => begun,
-                ::core::task::Poll::Pending => context.wait_().await,
+                ::core::task::Poll::Pending => $context.wait_().await,
             };
             if let ::core::result::Result::Err(error) = begun {
                 break ::core::result::Result::Err(::core::convert::From::from(error));
             }
-            let $tx = context.begun_();
+            let $tx = $context.begun_();
             let block = async { $body };
             // SAFETY: it is an async block.
-            let told = unsafe { $crate::task::body_(block) }.await;
-            match context.settle(told) {
+            let told: $told = unsafe { $crate::task::body_(block) }.await;
+            match $context.settle(told) {
                 ::core::ops::ControlFlow::Break(told) => break told,
                 ::core::ops::ControlFlow::Continue(()) => {}
             }
         }
+    };
+    (in $context:expr, |$tx:ident| -> $told:ty $body:block) => {{
+        let mut context = $crate::task::Kept_::new($context);
+        $crate::transaction!(@again context, $tx, $told, $body)
+    }};
+    (in $context:expr, |$tx:ident| $body:expr) => {{
+        let mut context = $crate::task::Kept_::new($context);
+        $crate::transaction!(@again context, $tx, ::core::result::Result<_, $crate::Error>, $body)
+    }};
+    ($class:ty, |$tx:ident| -> $told:ty $body:block) => {{
+        let mut context = $crate::task::Context::<$class>::new();
+        $crate::transaction!(@again context, $tx, $told, $body)
+    }};
+    ($class:ty, |$tx:ident| $body:expr) => {{
+        let mut context = $crate::task::Context::<$class>::new();
+        $crate::transaction!(@again context, $tx, ::core::result::Result<_, $crate::Error>, $body)
     }};
 }

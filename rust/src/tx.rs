@@ -1,5 +1,5 @@
 use crate::context::Context;
-use crate::{ArcMutexGuard, Class, Error, Mutex, MutexGuard, SharedMutex, SharedMutexGuard};
+use crate::{ArcMutexGuard, Class, Error, Guards, Mutex, MutexGuard, SharedMutex, SharedMutexGuard};
 use core::cell::Cell;
 use core::fmt;
 use core::marker::PhantomData;
@@ -176,6 +176,13 @@ impl<C: Class> Tx<C> {
         list.into_iter().map(|mutex| self.lock(mutex)).collect()
     }
 
+    /// An empty set of guards, which locks each mutex once: for lists in which one may come twice, where `lock_each` returns
+    /// `Duplicate`.
+    #[inline]
+    pub fn guards<T: ?Sized>(&self) -> Guards<'_, C, T> {
+        Guards::new(self)
+    }
+
     /// Reads it, beside other transactions that do, and waits while one writes it. The reference lives as long as the body
     /// may: all reads end with the attempt.
     ///
@@ -225,10 +232,46 @@ impl<C: Class> Tx<C> {
         self.attempts.get()
     }
 
-    /// Whether it got `Deadlock` in this attempt.
     #[inline]
-    pub(crate) fn is_over(&self) -> bool {
-        self.context.is_over()
+    pub(crate) fn context(&self) -> &Context {
+        &self.context
+    }
+
+    /// Runs the body, again after each `Deadlock`.
+    ///
+    /// # Safety
+    ///
+    /// The context has begun, and hasn't ended; there is no guard of it.
+    #[inline]
+    pub(crate) unsafe fn repeat<R, E: From<Error>>(
+        &self,
+        mut body: impl FnMut(&Tx<C>) -> Result<R, E>,
+    ) -> Result<R, E> {
+        loop {
+            let result = body(self);
+            if !self.context.is_over() {
+                return result;
+            }
+            if result.is_ok() {
+                return Err(Error::Swallowed.into());
+            }
+            drop(result);
+            // SAFETY: a guard lives no longer than the borrow with which the body was called, whose lifetime the body
+            // doesn't choose: so where one was forgotten, nothing can reach it any more.
+            unsafe { self.back_off() }?;
+        }
+    }
+
+    /// Waits for what the attempt before collided with, if it did: then the body begins again.
+    ///
+    /// # Safety
+    ///
+    /// No guard of the context is left that anybody could use.
+    pub(crate) unsafe fn back_off(&self) -> Result<(), Error> {
+        // SAFETY: as asked for here.
+        unsafe { self.context.back_off(self.context.take_contended()) }?;
+        self.attempts.set(self.attempts.get().saturating_add(1));
+        Ok(())
     }
 }
 
@@ -251,21 +294,12 @@ impl<'t, C: Class> Running<'t, C> {
         unsafe { tx.context.begin() }?;
         Ok(Running(tx))
     }
-
-    /// Once the body has returned.
-    pub(crate) fn back_off(&self) -> Result<(), Error> {
-        self.0.attempts.set(self.0.attempts.get().saturating_add(1));
-        let context = &self.0.context;
-        // SAFETY: a guard lives no longer than the borrow of the `Tx` with which the body was called, whose lifetime
-        // the body doesn't choose: so where one was forgotten, nothing can reach it any more.
-        unsafe { context.back_off(context.take_contended()) }
-    }
 }
 
 impl<C: Class> Drop for Running<'_, C> {
     #[inline]
     fn drop(&mut self) {
-        // SAFETY: as in `back_off`: the body has returned, or its panic has gone through it.
+        // SAFETY: as in `repeat`: the body has returned, or its panic has gone through it.
         unsafe { self.0.context.end() };
     }
 }

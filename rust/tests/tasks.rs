@@ -209,7 +209,7 @@ fn locks_are_dropped_at_any_poll() {
                 for _ in 0..20 {
                     let list = draws.places(3, 5);
                     let polls = draws.below(4);
-                    let told: Result<(), Error> = transaction!(C, |tx| {
+                    let told = transaction!(C, |tx| {
                         let mut one = tx.lock(&bank[list[0]]).await?;
                         yield_now().await;
                         let tried = at_most(polls, tx.lock(&bank[list[1]])).await;
@@ -380,7 +380,7 @@ fn each_waker_is_called_or_dropped_once() {
                         let mut count = tx.lock(&mutex).await?;
                         yield_now().await;
                         *count += 1;
-                        Ok::<_, Error>(())
+                        Ok(())
                     })
                 });
                 let mut is_ready = || {
@@ -482,7 +482,7 @@ fn a_wake_up_is_handed_on() {
         let add = || async {
             transaction!(Boxes, |tx| {
                 *tx.lock(&BOX).await? += 1;
-                Ok::<_, Error>(())
+                Ok(())
             })
         };
         let (mut one, mut other) = (Box::pin(add()), Box::pin(add()));
@@ -550,7 +550,7 @@ fn a_second_guard_is_refused() {
                 *one += 1;
                 drop(one);
                 *tx.try_lock(&mutex).expect("nobody holds it") += 1;
-                Ok::<_, Error>(())
+                Ok(())
             })
         });
         assert!(poll(twice.as_mut(), &flag).is_pending());
@@ -652,7 +652,7 @@ fn wakers_may_change() {
     let add = || async {
         transaction!(Boxes, |tx| {
             *tx.lock(&BOX).await? += 1;
-            Ok::<_, Error>(())
+            Ok(())
         })
     };
     let (mut locks, mut begins) = (Box::pin(add()), Box::pin(add()));
@@ -863,7 +863,7 @@ fn a_task_sleeps() {
         let mut add = pin!(async {
             transaction!(Boxes, |tx| {
                 *tx.lock(&BOX).await? += 1;
-                Ok::<_, Error>(())
+                Ok(())
             })
         });
         let counted = std::future::poll_fn(|cx| {
@@ -952,7 +952,7 @@ fn what_is_swallowed() {
         let mut older = Context::<Boxes>::new();
         let tx = older.attempt().await?;
         let _held = tx.lock(&BOXES[0]).await?;
-        let told: Result<(), Error> = transaction!(Boxes, |tx| {
+        let told = transaction!(Boxes, |tx| {
             let _other = tx.lock(&BOXES[1]).await?;
             assert_eq!(tx.lock(&BOXES[0]).await.map(|_| ()), Err(Error::Deadlock));
             Ok(())
@@ -982,7 +982,7 @@ fn a_chain() {
             while let Some(next) = held.last().and_then(|node| node.next.clone()) {
                 held.push(tx.lock_arc(&next).await?);
             }
-            Ok::<_, Error>(held.iter().map(|node| node.value).sum::<u64>())
+            Ok(held.iter().map(|node| node.value).sum::<u64>())
         })
     });
     assert_eq!(sum, Ok(5050));

@@ -12,7 +12,7 @@ use std::sync::Arc;
 use std::task::{Context, Poll, Waker};
 use std::thread;
 use std::time::{Duration, Instant};
-use ww_mutex::{class, transaction, Class, Error, Mutex};
+use ww_mutex::{class, transaction, Class, Mutex};
 
 class! {
     struct Wound: WoundWait;
@@ -124,7 +124,7 @@ async fn own<C: Class, const N: usize>(
     list: &[usize; N],
     under: Under,
 ) -> u32 {
-    let told: Result<u32, Error> = transaction!(C, |tx| {
+    let told = transaction!(C, |tx| {
         let mut guards: [Option<_>; N] = [const { None }; N];
         for k in 0..N {
             guards[k] = Some(tx.lock(&objects.own[list[k]].0).await?);

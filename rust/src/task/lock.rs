@@ -148,7 +148,7 @@ impl<'x, C: Class, T: ?Sized> Future for LockArc<'x, C, T> {
 /// # class!(struct Boxes: WoundWait);
 /// # fn sends(_: impl Send) {}
 /// let shared: Mutex<Boxes, _> = Mutex::new(std::rc::Rc::new(1));
-/// sends(async { transaction!(Boxes, |tx| { let value = tx.lock(&shared).await?; Ok::<_, Error>(**value) }) });
+/// sends(async { transaction!(Boxes, |tx| { let value = tx.lock(&shared).await?; Ok(**value) }) });
 /// ```
 ///
 /// and threads share it only if they may share its value:
@@ -158,7 +158,7 @@ impl<'x, C: Class, T: ?Sized> Future for LockArc<'x, C, T> {
 /// # class!(struct Boxes: WoundWait);
 /// # fn shares(_: impl Sync) {}
 /// # static BOX: Mutex<Boxes, std::cell::Cell<u64>> = Mutex::new(std::cell::Cell::new(0));
-/// async { transaction!(Boxes, |tx| { shares(&tx.lock(&BOX).await?); Ok::<_, Error>(()) }) };
+/// async { transaction!(Boxes, |tx| { shares(&tx.lock(&BOX).await?); Ok(()) }) };
 /// ```
 #[must_use = "the mutex is released as soon as its guard is dropped"]
 #[clippy::has_significant_drop]
