@@ -28,7 +28,7 @@ static inline void __tsan_release(void *at) { (void)at; }
 
 struct ww_pool;
 
-/* A seat has two cache lines of its own, the second for its counts. It begins with its handle, as ww_mutex.h assumes. */
+/* A seat has two cache lines of its own; a context that meets nobody leaves the second one alone. It begins with its handle, as ww_mutex.h assumes. */
 typedef struct ww_seat {
 	ww_handle handle;
 	uint32_t token;		/* one futex word: nothing, a token, or its waker is to be called */
@@ -36,14 +36,14 @@ typedef struct ww_seat {
 	struct ww_pool *pool;	/* the class that has it */
 	struct ww_seats *of;	/* the seats among which it is */
 	uint64_t keeper;	/* the number of the thread that keeps it, or NO_THREAD */
-	uint64_t user;		/* the number of the thread that last locked by it without a context */
+	uint8_t ages;		/* see SHARE_AGE of ww_pool.h; only its user accesses it */
 	struct ww_desk *desk;	/* its user's: see ww_shared.c; or NULL */
 	uint64_t waits __attribute__((aligned(64))), back_offs; /* of its users, in all */
 	struct ww_waker waker;	/* of its wait; below, how many waits there were */
 	uint32_t armed;
 	uint32_t awaits;	/* the number of the lock for which it waits, plus 1, or 0: a hint */
 	uint64_t lent;		/* one of tasks: until then whoever begins next gets it; then who waits longest */
-	uint8_t ages;		/* see SHARE_AGE of ww_pool.h; only its user accesses it */
+	uint64_t user;		/* the number of the thread that last locked by it without a context */
 } __attribute__((aligned(64))) ww_seat;
 
 /* How a lock call waits. It ends early if its seat comes to heed the cancel of its own that is pending: see ww_may_stop. */
