@@ -2,8 +2,8 @@
 use Rattle.std.specs.Prelude.{ℕ, ◌≡◌, true}
 use Rattle.ww_plain.specs.Numbers.{is_among}
 use Rattle.ww_invariant.specs.declared.cells.Start.{Start}
-use Rattle.ww_invariant.specs.Rule.{St, Ruled}
-use Rattle.ww_table_laws.specs.Laws.{StepsAt}
+use Rattle.ww_invariant.specs.Rule.{St}
+use Rattle.ww_table_laws.specs.Laws.{StepsAt, RuledOwners}
 use Rattle.ww_lock.specs.declared.hand.Hand.TheInside.{Inside}
 use Rattle.ww_lock.specs.Holding.{Holding}
 use Rattle.ww_lock.specs.Carried.{holding_of}
@@ -22,7 +22,7 @@ pub record IsPassAt (s : St) (id : ℕ) (h : Holding) : Type 0 where
 
 -- two passes that hold one node are one
 abbrev pub PassesExclude : Type 0
-PassesExclude = (key : Start) (s : St) (r : Ruled key s) (id other : ℕ) (h k : Holding) (n : ℕ) →
+PassesExclude = (key : Start) (s : St) → RuledOwners key s → (id other : ℕ) (h k : Holding) (n : ℕ) →
     IsPassAt s id h → IsPassAt s other k → is_among n h.held ≡ true → is_among n k.held ≡ true →
     (id ≡ other) × (h.caller ≡ k.caller)
 
@@ -35,6 +35,6 @@ pub record IsDeskAt (s : St) (id : ℕ) (d : Situation) : Type 0 where
 
 -- two desks that hold one lock are one
 abbrev pub DesksExclude : Type 0
-DesksExclude = (key : Start) (s : St) (r : Ruled key s) (id other : ℕ) (d e : Situation) (n : ℕ) →
+DesksExclude = (key : Start) (s : St) → RuledOwners key s → (id other : ℕ) (d e : Situation) (n : ℕ) →
     IsDeskAt s id d → IsDeskAt s other e → is_among n d.held ≡ true → is_among n e.held ≡ true →
     (id ≡ other) × (d.caller ≡ e.caller)

@@ -16,7 +16,8 @@ use Rattle.ww_plain.specs.declared.node.Node.{Node}
 use Rattle.ww_plain.specs.declared.history.Record.{Record}
 use Rattle.ww_plain.specs.Graph.{node_at}
 use Rattle.ww_plain.specs.History.{Recorded, recorded_of, last_graph}
-use Rattle.ww_view.specs.View.{owns, IsAway}
+use Rattle.ww_view.specs.declared.view.View.{View}
+use Rattle.ww_view.specs.View.{owns, IsAway, KnowsOwned}
 use Rattle.ww_view.specs.May.{MayFast}
 use Rattle.ww_view.specs.Made.{ended, fast_given, fast_taken}
 use Rattle.ww_invariant.specs.declared.cells.Cell.{Cell}
@@ -31,6 +32,10 @@ use Rattle.ww_invariant.specs.Homes.{AreSlots}
 use Rattle.ww_invariant.specs.Rule.{St, Sat, first_graph, first_sight, Ruled, IsSize, MakesWith, Makes, Stays, AreNodes}
 use Rattle.ww_invariant.specs.Steps.{MayDraw, MayEnd, MayPlace, taker, drawing, drawing_none, taking, giving, knowing, placing, IsToldBy}
 
+-- what the seat knows of the core
+abbrev pub core_of : Sat → View
+core_of me = me.0.part.core
+
 -- a seat of the table that steps: where its view stands, and the seat itself
 pub record StepsAt (s : St) (id : ℕ) (me : Sat) : Type 0 where
   pub here : get_elem? s.views id ≡ some me.0
@@ -41,7 +46,7 @@ abbrev pub DrawIsBegin : Type 0
 DrawIsBegin = (key : Start) (s : St) (r : Ruled key s) (id : ℕ) (me : Sat) → StepsAt s id me → MayDraw me.0.part →
     slice_index s.words stamp_at < most_for key.places →
     let stamp : ℕ = slice_index s.words stamp_at + 1 in
-    Makes key s r (Begin me.0.part.core.who) (stepped s stamp_at stamp id me.1 (drawing me.0 stamp) keeps)
+    Makes key s r (Begin (core_of me).who) (stepped s stamp_at stamp id me.1 (drawing me.0 stamp) keeps)
 
 -- where all stamps are spent, which can't be with 16 seats, no context begins
 abbrev pub SpentIsNoEvent : Type 0
@@ -60,38 +65,38 @@ FewSeatsHaveNarrowWords = (key : Start) (s : St) (r : Ruled key s) (n : ℕ) →
 -- outside a guard an owner word 0 becomes that of the seat as Fast, and the node that comes out has the fold's value
 abbrev pub TakeFreeIsFast : Type 0
 TakeFreeIsFast = (key : Start) (s : St) (r : Ruled key s) (id : ℕ) (me : Sat) (n : ℕ) → StepsAt s id me
-    → n < length (first_graph key) → MayFast me.0.part.core → slice_index s.words (owner_at key.locks n) ≡ 0 →
+    → n < length (first_graph key) → MayFast (core_of me) → slice_index s.words (owner_at key.locks n) ≡ 0 →
     let x : Node = node_at (last_graph (first_graph key) r.log) n in
-    Makes key s r (Fast me.0.part.core.who n)
-    (stepped s (owner_at key.locks n) (packed (taker me.0.part.core)) id me.1 (taking me.0 n x) (takes n (Content x)))
+    Makes key s r (Fast (core_of me).who n)
+    (stepped s (owner_at key.locks n) (packed (taker (core_of me))) id me.1 (taking me.0 n x) (takes n (Content x)))
 
 -- outside a guard the owner word of the seat without flags becomes 0 as FastGive
 abbrev pub GiveFreeIsFastGive : Type 0
 GiveFreeIsFastGive = (key : Start) (s : St) (r : Ruled key s) (id : ℕ) (me : Sat) (n : ℕ) (x : Node) → StepsAt s id me
-    → n < length (first_graph key) → IsAway me.0.part.core → owns me.0.part.core n ≡ true →
+    → n < length (first_graph key) → IsAway (core_of me) → owns (core_of me) n ≡ true →
     get_elem? me.0.held n ≡ some (Some x) → me.1 ≡ (n, Content x) ∷ rest me.1
-    → slice_index s.words (owner_at key.locks n) ≡ packed (taker me.0.part.core) →
-    Makes key s r (FastGive me.0.part.core.who n) (stepped s (owner_at key.locks n) 0 id me.1 (giving me.0 n) gives)
+    → slice_index s.words (owner_at key.locks n) ≡ packed (taker (core_of me)) →
+    Makes key s r (FastGive (core_of me).who n) (stepped s (owner_at key.locks n) 0 id me.1 (giving me.0 n) gives)
 
 -- the same of a lock that guards no node: no slot comes or goes
 abbrev pub TakeBareIsFast : Type 0
 TakeBareIsFast = (key : Start) (s : St) (r : Ruled key s) (id : ℕ) (me : Sat) (n : ℕ) → StepsAt s id me
-    → length (first_graph key) ≤ n → n < key.locks → MayFast me.0.part.core → slice_index s.words (owner_at key.locks n) ≡ 0 →
-    Makes key s r (Fast me.0.part.core.who n)
-    (stepped s (owner_at key.locks n) (packed (taker me.0.part.core)) id me.1 (knowing me.0 (fast_taken me.0.part.core n))
+    → length (first_graph key) ≤ n → n < key.locks → MayFast (core_of me) → slice_index s.words (owner_at key.locks n) ≡ 0 →
+    Makes key s r (Fast (core_of me).who n)
+    (stepped s (owner_at key.locks n) (packed (taker (core_of me))) id me.1 (knowing me.0 (fast_taken (core_of me) n))
     keeps)
 
 abbrev pub GiveBareIsFastGive : Type 0
 GiveBareIsFastGive = (key : Start) (s : St) (r : Ruled key s) (id : ℕ) (me : Sat) (n : ℕ) → StepsAt s id me
-    → length (first_graph key) ≤ n → n < key.locks → IsAway me.0.part.core → owns me.0.part.core n ≡ true →
-    slice_index s.words (owner_at key.locks n) ≡ packed (taker me.0.part.core) →
-    Makes key s r (FastGive me.0.part.core.who n) (stepped s (owner_at key.locks n) 0 id me.1 (knowing me.0 (fast_given me.0.part.core n)) keeps)
+    → length (first_graph key) ≤ n → n < key.locks → IsAway (core_of me) → owns (core_of me) n ≡ true →
+    slice_index s.words (owner_at key.locks n) ≡ packed (taker (core_of me)) →
+    Makes key s r (FastGive (core_of me).who n) (stepped s (owner_at key.locks n) 0 id me.1 (knowing me.0 (fast_given (core_of me) n)) keeps)
 
 -- Outside all guards and lists an owner word, except its flags, is the seat's own if and only if the seat owns the lock:
 -- so a seat needs no list of what it holds.
 abbrev pub WordsTellOwners : Type 0
 WordsTellOwners = (key : Start) (s : St) (r : Ruled key s) (id : ℕ) (me : Sat) (n : ℕ) → StepsAt s id me → n < key.locks →
-    IsAway me.0.part.core → IsToldBy me.0.part.core n (slice_index s.words (owner_at key.locks n))
+    IsAway (core_of me) → IsToldBy (core_of me) n (slice_index s.words (owner_at key.locks n))
 
 -- An owner word is 0 if and only if nobody has taken the lock, nobody was handed it, and nobody waits for it: so a look at the
 -- word tells whether it is free.
@@ -99,27 +104,40 @@ abbrev pub FreeWordsTell : Type 0
 FreeWordsTell = (key : Start) (s : St) (r : Ruled key s) (n : ℕ) → n < key.locks →
     (slice_index s.words (owner_at key.locks n) ≡ 0) ↔ ((r.core.owner n ≡ Nobody) × (r.core.queue n ≡ []))
 
--- Mutual exclusion: at each moment a lock is owned by one seat of the table at most. Who owns it stands where any other does
--- that owns it, and so has its number.
+-- The part of the rule that tells who owns a lock (`RuleTellsOwners`). The owner words show a state of the core, in which a lock
+-- has one owner at most; each seat that steps knows which locks are its own there; and each number stands in one place.
+pub record RuledOwners (key : Start) (s : St) : Type 0 where
+  pub core : State
+  pub at : ℕ → ℕ
+  pub locks : core.locks ≡ key.locks
+  pub words : (n : ℕ) → n < key.locks → slice_index s.words (owner_at key.locks n) ≡ packed (word_of core n)
+  pub known : (id : ℕ) (me : Sat) → StepsAt s id me → KnowsOwned core.locks core.owner (core_of me).who (core_of me).owned
+  pub places : (id : ℕ) (me : Sat) → StepsAt s id me → at (core_of me).who ≡ id
+
+-- every table has it that the rule allows, of the core that the rule tells
+abbrev pub RuleTellsOwners : Type 0
+RuleTellsOwners = (key : Start) (s : St) (r : Ruled key s) → (o : RuledOwners key s) × (o.core ≡ r.core)
+
+-- Mutual exclusion, of what two seats know: at each moment a lock is owned by one seat of the table at most. Who owns it stands
+-- where any other does that owns it, and so has its number.
 abbrev pub OwnersExclude : Type 0
-OwnersExclude = (key : Start) (s : St) (r : Ruled key s) (id other : ℕ) (me it : Sat) (n : ℕ) → StepsAt s id me → StepsAt s other it →
-    owns me.0.part.core n ≡ true → owns it.0.part.core n ≡ true →
-    (id ≡ other) × (me.0.part.core.who ≡ it.0.part.core.who)
+OwnersExclude = (key : Start) (s : St) → RuledOwners key s → (id other : ℕ) (me it : Sat) (n : ℕ) → StepsAt s id me → StepsAt s other it →
+    owns (core_of me) n ≡ true → owns (core_of it) n ≡ true → (id ≡ other) × ((core_of me).who ≡ (core_of it).who)
 
 -- the own sign word is found 0, and the context ends, as End
 abbrev pub EndIsEnd : Type 0
-EndIsEnd = (key : Start) (s : St) (r : Ruled key s) (id : ℕ) (me : Sat) → StepsAt s id me → MayEnd me.0.part.core
-    → slice_index s.words (sign_at key.locks me.0.part.core.who) ≡ 0 →
-    let i : ℕ = sign_at key.locks me.0.part.core.who in
-    Makes key s r (End me.0.part.core.who)
-    (stepped s i (slice_index s.words i) id me.1 (knowing me.0 (ended me.0.part.core)) keeps)
+EndIsEnd = (key : Start) (s : St) (r : Ruled key s) (id : ℕ) (me : Sat) → StepsAt s id me → MayEnd (core_of me)
+    → slice_index s.words (sign_at key.locks (core_of me).who) ≡ 0 →
+    let i : ℕ = sign_at key.locks (core_of me).who in
+    Makes key s r (End (core_of me).who)
+    (stepped s i (slice_index s.words i) id me.1 (knowing me.0 (ended (core_of me))) keeps)
 
 -- the front word goes one up as Commit, and the commits are one more: this record, behind all others
 abbrev pub PlaceIsCommit : Type 0
 PlaceIsCommit = (key : Start) (s : St) (r : Ruled key s) (id : ℕ) (me : Sat) (done : Record) → StepsAt s id me
     → MayPlace me.0 (recorded_of done) →
     let place : ℕ = slice_index s.words front_at in
-    MakesWith key s r (Commit me.0.part.core.who) (r.log ++ recorded_of done ∷ [])
+    MakesWith key s r (Commit (core_of me).who) (r.log ++ recorded_of done ∷ [])
     (stepped s front_at (place + 1) id me.1 (placing me.0 place done) keeps)
 
 -- a lawful state of the core; every cycle of waits there has a condemned member, and each of its members a context

@@ -16,7 +16,7 @@ use Rattle.ww_invariant.specs.Steps.{knowing, keeping, nobody, first_seat, witho
 use Rattle.ww_invariant.specs.Guards.{lost, shutting_out, looking, glancing}
 use Rattle.ww_invariant.specs.Signs.{noting, having_read, finding_none}
 use Rattle.ww_invariant.specs.Cancels.{finding_pending, finding_uncancelled}
-use Rattle.ww_table_laws.specs.Laws.{StepsAt}
+use Rattle.ww_table_laws.specs.Laws.{StepsAt, core_of}
 
 -- the table once the seat read a word, or found there another than it expected, and has this view then
 abbrev pub once_read : St → ℕ → ℕ → Sat → Sight → St
@@ -25,7 +25,7 @@ once_read s i id me w = stepped s i (slice_index s.words i) id me.1 w keeps
 -- a look at the owner word inside the guard
 abbrev pub LookIsNoEvent : Type 0
 LookIsNoEvent = (key : Start) (s : St) (r : Ruled key s) (id : ℕ) (me : Sat) (n : ℕ) (o : Owner) → StepsAt s id me →
-    me.0.part.core.inside ≡ suc n → IsValid o → slice_index s.words (owner_at key.locks n) ≡ packed o →
+    (core_of me).inside ≡ suc n → IsValid o → slice_index s.words (owner_at key.locks n) ≡ packed o →
     Stays key s r (once_read s (owner_at key.locks n) id me (looking me.0 o))
 
 -- a spin read of an owner word from outside the guard
@@ -50,18 +50,18 @@ CountIsNoEvent = (key : Start) (s : St) (r : Ruled key s) (id : ℕ) (me : Sat) 
 
 -- a look at the own sign: what is found is noted, or that nothing was; so too where a context doesn't end, being signed
 pub record IsNotedOnly (key : Start) (s : St) (r : Ruled key s) (id : ℕ) (me : Sat) (i : ℕ) : Type 0 where
-  pub found : (slice_index s.words i ≡ 0 → IsQuiet me.0.part.core) → Stays key s r (once_read s i id me (having_read me.0 (slice_index s.words i)))
+  pub found : (slice_index s.words i ≡ 0 → IsQuiet (core_of me)) → Stays key s r (once_read s i id me (having_read me.0 (slice_index s.words i)))
   pub found_none : Stays key s r (once_read s i id me (finding_none me.0))
 
 abbrev pub OwnSignIsNoEvent : Type 0
 OwnSignIsNoEvent = (key : Start) (s : St) (r : Ruled key s) (id : ℕ) (me : Sat) → StepsAt s id me
-    → IsNotedOnly key s r id me (sign_at key.locks me.0.part.core.who)
+    → IsNotedOnly key s r id me (sign_at key.locks (core_of me).who)
 
 -- A try that finds another word than the seat expected: to take a lock at once; to release it at once; to take one at once
 -- that it has, or to release one that it hasn't, of those that guard no node; to set a cancel where one is pending; to go
 -- inside a guard; to heed a cancel where none is pending; or inside a guard.
 pub record IsLostOnly (key : Start) (s : St) (r : Ruled key s) (id : ℕ) (me : Sat) (i : ℕ) : Type 0 where
-  pub taking : Stays key s r (once_read s i id me (knowing me.0 (fast_missed me.0.part.core)))
+  pub taking : Stays key s r (once_read s i id me (knowing me.0 (fast_missed (core_of me))))
   pub giving : Stays key s r (once_read s i id me (keeping me.0))
   pub nothing : Stays key s r (once_read s i id me me.0)
   pub cancelling : Stays key s r (once_read s i id me (finding_pending me.0))

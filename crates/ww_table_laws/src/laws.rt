@@ -1,6 +1,6 @@
 //! Laws of the table: each function's contract is one. A step's own call cites the lemma that its law does.
 
-ghost use Rattle.ww_table_laws.specs.Laws.{DrawIsBegin, SpentIsNoEvent, FewSeatsSpendNone, FewSeatsHaveNarrowWords, TakeFreeIsFast, GiveFreeIsFastGive, TakeBareIsFast, GiveBareIsFastGive, EndIsEnd, PlaceIsCommit, RuledIsLawful, ShownIsOne, StepsExtendTheRun, NewTableShowsStart, NewSeatsCanClose, WordsTellOwners, FreeWordsTell, OwnersExclude};
+ghost use Rattle.ww_table_laws.specs.Laws.{DrawIsBegin, SpentIsNoEvent, FewSeatsSpendNone, FewSeatsHaveNarrowWords, TakeFreeIsFast, GiveFreeIsFastGive, TakeBareIsFast, GiveBareIsFastGive, EndIsEnd, PlaceIsCommit, RuledIsLawful, ShownIsOne, StepsExtendTheRun, NewTableShowsStart, NewSeatsCanClose, WordsTellOwners, FreeWordsTell, RuleTellsOwners, OwnersExclude};
 
 /// From every table that the rule allows, a draw is the event Begin on what is shown.
 pub fn draw_is_begin()
@@ -53,6 +53,11 @@ pub fn words_tell_owners()
 #[tactic(auto, using(crate::proofs::Freedom::free_words_tell))]
 pub fn free_words_tell()
     ensures { FreeWordsTell }
+{}
+
+/// At each moment that the rule allows, the part of it holds on which mutual exclusion rests.
+pub fn rule_tells_owners()
+    ensures { RuleTellsOwners }
 {}
 
 /// At each moment one seat at most owns a lock, whether that guards a node or not.
