@@ -888,18 +888,74 @@ def share(marks, looks, finds):
     )
 
 
-def shared_bit(looks_again):
+def shared_bit(looks, looks_again):
     """A reader whose bit is cleared and set again by another desk's reader, beside two writes; free are 0 and 2."""
     last = [R("k", "lock", "sc"), IF("k", 2, R("d", "data"))] if looks_again else [R("d", "data")]
     return (
         [
-            [X("m", "mark", put(1), "sc"), R("l", "lock", "sc"), IF("l", 2, R("b", "bit", "sc"), IF("b", 1, *last))],
+            [X("m", "mark", put(1), "sc"), R("l", "lock", "sc"), IF("l", 2, R("b", "bit", looks), IF("b", 1, *last))],
             [X("l", "lock", swap(0, 1), "sc"), IF("l", 0, R("m", "mark", "sc"), IF("m", 0, X("c", "bit", put(0), "sc"), X("u", "lock", put(2), "sc")))],
             [X("l", "lock", swap(2, 3), "sc"), IF("l", 2, R("b", "bit", "sc"), IF("b", 0, W("data", 1)))],
             [X("b", "bit", put(1), "sc")],
         ],
         lambda r, f: r[0].get("d") is not None and f["data"] == 1,
         {"bit": 1},
+    )
+
+
+def own_bit(sets, looks):
+    """A reader sets its bit, which no other desk has; against a writer that looks for bits."""
+    reads = IF("k", 0, R("d", "data"))
+    return (
+        [
+            [X("b", "bit", put(1), sets), X("m", "mark", put(1), "sc"), R("l", "lock", "sc"),
+             IF("l", 0, R("c", "bit", "sc"), IF("c", 1, R("k", "lock", "sc"), reads))],
+            [X("l", "lock", swap(0, 1), "sc"), IF("l", 0, R("b", "bit", looks), IF("b", 0, W("data", 1)))],
+        ],
+        lambda r, f: r[0].get("d") is not None and f["data"] == 1,
+    )
+
+
+def new_desk(lists, looks):
+    """A reader by a desk that has just been made, of which the bit was set before; against a writer that looks for desks."""
+    return (
+        [
+            [W("number", 5), W("desks", 1, lists), X("m", "mark", put(1), "sc"), R("l", "lock", "sc"), IF("l", 0, R("d", "data"))],
+            [X("l", "lock", swap(0, 1), "sc"), R("k", "desks", looks),
+             IF("k", 0, W("data", 1)), IF("k", 1, R("n", "number"), R("m", "mark", "sc"), IF("m", 0, W("data", 1)))],
+        ],
+        lambda r, f: r[0]["l"] == 0 and f["data"] == 1 or r[1].get("n") == 0,
+    )
+
+
+def handed(looks):
+    """A writer releases the mutex, and a reader finds that free: it reads what was written."""
+    return (
+        [[W("data", 1), X("u", "lock", put(0), "sc")], [X("m", "mark", put(1), "sc"), R("l", "lock", looks), IF("l", 0, R("d", "data"))]],
+        lambda r, f: r[1].get("d") == 0,
+        {"lock": 1},
+    )
+
+
+def taken_back(takes):
+    """Whoever has a desk next wipes its mark, sets another one in that word (2), and takes it back; as below."""
+    return (
+        [
+            [R("d", "data"), X("u", "desk", put(0), "sc")],
+            [X("k", "desk", swap(0, 2), "sc"), IF("k", 0, W("mark", 0, "rel"), X("t", "mark", put(2), "sc"), W("mark", 0, takes))],
+            [R("m", "mark", "sc"), IF("m", 0, W("data", 1)), IF("m", 2, W("data", 1))],
+        ],
+        lambda r, f: r[0]["d"] == 1,
+        {"desk": 1, "mark": 1},
+    )
+
+
+def counted(counts, looks):
+    """A desk with a mark from before gets a read; who sees that, and the mark, takes it for one."""
+    return (
+        [[W("mark", 0, "rel"), W("reads", 1, counts)], [R("n", "reads", looks), R("m", "mark", "acq")]],
+        lambda r, f: r[1]["n"] == 1 and r[1]["m"] == 1,
+        {"mark": 1},
     )
 
 
@@ -934,7 +990,16 @@ def wrong():
     yield "a reader looks relaxed whether the mutex is free", share("sc", "rlx", "sc")
     yield "a writer looks relaxed for a mark", share("sc", "sc", "rlx")
     yield "marks are wiped relaxed", wiped("rlx")
-    yield "a reader doesn't look at the word behind its bit", shared_bit(False)
+    yield "a reader doesn't look at the word behind its bit", shared_bit("sc", False)
+    yield "a reader looks at its bit by an acquire", shared_bit("acq", True)
+    yield "a reader sets its bit by a release", own_bit("rel", "sc")
+    yield "a writer looks for bits by an acquire", own_bit("sc", "acq")
+    yield "a desk is listed by a release", new_desk("rel", "sc")
+    yield "a writer looks for desks by an acquire", new_desk("sc", "acq")
+    yield "a reader finds relaxed that the mutex is free again", handed("rlx")
+    yield "a mark is taken back relaxed", taken_back("rlx")
+    yield "a read is counted relaxed", counted("rlx", "acq")
+    yield "who destroys looks relaxed for reads", counted("rel", "rlx")
 
 
 def ours():
@@ -1019,12 +1084,12 @@ def ours():
     ], lambda r, f: False, {"own": 5}
     yield "a reader, and a writer", *share("sc", "sc", "sc")
     yield "a mark is wiped", *wiped("rel")
-    yield "a reader whose bit another one sets", *shared_bit(True)
-    yield "a reader by a new desk, of which the bit was set before", [
-        [W("number", 5), W("desks", 1, "sc"), X("m", "mark", put(1), "sc"), R("l", "lock", "sc"), IF("l", 0, R("d", "data"))],
-        [X("l", "lock", swap(0, 1), "sc"), R("k", "desks", "sc"),
-         IF("k", 0, W("data", 1)), IF("k", 1, R("n", "number"), R("m", "mark", "sc"), IF("m", 0, W("data", 1)))],
-    ], lambda r, f: r[0]["l"] == 0 and f["data"] == 1 or r[1].get("n") == 0
+    yield "a reader whose bit another one sets", *shared_bit("sc", True)
+    yield "a reader that sets its bit", *own_bit("sc", "sc")
+    yield "a reader by a new desk, of which the bit was set before", *new_desk("sc", "sc")
+    yield "a reader that comes after a write", *handed("sc")
+    yield "a mark is wiped, and another one taken back", *taken_back("rel")
+    yield "a read, and whoever destroys the mutex", *counted("rel", "acq")
     yield "a reader of which the bit is cleared meanwhile, and the next writer", [
         [X("m", "mark", put(1), "sc"), R("l", "lock", "sc"),
          IF("l", 0, R("b", "bit", "sc"), IF("b", 1, R("d", "data"))), IF("l", 2, R("b", "bit", "sc"), IF("b", 1, R("d", "data")))],

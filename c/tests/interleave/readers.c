@@ -12,7 +12,7 @@
  *	a mark is set, is cleared	sets_mark, clears_mark
  *	     is read			by the mutex's owner finds_no_mark, if it isn't there
  *	a list of desks is read		likewise, of each desk that comes into it later
- *	a call says that it reads	it does so; or reads_as_owner before the mutex was released
+ *	a call says that it reads	none, if it does; or reads_as_owner, before it released the mutex
  *	a call says that it writes	begins_to_write
  *
  * A look by which nothing more is known is no move.  A context may give up a try to read (reads_no_more), but who reads goes on until
@@ -201,12 +201,13 @@ static bool is_hall(const void *pc)
 
 /* ---- bits ---- */
 
+/* A context may have come from another thread, so it isn't asked which one sets this, or a mark: no other context gets further by it. */
 static void sets_bit(struct mutex *m, uint64_t bit)
 {
 	for (unsigned seat = 0; seat < seat_count; seat++)
-		if (has_bit(&desks[seat], bit) && il_is_user(seat))
+		if (has_bit(&desks[seat], bit))
 			return;
-	ASK(false, "a thread sets a bit of mutex %c that no desk of its own has", name_of(m));
+	ASK(false, "a bit of mutex %c is set, and no desk has it", name_of(m));
 }
 
 /* A try to read it, by what is cleared now, is given up. */
@@ -254,8 +255,7 @@ static void sets_mark(unsigned seat, uint32_t number)
 	for (struct mutex *m = mutexes; m < mutexes + MUTEXES; m++) {
 		if (!m->is_there || m->number != number)
 			continue;
-		ASK(il_is_user(seat) && desks[seat].sitter == seat + 1, "mutex %c is marked at desk %u by who doesn't sit there",
-		    name_of(m), seat);
+		ASK(desks[seat].sitter == seat + 1, "mutex %c is marked at desk %u, and its context isn't there", name_of(m), seat);
 		ASK(m->progress[seat] == APART, "seat %u marks mutex %c again", seat, name_of(m));
 		m->progress[seat] = HAS_MARK;
 		return;
