@@ -60,13 +60,18 @@ static void are_called_off(void)
 
 /* ---- asked for by more threads than there are contexts ---- */
 
+enum { SLICE = 10000 };
+
+static bool is_over(void) { return __atomic_load_n(&over, __ATOMIC_RELAXED); }
+
 static void *begins_and_sleeps(void *arg)
 {
 	struct ww_acquire_ctx y;
 
-	while (!__atomic_load_n(&over, __ATOMIC_RELAXED)) {
+	while (!is_over()) {
 		ww_acquire_init(&y, c);
-		usleep((unsigned)(size_t)arg);
+		for (size_t slept = 0; slept < (size_t)arg && !is_over(); slept += SLICE)
+			usleep(SLICE);
 		ww_acquire_fini(&y);
 	}
 	return NULL;
@@ -82,7 +87,7 @@ static void *cancels(void *arg)
 /* Each of the others has its context for longer than all of this may take. */
 static void with_few_contexts(void)
 {
-	enum { OTHERS = 24, SLEEP = 200000 };
+	enum { OTHERS = 24, SLEEP = 6000000 };
 	struct timespec begun = in_ms(0), now;
 	struct ww_acquire_ctx y;
 	pthread_t threads[OTHERS];

@@ -153,8 +153,8 @@ pub trait Class: Sized + 'static {
     }
 
     /// Ends each wait of the class's contexts with [`Cancelled`](Error::Cancelled), of threads and of tasks, also the waits
-    /// for a context; and each later one immediately. What needn't wait goes on, and so does [`Mutex::lock`], which can't fail.
-    /// So a program that ends needs no list of what waits.
+    /// for a context; and each later one immediately: the class stays cancelled. It stops nothing else: what needn't wait goes
+    /// on, and so does [`Mutex::lock`], which can't fail. So a program that ends needs no list of what waits.
     ///
     /// ```
     /// # use ww_mutex::{class, Class, Error, Mutex};
@@ -181,6 +181,7 @@ pub trait Class: Sized + 'static {
     /// # Panics
     ///
     /// In a forked child, if the class was opened before the fork.
+    #[track_caller]
     fn cancel() -> Result<(), Error> {
         Self::raw().cancel()
     }
@@ -357,6 +358,7 @@ impl RawClass {
         unsafe { ffi::ww_number_put(number.index(), self.get()) }
     }
 
+    #[track_caller]
     fn cancel(&'static self) -> Result<(), Error> {
         // SAFETY: the class is static, and never freed.
         match unsafe { ffi::ww_class_cancel(self.get()) } {

@@ -122,8 +122,8 @@ class Class:
         return Counts(*(getattr(counted, it) for it in Counts._fields))
 
     def cancel(self):
-        """Ends all waits of its contexts and mutexes (InterruptedError), those of tasks too, and each later one immediately: for
-        a program that ends. What needn't wait goes on."""
+        """Ends all waits of its contexts and mutexes (InterruptedError), those of tasks too, and each later one immediately: the
+        class stays cancelled. It stops nothing else, so a loop that needn't wait goes on: ask whether the program ends there."""
         told(self._library.ww_class_cancel(self._at))
 
     def context(self, timeout=None):
