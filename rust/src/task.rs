@@ -101,6 +101,7 @@ mod waker;
 pub use guards::Guards;
 pub use lock::{ArcGuard, Guard, Lock, LockArc, LoneGuard};
 
+use crate::events::{Wait, Watch};
 use crate::{error, ffi, place, Class, Error, Mutex};
 use body::Body;
 use core::fmt;
@@ -340,10 +341,18 @@ impl<C: Class> Context<C> {
         let block = async {
             let Inner { class, .. } = self.tx.inner;
             if !self.tx.inner.own().has_begun() {
-                let mut seek = pin!(Seek::new(class));
-                let raw = poll_fn(|cx| seek.as_mut().poll(cx.waker())).await?;
-                self.tx.inner.own().raw = MaybeUninit::new(raw);
-                return Ok(());
+                let (mut seek, mut watch) = (pin!(Seek::new(class)), Watch::default());
+                let told = poll_fn(|cx| {
+                    let told = seek.as_mut().poll(cx.waker());
+                    if told.is_pending() {
+                        watch.begins(class.hook(), Wait::Context);
+                    }
+                    told
+                })
+                .await;
+                let told = told.map(|raw| self.tx.inner.own().raw = MaybeUninit::new(raw));
+                watch.ends(told);
+                return told;
             }
             if let Some(first) = self.tx.inner.own().rare().contended {
                 class.check(first);
