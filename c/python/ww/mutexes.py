@@ -92,6 +92,14 @@ def _wrong(why):
     return OSError(errno.EINVAL, why)
 
 
+@functools.lru_cache(maxsize=None)
+def _tasks():
+    """asyncio is loaded for those who use it."""
+    from . import tasks
+
+    return tasks
+
+
 def _is_main():
     return threading.get_ident() == threading.main_thread().ident
 
@@ -133,7 +141,9 @@ class Class:
 
     async def run_async(self, body):
         """As run, for a task: returns what `await body(context)` returns, with a context of `async with`."""
-        async with self.context() as context:
+        context = _tasks().TaskContext(self)
+        try:
+            await context.begin()
             while True:
                 try:
                     result = await body(context)
@@ -143,6 +153,8 @@ class Class:
                     if context._contended is None:
                         raise
                 context.unlock_all()
+        finally:
+            context.end()
 
     def _check(self, *mutexes):
         for mutex in mutexes:
@@ -270,11 +282,9 @@ class Context:
         return self  # After the last call no signal is handled before the block.
 
     async def __aenter__(self):
-        from .tasks import TaskContext  # asyncio is loaded for those who use it
-
         if self._thread is not None or self._of_task is not None or self._timeout is not None:
             raise _wrong("a context begins once, and a task's without a timeout: asyncio has some")
-        self._of_task = TaskContext(self._class)
+        self._of_task = _tasks().TaskContext(self._class)
         await self._of_task.begin()
         return self._of_task
 
