@@ -75,8 +75,9 @@
 //!
 //! A class finds by itself how many tasks have a context at a time: it measures how many end the most in a second, up to 896.
 //! If [`class!`](crate::class!) says how many contexts it has, that is a fixed bound, which threads and tasks share. Further tasks
-//! wait for one, holding nothing; one that ends goes to whoever begins next, and each 0.2 to 1 ms to whoever waits longest. So a body that
-//! awaits a task which needs a context may wait forever.
+//! wait for one, holding nothing; one that ends goes to whoever begins next, and each 0.2 to 1 ms to whoever waits longest. So a task
+//! waits for as many of these times as tasks came before it, shared among those that have one: of 10,000 the one that waits longest
+//! comes after 0.1 to 0.2 s where bodies take microseconds. And a body that awaits a task which needs a context may wait forever.
 //!
 //! # Guards across an `.await`
 //!
