@@ -260,13 +260,19 @@ class Context:
         # two lines: so a mutex is in the first set before it can be held, and leaves the second before it is released.
         self._near, self._held = set(), set()
         self._read = set()  # Those of them that it reads, also where it holds them besides.
+
+    def __getattr__(self, name):
+        """What a thread's context has besides, made at its first use: one of a task never uses it."""
+        if name not in ("_at", "_lock", "_end", "_is_over", "_its_end"):
+            raise AttributeError(f"a context has no attribute {name!r}")
         self._at = _memory(self._library.ww_acquire_size())
         # Its end comes once, in a block or when it is dropped, and other threads may cancel it until then: so the end and each
         # cancel are made under a lock.
         self._lock = threading.Lock()
         release, fini = (functools.partial(call, self._at) for call in (self._library.ww_acquire_unlock_all, self._library.ww_acquire_fini_checked))
         self._end, self._is_over = _once(self._lock.acquire, release, fini, self._lock.release, self._held.clear, self._near.clear)
-        self._its_end = _ending(self._end, of._its_end, self._near)
+        self._its_end = _ending(self._end, self._class._its_end, self._near)
+        return self.__dict__[name]
 
     __exit__ = _Exit()
 
