@@ -12,6 +12,8 @@
 //! - What the service did stays done: it may be asked again, by the next attempt. Ask for what may be asked twice.
 //!
 //!     cargo run --release --features async --example quotes
+#![allow(clippy::incompatible_msrv, reason = "the feature asks for Rust 1.85")]
+
 use std::future::Future;
 use std::pin::Pin;
 use std::task::{Context, Poll, Waker};

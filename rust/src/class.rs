@@ -1,3 +1,4 @@
+use crate::events::{Hook, Hooked};
 use crate::lock::{Lock, Locked};
 use crate::number::Number;
 use crate::{error, ffi, library_version, Error, Options, Tx};
@@ -192,6 +193,39 @@ pub trait Class: Sized + 'static {
         Self::raw().counts()
     }
 
+    /// From now on this function is told of the waits and back-offs of the class's contexts, in place of the one before: with
+    /// the feature `events`, so that nobody else pays for it.
+    ///
+    /// It is called by the thread that waits, or in the poll of the task that does, so a span of `tracing`, or a backtrace, says
+    /// which lock call that is. It may hold mutexes then, so the function locks none of the class, and is quick.
+    ///
+    /// ```
+    /// # use ww_mutex::{class, Class, Error, Event, Mutex};
+    /// # use std::sync::atomic::{AtomicU64, Ordering::Relaxed};
+    /// # class!(struct Boxes: WaitDie);
+    /// # static BOX: Mutex<Boxes, u64> = Mutex::new(0);
+    /// static WAITS: AtomicU64 = AtomicU64::new(0);
+    ///
+    /// Boxes::on_event(|event| {
+    ///     // For the crate `tracing`: tracing::debug!(target: "boxes", ?event).
+    ///     if let Event::WaitEnded(_, time, _) = event {
+    ///         WAITS.fetch_add(1 + time.as_millis() as u64 / 1000, Relaxed);
+    ///     }
+    /// });
+    /// let held = BOX.lock();
+    /// let told = Boxes::options().timeout(std::time::Duration::from_millis(5)).run(|tx| tx.lock(&BOX).map(|value| *value));
+    /// assert!(told == Err(Error::TimedOut) && WAITS.load(Relaxed) > 0);
+    /// # drop(held);
+    /// ```
+    ///
+    /// A thread then asks for each mutex without a wait first: so [`counts`](Self::counts) has its lock waits twice, and a
+    /// `Deadlock` in place of a wait is told as one of no time. Not told: waits of locks without a context ([`Mutex::lock`](crate::Mutex::lock)), and those of threads for a context or a
+    /// permit, which are counted there.
+    #[cfg(feature = "events")]
+    fn on_event(hook: fn(crate::Event)) {
+        Self::raw().hooked.set(hook);
+    }
+
     /// Allocates the class's memory now, and not at its first use: 52 bytes for each mutex that it may have, and 0.8 to
     /// 1.3 KiB for each context.
     ///
@@ -232,6 +266,7 @@ pub struct RawClass {
     tag: AtomicU32,
     /// Numbers of mutexes that were dropped while a context held them: by a forgotten guard, or after a back-off.
     unreturned: Lock<Vec<Number>>,
+    hooked: Hooked,
 }
 
 /// The tag of a mutex without a number.
@@ -281,6 +316,7 @@ impl RawClass {
             name,
             tag: AtomicU32::new(NO_TAG),
             unreturned: Lock::new(Vec::new()),
+            hooked: Hooked::new(),
         }
     }
 
@@ -298,6 +334,11 @@ impl RawClass {
 
     pub(crate) fn get(&'static self) -> *mut ffi::ww_class {
         self.raw.get()
+    }
+
+    #[inline]
+    pub(crate) fn hook(&self) -> Option<Hook> {
+        self.hooked.get()
     }
 
     // ---- numbers ----

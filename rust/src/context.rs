@@ -1,6 +1,7 @@
 //! A context of the library, as both forms of contexts here use it.
 
 use crate::class::RawClass;
+use crate::events::{self, Event};
 use crate::guard::Holder;
 use crate::number::Number;
 use crate::{clock, error, ffi, own, place, Canceller, Class, Error, Kind, Mutex, MutexGuard, SharedMutex};
@@ -261,6 +262,12 @@ impl Context {
         if cfg!(debug_assertions) && (self.held() == 0 || self.class.kind() == Kind::WoundWait) {
             own::check_wait(number, self.raw());
         }
+        if let Some(hook) = self.class.hook() {
+            // SAFETY: as below; the time lives for the call.
+            return events::watch(hook, ptr::null(), |until| unsafe {
+                ffi::ww_number_lock_until(number.index(), self.raw(), until)
+            });
+        }
         // SAFETY: the context has begun, and hasn't ended; the number is one of its class.
         unsafe { ffi::lock(number.index(), self.raw()) }
     }
@@ -275,7 +282,11 @@ impl Context {
         }
         place::said();
         // SAFETY: as in `ask`; the time lives for the call.
-        unsafe { ffi::ww_number_lock_until(number.index(), self.raw(), limits.until()) }
+        let wait = |until| unsafe { ffi::ww_number_lock_until(number.index(), self.raw(), until) };
+        match self.class.hook() {
+            Some(hook) => events::watch(hook, limits.until(), wait),
+            None => wait(limits.until()),
+        }
     }
 
     /// The error for a value other than 0 that the library returned.
@@ -289,6 +300,7 @@ impl Context {
                 let rare = self.rare.get_or_init(Box::default);
                 rare.contended.set(Some(number));
                 rare.is_over.set(true);
+                self.tell_back_off();
                 Err(Error::Deadlock)
             }
             ffi::EINTR => Err(Error::Cancelled),
@@ -372,11 +384,15 @@ impl Context {
     }
 
     #[track_caller]
-    fn ask_shared(&self, ask: impl FnOnce(*const ffi::timespec) -> c_int) -> Result<(), Error> {
+    fn ask_shared(&self, ask: impl Fn(*const ffi::timespec) -> c_int) -> Result<(), Error> {
         if self.is_over() {
             return Err(Error::Deadlock);
         }
         place::said();
+        let ask = |until| match self.class.hook() {
+            Some(hook) => events::watch(hook, until, &ask),
+            None => ask(until),
+        };
         let answer = match self.rare() {
             Some(rare) if rare.limits.borrow().is_cancelled() => -ffi::EINTR,
             Some(rare) => ask(rare.limits.borrow().until()),
@@ -389,6 +405,7 @@ impl Context {
                 let rare = self.rare.get_or_init(Box::default);
                 rare.awaits.set(true);
                 rare.is_over.set(true);
+                self.tell_back_off();
                 Err(Error::Deadlock)
             }
             ffi::ETIMEDOUT => Err(Error::TimedOut),
@@ -415,6 +432,12 @@ impl Context {
     }
 
     // ---- back-offs ----
+
+    fn tell_back_off(&self) {
+        if let Some(hook) = self.class.hook() {
+            hook(Event::BackedOff);
+        }
+    }
 
     /// Whether it got `Deadlock`, and hasn't backed off since.
     #[inline]

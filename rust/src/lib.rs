@@ -67,6 +67,8 @@ mod class;
 mod clock;
 mod context;
 mod error;
+#[cfg_attr(not(feature = "events"), allow(dead_code, unused_imports, clippy::unused_self, reason = "nothing is told"))]
+mod events;
 mod ffi;
 mod guard;
 mod guards;
@@ -87,6 +89,8 @@ pub use age::Age;
 pub use cancel::Canceller;
 pub use class::{Class, Counts, Kind, RawClass};
 pub use error::Error;
+#[cfg(feature = "events")]
+pub use events::{Event, Wait};
 pub use guard::{ArcMutexGuard, MutexGuard};
 pub use guards::Guards;
 pub use mutex::Mutex;

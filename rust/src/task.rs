@@ -75,8 +75,9 @@
 //!
 //! A class finds by itself how many tasks have a context at a time: it measures how many end the most in a second, up to 896.
 //! If [`class!`](crate::class!) says how many contexts it has, that is a fixed bound, which threads and tasks share. Further tasks
-//! wait for one, holding nothing; one that ends goes to whoever begins next, and each 0.2 to 1 ms to whoever waits longest. So a body that
-//! awaits a task which needs a context may wait forever.
+//! wait for one, holding nothing; one that ends goes to whoever begins next, and each 0.2 to 1 ms to whoever waits longest. So a task
+//! waits for as many of these times as tasks came before it, shared among those that have one: of 10,000 the one that waits longest
+//! comes after 0.1 to 0.2 s where bodies take microseconds. And a body that awaits a task which needs a context may wait forever.
 //!
 //! # Guards across an `.await`
 //!
@@ -101,6 +102,7 @@ mod waker;
 pub use guards::Guards;
 pub use lock::{ArcGuard, Guard, Lock, LockArc, LoneGuard};
 
+use crate::events::{Wait, Watch};
 use crate::{error, ffi, place, Class, Error, Mutex};
 use body::Body;
 use core::fmt;
@@ -340,10 +342,18 @@ impl<C: Class> Context<C> {
         let block = async {
             let Inner { class, .. } = self.tx.inner;
             if !self.tx.inner.own().has_begun() {
-                let mut seek = pin!(Seek::new(class));
-                let raw = poll_fn(|cx| seek.as_mut().poll(cx.waker())).await?;
-                self.tx.inner.own().raw = MaybeUninit::new(raw);
-                return Ok(());
+                let (mut seek, mut watch) = (pin!(Seek::new(class)), Watch::default());
+                let told = poll_fn(|cx| {
+                    let told = seek.as_mut().poll(cx.waker());
+                    if told.is_pending() {
+                        watch.begins(class.hook(), Wait::Context);
+                    }
+                    told
+                })
+                .await;
+                let told = told.map(|raw| self.tx.inner.own().raw = MaybeUninit::new(raw));
+                watch.ends(told);
+                return told;
             }
             if let Some(first) = self.tx.inner.own().rare().contended {
                 class.check(first);

@@ -92,6 +92,14 @@ def _wrong(why):
     return OSError(errno.EINVAL, why)
 
 
+@functools.lru_cache(maxsize=None)
+def _tasks():
+    """asyncio is loaded for those who use it."""
+    from . import tasks
+
+    return tasks
+
+
 def _is_main():
     return threading.get_ident() == threading.main_thread().ident
 
@@ -133,7 +141,9 @@ class Class:
 
     async def run_async(self, body):
         """As run, for a task: returns what `await body(context)` returns, with a context of `async with`."""
-        async with self.context() as context:
+        context = _tasks().TaskContext(self)
+        try:
+            await context.begin()
             while True:
                 try:
                     result = await body(context)
@@ -143,6 +153,8 @@ class Class:
                     if context._contended is None:
                         raise
                 context.unlock_all()
+        finally:
+            context.end()
 
     def _check(self, *mutexes):
         for mutex in mutexes:
@@ -248,13 +260,19 @@ class Context:
         # two lines: so a mutex is in the first set before it can be held, and leaves the second before it is released.
         self._near, self._held = set(), set()
         self._read = set()  # Those of them that it reads, also where it holds them besides.
+
+    def __getattr__(self, name):
+        """What a thread's context has besides, made at its first use: one of a task never uses it."""
+        if name not in ("_at", "_lock", "_end", "_is_over", "_its_end"):
+            raise AttributeError(f"a context has no attribute {name!r}")
         self._at = _memory(self._library.ww_acquire_size())
         # Its end comes once, in a block or when it is dropped, and other threads may cancel it until then: so the end and each
         # cancel are made under a lock.
         self._lock = threading.Lock()
         release, fini = (functools.partial(call, self._at) for call in (self._library.ww_acquire_unlock_all, self._library.ww_acquire_fini_checked))
         self._end, self._is_over = _once(self._lock.acquire, release, fini, self._lock.release, self._held.clear, self._near.clear)
-        self._its_end = _ending(self._end, of._its_end, self._near)
+        self._its_end = _ending(self._end, self._class._its_end, self._near)
+        return self.__dict__[name]
 
     __exit__ = _Exit()
 
@@ -270,11 +288,9 @@ class Context:
         return self  # After the last call no signal is handled before the block.
 
     async def __aenter__(self):
-        from .tasks import TaskContext  # asyncio is loaded for those who use it
-
         if self._thread is not None or self._of_task is not None or self._timeout is not None:
             raise _wrong("a context begins once, and a task's without a timeout: asyncio has some")
-        self._of_task = TaskContext(self._class)
+        self._of_task = _tasks().TaskContext(self._class)
         await self._of_task.begin()
         return self._of_task
 

@@ -124,7 +124,9 @@ class _Wakes:
     @classmethod
     def of(cls, library):
         loop = asyncio.get_running_loop()
-        of_libraries = cls.of_loops.setdefault(loop, weakref.WeakValueDictionary())
+        of_libraries = cls.of_loops.get(loop)
+        if of_libraries is None:
+            of_libraries = cls.of_loops.setdefault(loop, weakref.WeakValueDictionary())
         wakes = of_libraries.get(library)
         if wakes is None:
             wakes = of_libraries[library] = cls(loop, library)
@@ -167,6 +169,12 @@ def _inherit():
 os.register_at_fork(after_in_child=_inherit)
 
 
+@functools.lru_cache(maxsize=None)
+def _memory_of(library):
+    """The type of a context's memory."""
+    return ctypes.c_uint64 * -(-library.ww_acquire_size() // 8)
+
+
 def _ended():
     return OSError(errno.EINVAL, "the context is of no `async with` block that goes on")
 
@@ -176,7 +184,7 @@ class _Locks:
     reached from the end of its context: so those come later, whatever cycle of references their owners were in."""
 
     def __init__(self, of):
-        self.library, self.its_class, self.at = of._library, of._its_end, (ctypes.c_uint64 * -(-of._library.ww_acquire_size() // 8))()
+        self.library, self.its_class, self.at = of._library, of._its_end, _memory_of(of._library)()
         self.held = {}  # By its end, the memory of each mutex that it holds, in the order in which it acquired them.
         self.awaited = None  # The end of the mutex for which it waits.
         self.is_begun = self.is_over = self.waits = False

@@ -1,6 +1,7 @@
 //! Lock calls and guards.
 
 use super::inner::{Call, Entered, Inner, Later, Rare};
+use crate::events::{Event, Wait, Watch};
 use crate::number::Number;
 use crate::{ffi, Class, Error, Mutex};
 use core::fmt;
@@ -17,11 +18,12 @@ pub(super) struct Acquire<'x> {
     inner: &'x Inner,
     /// A call of the context is on its way, and is this one's.
     is_under_way: bool,
+    watch: Watch,
 }
 
 impl<'x> Acquire<'x> {
     pub(super) fn new(inner: &'x Inner) -> Self {
-        Acquire { inner, is_under_way: false }
+        Acquire { inner, is_under_way: false, watch: Watch::default() }
     }
 
     #[inline]
@@ -69,7 +71,21 @@ impl<'x> Acquire<'x> {
         drop(inside);
         drop(later.back.take()); // The task runs, and has another one.
         later.wake();
+        if let Some(hook) = self.inner.class.hook() {
+            self.tell(hook, told);
+        }
         told
+    }
+
+    #[cold]
+    fn tell(&mut self, hook: fn(Event), told: Poll<Result<(), Error>>) {
+        match told {
+            Poll::Pending => self.watch.begins(Some(hook), Wait::Mutex),
+            Poll::Ready(told) => self.watch.ends(told),
+        }
+        if told == Poll::Ready(Err(Error::Deadlock)) {
+            hook(Event::BackedOff);
+        }
     }
 }
 
