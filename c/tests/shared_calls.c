@@ -495,9 +495,7 @@ static void numbers_are_polled(void)
 	MUST(ww_number_lock_exclusive_poll(number, &readers, &x, &waker) == -EINPROGRESS);
 	moves(&x); /* amid a wait, and as it reads */
 	MUST(ww_number_lock_exclusive_poll(number, &readers, &moved, &waker) == -EINPROGRESS && moved.acquired == 2);
-	moves_back();
-	MUST(ww_number_lock_exclusive_poll(number, &readers, &x, NULL) == -ETIMEDOUT && x.acquired == 1);
-	moves(&x);
+	MUST(ww_number_lock_exclusive_poll(number, &readers, &moved, NULL) == -ETIMEDOUT && moved.acquired == 1);
 	MUST(!ww_number_lock_shared_poll(number, &readers, &moved, &waker) && moved.acquired == 1);
 	moves_back();
 	ww_acquire_end_reads(&x);
