@@ -463,8 +463,18 @@ int ww_shared_mutex_unlock(struct ww_shared_mutex *m, struct ww_acquire_ctx *x)
 	return 0;
 }
 
+/* A context that goes by numbers may have moved since it came to its desk: from now on that says where it is. Amid no wait. */
+static void comes_along(struct ww_acquire_ctx *x)
+{
+	struct ww_desk *d = x->own && !is_polled(x) ? x->own->desk : NULL;
+
+	if (d && !sits(x, d) && (uint32_t)(ww_look_(&x->own->handle, d->mutex.number) & (WW_OLDER_ - 1)) == d->seat + 1)
+		__atomic_store_n(&d->mutex.ctx, x, __ATOMIC_RELAXED);
+}
+
 void ww_acquire_end_reads(struct ww_acquire_ctx *x)
 {
+	comes_along(x);
 	if (x->own && sits(x, x->own->desk))
 		reads_on(x->own->desk, 0);
 }
@@ -577,15 +587,21 @@ static int read_poll(struct ww_mutex *m, uint64_t *readers, struct ww_acquire_ct
 {
 	int r = may_poll(x, m, reader_of(m));
 
+	if (!r && is_polled(x) && x->polled == m) /* it waits for its turn, so it is at its desk */
+		__atomic_store_n(&x->own->desk->mutex.ctx, x, __ATOMIC_RELAXED);
+	else if (!r)
+		comes_along(x);
 	return r ? r : read_by(m, readers, x, (struct limit){ POLLS, .waker = waker });
 }
 
-/* It waits for whoever has this desk, and then for the other readers. */
+/* It waits for whoever has this desk, and then for the other readers. It may have moved since it got the mutex. */
 static int await_polled(struct ww_mutex *m, uint64_t *readers, struct ww_acquire_ctx *x, struct limit limit)
 {
 	struct ww_desk *d = (struct ww_desk *)(void *)x->polled;
-	int r = acquire(&d->mutex, x, limit);
+	int r;
 
+	__atomic_store_n(&m->ctx, x, __ATOMIC_RELAXED);
+	r = acquire(&d->mutex, x, limit);
 	if (!r) {
 		wipe(d);
 		ww_mutex_unlock(&d->mutex);
@@ -603,6 +619,7 @@ static int write_poll(struct ww_mutex *m, uint64_t *readers, struct ww_acquire_c
 
 	if (r)
 		return r;
+	comes_along(x);
 	return is_polled(x) && x->polled != m ? await_polled(m, readers, x, limit) : write_by(m, readers, x, limit);
 }
 

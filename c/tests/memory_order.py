@@ -295,6 +295,7 @@ TABLE = {
     "own": {"of_seat": "store rlx", "no_more": "store rlx", "ww_acquire_cancel": "load rlx"},
     # A mutex's holder alone writes these, and the lock orders holders; whoever else looks has only a glance, or takes the lock.
     "ctx": {
+        "comes_along": "store rlx", "await_polled": "store rlx", "read_poll": "store rlx",
         "ww_mutex_is_held_by": "load rlx", "WW_HOLDS_": "store rlx", "WW_HOLDS_NO_MORE_": "store rlx",
         "ww_mutex_unlock": "load rlx", "holder_of": "load rlx", "own": "store rlx", "release_all": "store rlx",
         "ww_mutex_unlock_checked": "store rlx", "ww_number_told": "load rlx, store rlx", "ww_number_unlock": "store rlx",

@@ -458,6 +458,21 @@ static void a_poll_backs_off(void)
 	end_both();
 }
 
+/* By numbers a context may lie elsewhere; where it was is of no use then. */
+static struct ww_acquire_ctx moved;
+
+static void moves(struct ww_acquire_ctx *ctx)
+{
+	moved = *ctx;
+	memset(ctx, 0x55, sizeof *ctx);
+}
+
+static void moves_back(void)
+{
+	x = moved;
+	memset(&moved, 0x55, sizeof moved);
+}
+
 static void numbers_are_polled(void)
 {
 	uint64_t readers = 0;
@@ -476,7 +491,16 @@ static void numbers_are_polled(void)
 	MUST(!ww_number_lock_shared_poll(number, &readers, &x, &waker) && !ww_number_lock_exclusive_poll(number, &readers, &x, &waker));
 	MUST(ww_number_lock_exclusive_poll(number, &readers, &x, &waker) == -EALREADY && !ww_number_unlock(number, &x));
 	ww_acquire_end_reads(&x);
-	MUST(ww_number_lock_shared_poll(number + 1, &readers, &x, &waker) == -EINVAL);
+	MUST(!ww_number_lock_shared_poll(number, &readers, &x, &waker) && !ww_number_lock_shared_poll(number, &readers, &y, &waker));
+	MUST(ww_number_lock_exclusive_poll(number, &readers, &x, &waker) == -EINPROGRESS);
+	moves(&x); /* amid a wait, and as it reads */
+	MUST(ww_number_lock_exclusive_poll(number, &readers, &moved, &waker) == -EINPROGRESS && moved.acquired == 2);
+	MUST(ww_number_lock_exclusive_poll(number, &readers, &moved, NULL) == -ETIMEDOUT && moved.acquired == 1);
+	MUST(!ww_number_lock_shared_poll(number, &readers, &moved, &waker) && moved.acquired == 1);
+	moves_back();
+	ww_acquire_end_reads(&x);
+	ww_acquire_end_reads(&y);
+	MUST(!x.acquired && ww_number_lock_shared_poll(number + 1, &readers, &x, &waker) == -EINVAL);
 	MUST(ww_number_lock_exclusive_poll(number + 1, &readers, &x, &waker) == -EINVAL);
 	end_both();
 	MUST(!ww_number_put(number, c) && !was_called());

@@ -84,6 +84,81 @@ async def refuses_other_tasks(kind):
     await begin_all(buffers, 4)
 
 
+async def reads(kind):
+    """Tasks that read beside each other, or one that writes; what ends a wait; and an upgrade."""
+    buffers = made(kind)
+    a, b, plain = ww.SharedMutex(buffers), ww.SharedMutex(buffers), ww.Mutex(buffers)
+    async with buffers.context() as older, buffers.context() as two:
+        await two.read(a, b)
+        await older.read(a)
+        assert a in older and a in two and b not in older and not older.try_lock(a) and not older.try_lock(b)
+        task = asyncio.create_task(older.lock(a, plain))  # it comes to write what both read
+        await asyncio.sleep(0)
+        assert not task.done() and await fault_of(asyncio.wait_for(older.read(b), 10)) == errno.EBUSY
+        two.unlock(a)
+        assert not task.done() and b in two and a not in two  # reads end together
+        two.unlock(b)
+        await asyncio.wait_for(task, 10)
+        assert plain in older and await fault_of(older.lock(a)) == errno.EALREADY and not two.try_lock(a)
+        await older.read(a)
+        older.unlock_all()
+        assert two.try_lock(a) and plain not in older
+        for call in (older.read, older.lock):
+            task = asyncio.create_task(call(a))
+            await asyncio.sleep(0)
+            assert not task.done()
+            task.cancel()
+            assert isinstance((await asyncio.gather(task, return_exceptions=True))[0], asyncio.CancelledError) and a not in older
+        two.unlock(a)
+        await two.read(b)
+        assert await fault_of(cancelled_soon(older, b)) == errno.ETIMEDOUT and older.try_lock(a)  # which kept no part of b
+        two.unlock_all()
+        assert older.try_lock(b) and not two.try_lock(b)
+        try:
+            await two.read(plain)
+            assert False
+        except TypeError:
+            pass
+    assert not plain.locked()
+
+
+async def cancelled_soon(context, mutex):
+    """What it reads it goes on reading where it can't write it."""
+    await context.read(mutex)
+    try:
+        await asyncio.wait_for(context.lock(mutex), 0.02)
+    except asyncio.TimeoutError:
+        assert mutex in context
+        context.unlock(mutex)
+        raise OSError(errno.ETIMEDOUT, "as it should") from None
+
+
+async def upgrades(kind):
+    """Of two at a time one backs off by itself; and no count is lost."""
+    buffers = made(kind)
+    one, counts = ww.SharedMutex(buffers), [0]
+
+    async def adds():
+        for _ in range(50):
+            async with buffers.context() as context:
+                try:
+                    await context.read(one)
+                    before = counts[0]
+                    await asyncio.sleep(0)
+                    await context.lock(one)
+                except ww.Deadlock:
+                    context.unlock_all()
+                    await context.lock(one)
+                    before = counts[0]
+                assert counts[0] == before
+                counts[0] += 1
+
+    await asyncio.wait_for(asyncio.gather(*(adds() for _ in range(3))), 120)
+    assert counts == [150]
+    async with buffers.context() as context:
+        assert context.try_lock(one)
+
+
 def fault_of_call(call):
     try:
         call()
@@ -486,6 +561,8 @@ def main():
         asyncio.run(refuses(kind))
         asyncio.run(refuses_other_tasks(kind))
         asyncio.run(is_cancelled(kind))
+        asyncio.run(reads(kind))
+        asyncio.run(upgrades(kind))
         asyncio.run(locks_again(kind))
         storm(kind, 2, 30, 20, 4, False)
         storm(kind, 2, 30, 20, 3, True)

@@ -32,6 +32,8 @@ struct Rare {
     prelocked: Cell<Option<Number>>,
     /// That was at a shared mutex, or at one who reads it: the library knows where.
     awaits: Cell<bool>,
+    /// What this attempt reads by `UpgradableGuard`s alone.
+    upgradable: RefCell<Vec<Number>>,
 }
 
 impl Rare {
@@ -363,6 +365,14 @@ impl Context {
     #[track_caller]
     pub(crate) fn read<C: Class, T: ?Sized>(&self, mutex: &SharedMutex<C, T>) -> Result<(), Error> {
         let number = mutex.number(self.class)?;
+        if self.rare().is_some_and(|rare| rare.upgradable.borrow().contains(&number)) {
+            return Err(Error::Duplicate);
+        }
+        self.read_number(mutex, number)
+    }
+
+    #[track_caller]
+    fn read_number<C: Class, T: ?Sized>(&self, mutex: &SharedMutex<C, T>, number: Number) -> Result<(), Error> {
         // SAFETY: as in `ask`; the word is that of this number, and the time lives for the call.
         self.ask_shared(|until| unsafe {
             ffi::ww_number_lock_shared(number.index(), mutex.readers(), self.raw(), until)
@@ -377,10 +387,35 @@ impl Context {
         if unsafe { ffi::ww_number_is_read(number.index(), self.raw()) } {
             return Err(Error::Duplicate);
         }
-        // SAFETY: as in `read`.
+        self.write_number(mutex, number)
+    }
+
+    #[track_caller]
+    fn write_number<C: Class, T: ?Sized>(&self, mutex: &SharedMutex<C, T>, number: Number) -> Result<(), Error> {
+        // SAFETY: as in `read_number`.
         self.ask_shared(|until| unsafe {
             ffi::ww_number_lock_exclusive(number.index(), mutex.readers(), self.raw(), until)
         })
+    }
+
+    /// Reads it likewise, for one guard, which may come to write it. `Duplicate`: the context reads or writes it otherwise, so that
+    /// there may be references.
+    #[track_caller]
+    pub(crate) fn read_upgradable<C: Class, T: ?Sized>(&self, mutex: &SharedMutex<C, T>) -> Result<(), Error> {
+        let number = mutex.number(self.class)?;
+        // SAFETY: as in `ask`.
+        if unsafe { ffi::ww_number_is_read(number.index(), self.raw()) } {
+            return Err(Error::Duplicate);
+        }
+        self.read_number(mutex, number)?;
+        self.rare.get_or_init(Box::default).upgradable.borrow_mut().push(number);
+        Ok(())
+    }
+
+    /// Writes what it reads by a guard, which is used no more.
+    #[track_caller]
+    pub(crate) fn upgrade<C: Class, T: ?Sized>(&self, mutex: &SharedMutex<C, T>) -> Result<(), Error> {
+        self.write_number(mutex, mutex.number(self.class)?)
     }
 
     #[track_caller]
@@ -503,6 +538,9 @@ impl Context {
     /// No guard of the context is left that anybody could use.
     #[cold]
     unsafe fn release_all(&self) {
+        if let Some(rare) = self.rare() {
+            rare.upgradable.borrow_mut().clear();
+        }
         if let Some(first) = self.rare().and_then(|rare| rare.prelocked.take()) {
             // SAFETY: the context has it, and no guard stands for that.
             unsafe { ffi::unlock(first.index(), self.raw()) };

@@ -196,6 +196,19 @@ extern "C" {
         waker: *const ww_waker,
         r: c_int,
     ) -> c_int;
+    pub fn ww_number_lock_shared_poll(
+        number: u32,
+        readers: *mut u64,
+        ctx: *mut ww_acquire_ctx,
+        waker: *const ww_waker,
+    ) -> c_int;
+    pub fn ww_number_lock_exclusive_poll(
+        number: u32,
+        readers: *mut u64,
+        ctx: *mut ww_acquire_ctx,
+        waker: *const ww_waker,
+    ) -> c_int;
+    pub fn ww_shared_mutex_await_poll(ctx: *mut ww_acquire_ctx, waker: *const ww_waker) -> c_int;
     pub fn ww_poll_take_back(ctx: *mut ww_acquire_ctx, seek: *mut ww_seek) -> bool;
 }
 

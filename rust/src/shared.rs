@@ -1,4 +1,5 @@
 use crate::class::RawClass;
+use crate::context::Context;
 use crate::guard::Holder;
 use crate::number::{Handle, Number};
 use crate::{Class, Error};
@@ -26,6 +27,8 @@ use core::sync::atomic::AtomicU64;
 /// assert_eq!(Cache::run(|tx| Ok(tx.read(&PRICES[0])? + tx.read(&PRICES[1])?)), Ok(700));
 /// # Ok::<(), Error>(())
 /// ```
+///
+/// What it may come to write it reads by a guard ([`Tx::read_upgradable`](crate::Tx::read_upgradable)).
 ///
 /// A reference doesn't leave the body:
 ///
@@ -120,8 +123,8 @@ unsafe impl<C: Class, T: ?Sized + Send + Sync> Sync for SharedMutexGuard<'_, C, 
 impl<'g, C: Class, T: ?Sized> SharedMutexGuard<'g, C, T> {
     /// # Safety
     ///
-    /// This thread's context writes the mutex, doesn't read it, and there is no other guard for that. `'g` ends before the
-    /// context does.
+    /// This thread's context writes the mutex, nobody has a reference by a read of it, and there is no other guard for that. `'g`
+    /// ends before the context does.
     #[inline]
     pub(crate) unsafe fn of(mutex: &'g SharedMutex<C, T>, holder: Holder) -> Self {
         SharedMutexGuard { mutex, holder }
@@ -155,6 +158,73 @@ impl<C: Class, T: ?Sized> Drop for SharedMutexGuard<'_, C, T> {
 }
 
 impl<C: Class, T: ?Sized + fmt::Debug> fmt::Debug for SharedMutexGuard<'_, C, T> {
+    fn fmt(&self, f: &mut fmt::Formatter<'_>) -> fmt::Result {
+        (**self).fmt(f)
+    }
+}
+
+/// A shared mutex that a transaction reads, and may come to write ([`Tx::read_upgradable`](crate::Tx::read_upgradable)).
+///
+/// While it writes, there is no other way to the value:
+///
+/// ```compile_fail,E0505
+/// # use ww_mutex::{class, Class, SharedMutex, UpgradableGuard};
+/// # class!(struct Boxes: WoundWait);
+/// # static BOX: SharedMutex<Boxes, u64> = SharedMutex::new(0);
+/// Boxes::run(|tx| {
+///     let guard = tx.read_upgradable(&BOX)?;
+///     let before = &*guard;
+///     let mut guard = UpgradableGuard::upgrade(guard)?;
+///     *guard = before + 1;
+///     Ok(())
+/// });
+/// ```
+#[must_use = "what is only read needs no guard"]
+pub struct UpgradableGuard<'g, C: Class, T: ?Sized> {
+    mutex: &'g SharedMutex<C, T>,
+    context: &'g Context,
+}
+
+impl<'g, C: Class, T: ?Sized> UpgradableGuard<'g, C, T> {
+    /// # Safety
+    ///
+    /// The context reads the mutex, for this guard alone, until `'g` has ended.
+    #[inline]
+    pub(crate) unsafe fn of(mutex: &'g SharedMutex<C, T>, context: &'g Context) -> Self {
+        UpgradableGuard { mutex, context }
+    }
+
+    /// Writes it, and waits until nobody else reads it: nobody writes it in between. Of two transactions that come to write what
+    /// both read the younger one gets `Deadlock`.
+    ///
+    /// # Errors
+    ///
+    /// As [`Tx::lock`](crate::Tx::lock), but no `Duplicate`. Then it reads it on, without a guard, to the end of the attempt.
+    ///
+    /// # Panics
+    ///
+    /// As [`Tx::read`](crate::Tx::read).
+    #[inline]
+    #[track_caller]
+    #[allow(clippy::needless_pass_by_value, reason = "it is used up")]
+    pub fn upgrade(guard: Self) -> Result<SharedMutexGuard<'g, C, T>, Error> {
+        guard.context.upgrade(guard.mutex)?;
+        // SAFETY: it writes the mutex, for this guard; what it reads there it read by the other one alone, which is used up.
+        Ok(unsafe { SharedMutexGuard::of(guard.mutex, guard.context.holder()) })
+    }
+}
+
+impl<C: Class, T: ?Sized> Deref for UpgradableGuard<'_, C, T> {
+    type Target = T;
+
+    #[inline]
+    fn deref(&self) -> &T {
+        // SAFETY: the context reads the mutex, and writes it only once this guard is used up; and the guard is borrowed.
+        unsafe { &*self.mutex.value() }
+    }
+}
+
+impl<C: Class, T: ?Sized + fmt::Debug> fmt::Debug for UpgradableGuard<'_, C, T> {
     fn fmt(&self, f: &mut fmt::Formatter<'_>) -> fmt::Result {
         (**self).fmt(f)
     }

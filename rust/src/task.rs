@@ -97,10 +97,12 @@ mod guards;
 mod inner;
 mod lock;
 mod seek;
+mod shared;
 mod waker;
 
 pub use guards::Guards;
 pub use lock::{ArcGuard, Guard, Lock, LockArc, LoneGuard};
+pub use shared::SharedGuard;
 
 use crate::events::{Wait, Watch};
 use crate::{error, ffi, place, Class, Error, Mutex};
@@ -328,7 +330,7 @@ impl<C: Class> Context<C> {
         drop(unsafe { inside.release_all() });
         let rare = inside.rare();
         rare.is_over = false;
-        if rare.contended.is_some() {
+        if rare.contended.is_some() || rare.awaits {
             return Poll::Pending;
         }
         self.tx.attempts = self.tx.attempts.saturating_add(1);
@@ -365,6 +367,10 @@ impl<C: Class> Context<C> {
                 let rare = self.tx.inner.own().rare();
                 rare.contended = None;
                 rare.prelocked = Some(first);
+            }
+            if self.tx.inner.own().rare().awaits {
+                self.tx.inner.awaits_others().await?;
+                self.tx.inner.own().rare().awaits = false;
             }
             self.tx.attempts = self.tx.attempts.saturating_add(1);
             Ok(())

@@ -1,5 +1,5 @@
 use crate::context::Context;
-use crate::{ArcMutexGuard, Class, Error, Guards, Mutex, MutexGuard, SharedMutex, SharedMutexGuard};
+use crate::{ArcMutexGuard, Class, Error, Guards, Mutex, MutexGuard, SharedMutex, SharedMutexGuard, UpgradableGuard};
 use core::cell::Cell;
 use core::fmt;
 use core::marker::PhantomData;
@@ -207,7 +207,8 @@ impl<C: Class> Tx<C> {
     ///
     /// # Errors
     ///
-    /// As [`lock`](Self::lock); `Duplicate` also if this attempt reads it: what a body may write it writes at once.
+    /// As [`lock`](Self::lock); `Duplicate` also if this attempt reads it: what it may come to write it reads by
+    /// [`read_upgradable`](Self::read_upgradable).
     ///
     /// # Panics
     ///
@@ -218,6 +219,46 @@ impl<C: Class> Tx<C> {
         self.context.write(mutex)?;
         // SAFETY: it writes the mutex, for this guard, and doesn't read it.
         Ok(unsafe { SharedMutexGuard::of(mutex, self.context.holder()) })
+    }
+
+    /// Reads it by a guard, which may come to write it.
+    ///
+    /// ```
+    /// # use ww_mutex::{class, Class, Error, SharedMutex, UpgradableGuard};
+    /// # class!(struct Cache: WoundWait);
+    /// # static RATE: SharedMutex<Cache, u64> = SharedMutex::new(7);
+    /// # static PRICE: SharedMutex<Cache, (u64, u64)> = SharedMutex::new((0, 0));
+    /// let price = Cache::run(|tx| {
+    ///     let rate = tx.read(&RATE)?;
+    ///     let price = tx.read_upgradable(&PRICE)?;
+    ///     if price.0 == *rate {
+    ///         return Ok(price.1);
+    ///     }
+    ///     let mut price = UpgradableGuard::upgrade(price)?; // nobody has written it in between
+    ///     *price = (*rate, 100 * rate);
+    ///     Ok(price.1)
+    /// })?;
+    /// assert_eq!(price, 700);
+    /// # Ok::<(), Error>(())
+    /// ```
+    ///
+    /// # Errors
+    ///
+    /// As [`read`](Self::read); `Duplicate` also if this attempt reads it already. And from then on it is read by this guard
+    /// alone: another read of it in this attempt gets `Duplicate`.
+    ///
+    /// # Panics
+    ///
+    /// As [`read`](Self::read).
+    #[inline]
+    #[track_caller]
+    pub fn read_upgradable<'g, T: ?Sized>(
+        &'g self,
+        mutex: &'g SharedMutex<C, T>,
+    ) -> Result<UpgradableGuard<'g, C, T>, Error> {
+        self.context.read_upgradable(mutex)?;
+        // SAFETY: the context reads it until the body has returned, and for this guard alone (`Duplicate`).
+        Ok(unsafe { UpgradableGuard::of(mutex, &self.context) })
     }
 
     /// Whether it has a guard of this mutex, so that [`lock`](Self::lock) would return `Duplicate`.

@@ -4,7 +4,7 @@ use std::sync::atomic::{AtomicU64, Ordering};
 use std::sync::Barrier;
 use std::thread;
 use std::time::Duration;
-use ww_mutex::{class, Class, Error, Options, SharedMutex};
+use ww_mutex::{class, Class, Error, Options, SharedMutex, UpgradableGuard};
 
 #[test]
 fn readers_stand_beside_each_other() {
@@ -100,4 +100,82 @@ fn storm<C: Class>() {
     });
     let sum: u64 = cells.into_iter().map(|cell| cell.into_inner().0).sum();
     assert_eq!(sum, written.into_inner());
+}
+
+#[test]
+fn what_is_read_by_a_guard_may_be_written() {
+    class!(struct Boxes: WaitDie);
+    static ONE: SharedMutex<Boxes, u64> = SharedMutex::new(7);
+    static OTHER: SharedMutex<Boxes, u64> = SharedMutex::new(0);
+    let duplicate = Some(Error::Duplicate);
+    Boxes::run(|tx| {
+        let guard = tx.read_upgradable(&ONE)?;
+        assert_eq!((*guard, format!("{guard:?}")), (7, "7".to_owned()));
+        let told = (tx.read(&ONE).err(), tx.write(&ONE).err(), tx.read_upgradable(&ONE).err());
+        assert_eq!(told, (duplicate, duplicate, duplicate));
+        let mut guard = UpgradableGuard::upgrade(guard)?;
+        *guard += 1;
+        assert_eq!((tx.read(&ONE).err(), tx.read_upgradable(&ONE).err()), (duplicate, duplicate));
+        drop(guard);
+        assert_eq!((tx.read(&ONE).err(), tx.write(&ONE).err()), (duplicate, duplicate));
+        tx.read(&OTHER)?;
+        assert_eq!(tx.read_upgradable(&OTHER).err(), duplicate);
+        Ok(())
+    })
+    .unwrap();
+    // The next attempt reads it as it likes; and what is forgotten is released.
+    Boxes::run(|tx| UpgradableGuard::upgrade(tx.read_upgradable(&ONE)?).map(std::mem::forget)).unwrap();
+    assert_eq!(Boxes::run(|tx| tx.read(&ONE).copied()), Ok(8));
+}
+
+#[test]
+fn an_upgrade_waits_for_readers() {
+    class!(struct Boxes: WoundWait);
+    static ONE: SharedMutex<Boxes, u64> = SharedMutex::new(7);
+    let soon = Options::new().timeout(Duration::from_millis(5));
+    Boxes::run(|tx| {
+        let value = tx.read(&ONE)?;
+        thread::scope(|scope| {
+            let upgrades = scope.spawn(|| {
+                soon.run(|tx: &ww_mutex::Tx<Boxes>| {
+                    let guard = tx.read_upgradable(&ONE)?;
+                    assert_eq!(*guard, 7);
+                    UpgradableGuard::upgrade(guard).map(drop)
+                })
+            });
+            assert_eq!(upgrades.join().unwrap(), Err(Error::TimedOut));
+        });
+        assert_eq!(*value, 7);
+        Ok(())
+    })
+    .unwrap();
+}
+
+/// No upgrade finds what another one has written since it read.
+#[test]
+fn upgrades_lose_no_count() {
+    class!(struct Boxes: WoundWait; struct Others: WaitDie);
+    count::<Boxes>();
+    count::<Others>();
+}
+
+fn count<C: Class>() {
+    const ROUNDS: u64 = 2000;
+    let one: SharedMutex<C, u64> = SharedMutex::new(0);
+    thread::scope(|scope| {
+        for _ in 0..4 {
+            scope.spawn(|| {
+                for _ in 0..ROUNDS {
+                    C::run(|tx| {
+                        let guard = tx.read_upgradable(&one)?;
+                        let seen = *guard;
+                        *UpgradableGuard::upgrade(guard)? = seen + 1;
+                        Ok(())
+                    })
+                    .unwrap();
+                }
+            });
+        }
+    });
+    assert_eq!(one.into_inner(), 4 * ROUNDS);
 }

@@ -72,7 +72,9 @@ _PAIRS += tuple(f"shared_mutex_{it}" for it in ("init_checked", "trylock", "tryl
 _CALLS |= {f"ww_{it}": (ctypes.c_int, _AT, _AT) for it in _PAIRS}
 _CALLS |= {f"ww_shared_mutex_{it}": _CALLS["ww_mutex_lock_until"] for it in ("lock_until", "lock_shared_until")}
 _CALLS |= {"ww_shared_mutex_is_written_by": (ctypes.c_bool, _AT, _AT), "ww_shared_mutex_downgrade": (None, _AT, _AT)}
-_CALLS |= {f"ww_{it}": (None, _AT) for it in ("tries_begin_", "back_off_", "acquire_unlock_all")}
+_CALLS |= {f"ww_shared_mutex_{it}": _CALLS["ww_mutex_lock_poll"] for it in ("lock_poll", "lock_shared_poll")}
+_CALLS |= {"ww_shared_mutex_await_poll": (ctypes.c_int, _AT, _AT)}
+_CALLS |= {f"ww_{it}": (None, _AT) for it in ("tries_begin_", "back_off_", "acquire_unlock_all", "acquire_end_reads")}
 # A context makes these calls under a lock of its own. During them Python keeps its lock, too, if it has one: then nobody ever
 # waits for the context's.
 _ALONE_IN_PYTHON = ("ww_acquire_cancel", "ww_acquire_fini_checked")

@@ -243,7 +243,7 @@ class Mutex:
 class SharedMutex(Mutex):
     """A mutex for what is read much more often than written: contexts read it beside each other (Context.read), or one holds it.
     Reads end together, with all that the context holds or when it unlocks the last of them. Each context that reads takes one of
-    the class's mutexes, too. Tasks can't lock it."""
+    the class's mutexes, too."""
 
     _calls = "ww_shared_mutex_"
 

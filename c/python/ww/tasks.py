@@ -186,6 +186,7 @@ class _Locks:
     def __init__(self, of):
         self.library, self.its_class, self.at = of._library, of._its_end, _memory_of(of._library)()
         self.held = {}  # By its end, the memory of each mutex that it holds, in the order in which it acquired them.
+        self.shared, self.read = set(), set()  # The ends of those that are shared, and of those of them that it reads.
         self.awaited = None  # The end of the mutex for which it waits.
         self.is_begun = self.is_over = self.waits = False
 
@@ -203,7 +204,22 @@ class _Locks:
     def release_all(self):
         while self.held:
             its_end, at = self.held.popitem()
-            self.library.ww_mutex_unlock_checked(at)
+            self.release(its_end, at)
+        self.library.ww_acquire_end_reads(self.at)
+
+    def release(self, its_end, at, reads_on=False):
+        if its_end not in self.shared:
+            return self.library.ww_mutex_unlock_checked(at)
+        code = 0
+        if self.library.ww_shared_mutex_is_written_by(at, self.at):
+            code = self.library.ww_shared_mutex_unlock(at, self.at)
+        if reads_on:
+            return code
+        self.shared.discard(its_end)
+        if its_end in self.read:
+            self.read.discard(its_end)
+            code = self.library.ww_shared_mutex_unlock(at, self.at)
+        return code
 
 
 class TaskContext:
@@ -267,14 +283,25 @@ class TaskContext:
         if self._locks.waits:
             raise OSError(errno.EBUSY, "another task waits by this context")
         self._class._check(*mutexes)
-        if any(isinstance(it, SharedMutex) for it in mutexes):
-            raise TypeError("a task locks no ww.SharedMutex")
 
-    async def _lock_one(self, mutex):
+    def _writes(self, mutex):
+        return isinstance(mutex, SharedMutex) and self._library.ww_shared_mutex_is_written_by(mutex._at, self._at)
+
+    def _unlock_unknown(self, mutex):
+        """What a call has acquired, and this doesn't know."""
+        if isinstance(mutex, SharedMutex):
+            self._library.ww_shared_mutex_unlock(mutex._at, self._at)
+        else:
+            self._library.ww_mutex_unlock_checked(mutex._at)
+
+    async def _lock_one(self, mutex, reads=False):
+        shared, had = "_shared" if reads else "", self._writes(mutex) if isinstance(mutex, SharedMutex) else mutex in self
+        tries, polls = mutex._call("trylock" + shared), mutex._call(f"lock{shared}_poll")
+
         def poll(waker):
-            return self._library.ww_mutex_lock_poll(mutex._at, self._at, waker)
+            return polls(mutex._at, self._at, waker)
 
-        if self._library.ww_mutex_trylock(mutex._at, self._at) != 1:
+        if tries(mutex._at, self._at) != 1:
             self._locks.awaited = mutex._its_end
             try:
                 code = await self._wait(poll, None)
@@ -283,8 +310,8 @@ class TaskContext:
             except BaseException:
                 code = poll(None)
                 # It may have acquired the mutex before, and not come to know.
-                if code == 0 or (code == -errno.EALREADY and mutex not in self):
-                    self._library.ww_mutex_unlock_checked(mutex._at)
+                if code == 0 or (code == -errno.EALREADY and not had):
+                    self._unlock_unknown(mutex)
                 self._is_told(mutex, code)
                 if self._locks.is_over:
                     self._locks.release_and_end()
@@ -293,6 +320,10 @@ class TaskContext:
                 self._locks.awaited = None
             self._is_told(mutex, code)
             told(code)
+        if isinstance(mutex, SharedMutex):
+            self._locks.shared.add(mutex._its_end)
+        if reads:
+            self._locks.read.add(mutex._its_end)
         self._held[mutex._its_end] = mutex._at
 
     def _is_told(self, mutex, code):
@@ -304,26 +335,57 @@ class TaskContext:
         first = self._contended
         if first is None or self._held:
             return None
+        if isinstance(first, SharedMutex):
+            await self._await_shared()
         self._contended = None
+        if isinstance(first, SharedMutex):
+            return None
         await self._lock_one(first)
         return first
 
-    async def _lock_each(self, mutexes):
+    async def _await_shared(self):
+        """The same for what it collided with at a SharedMutex: the library knows it, and holds nothing afterwards."""
+        def poll(waker):
+            return self._library.ww_shared_mutex_await_poll(self._at, waker)
+
+        try:
+            code = await self._wait(poll, None)
+            if self._locks.is_over:
+                raise _ended()
+        except BaseException:
+            poll(None)
+            if self._locks.is_over:
+                self._locks.release_and_end()
+            raise
+        told(code)
+
+    async def _lock_each(self, mutexes, reads):
         acquired = []
         try:
             for mutex in mutexes:
-                await self._lock_one(mutex)
-                acquired.append(mutex)
+                if not (reads and mutex in self):  # What it holds it may read.
+                    was_read = mutex._its_end in self._locks.read
+                    await self._lock_one(mutex, reads)
+                    acquired.append((mutex, was_read))
         except BaseException:
-            for mutex in reversed(acquired):
+            for mutex, was_read in reversed(acquired):
                 if mutex in self:
-                    self.unlock(mutex)
+                    self._release(mutex, was_read)
             raise
 
     async def lock(self, *mutexes):
         """Acquires all of them, and waits for them. A context that held nothing before backs off by itself; any other one
         may raise Deadlock, and must release everything. Already: it holds one of them. If it fails, or its task is
         cancelled, it has released what it acquired here."""
+        await self._lock_all(mutexes, False)
+
+    async def read(self, *mutexes):
+        """As lock, for each a SharedMutex, which it reads from now on, as Context.read."""
+        if not all(isinstance(it, SharedMutex) for it in mutexes):
+            raise TypeError("only a ww.SharedMutex is read")
+        await self._lock_all(mutexes, True)
+
+    async def _lock_all(self, mutexes, reads):
         self._check(*mutexes)
         if self._library.is_debug:
             at_caller(self._library)
@@ -336,7 +398,7 @@ class TaskContext:
                     rest.remove(first)
                 elif first:
                     self.unlock(first)
-                return await self._lock_each(rest)
+                return await self._lock_each(rest, reads)
             except Deadlock:
                 if not held_nothing:
                     raise
@@ -349,19 +411,25 @@ class TaskContext:
     def try_lock(self, mutex):
         """Acquires it if nobody has it or waits for it; returns whether it did."""
         self._check(mutex)
-        is_acquired = mutex not in self and self._library.ww_mutex_trylock(mutex._at, self._at) == 1
+        had = self._writes(mutex) if isinstance(mutex, SharedMutex) else mutex in self
+        is_acquired = not had and mutex._call("trylock")(mutex._at, self._at) == 1
         if is_acquired:
+            if isinstance(mutex, SharedMutex):
+                self._locks.shared.add(mutex._its_end)
             self._held[mutex._its_end] = mutex._at
         return is_acquired
 
     def unlock(self, mutex):
-        """Releases it."""
+        """Releases it; of a SharedMutex ends its read, too."""
         self._check(mutex)
         if mutex not in self:
             raise OSError(errno.EINVAL, "the context doesn't hold it")
+        told(self._release(mutex, False))
+
+    def _release(self, mutex, reads_on):
         # In this order: if an interrupt comes between, it isn't released a second time, when another context may hold it.
-        at = self._held.pop(mutex._its_end)
-        told(self._library.ww_mutex_unlock_checked(at))
+        at = self._held[mutex._its_end] if reads_on else self._held.pop(mutex._its_end)
+        return self._locks.release(mutex._its_end, at, reads_on)
 
     def unlock_all(self):
         """Releases all. After a Deadlock the next lock call first waits for the mutex at which that came."""

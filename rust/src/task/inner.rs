@@ -1,5 +1,6 @@
 //! What the parts of a context share.
 
+use super::shared::Asked;
 use super::waker::Lent;
 use crate::class::RawClass;
 use crate::number::Number;
@@ -43,6 +44,8 @@ pub(super) struct Rare {
     pub(super) contended: Option<Number>,
     /// It came first, and nobody has asked for it yet.
     pub(super) prelocked: Option<Number>,
+    /// That was at a shared mutex, or at one who reads it: the library knows where.
+    pub(super) awaits: bool,
     pub(super) call: Call,
     /// Tasks whose lock calls come behind that one.
     pub(super) others: Vec<Waker>,
@@ -58,6 +61,11 @@ impl Rare {
     fn takes_first(&mut self, number: Number) -> bool {
         self.prelocked.take_if(|first| *first == number).is_some()
     }
+
+    /// The same of whatever is asked for: a shared mutex never comes so.
+    fn takes_asked(&mut self, asked: Asked) -> bool {
+        matches!(asked, Asked::Lock(number) if self.takes_first(number))
+    }
 }
 
 /// The one lock call that may be on its way.
@@ -66,9 +74,9 @@ pub(super) enum Call {
     #[default]
     None,
     /// It waits.
-    Waits(Number, Lent),
+    Waits(Asked, Lent),
     /// The wait was ended, since a guard had to be released: what it returned, or nothing, if the call is to be made again.
-    Ended(Number, Option<Result<(), Error>>),
+    Ended(Asked, Option<Result<(), Error>>),
 }
 
 /// What is done when the context isn't used any more: wakers are other programs'.
@@ -203,18 +211,21 @@ impl Inside {
     }
 
     /// What an answer of the library comes to.
-    fn told(&mut self, number: Number, answer: c_int) -> Result<(), Error> {
+    pub(super) fn told(&mut self, asked: Asked, answer: c_int) -> Result<(), Error> {
         match -answer {
             0 => Ok(()),
-            ffi::EALREADY if self.rare().takes_first(number) => Ok(()),
+            ffi::EALREADY if self.rare().takes_asked(asked) => Ok(()),
             ffi::EALREADY => Err(Error::Duplicate),
             ffi::EDEADLK => {
-                self.rare().contended = Some(number);
+                match asked {
+                    Asked::Lock(number) => self.rare().contended = Some(number),
+                    _ => self.rare().awaits = true,
+                }
                 self.rare().is_over = true;
                 Err(Error::Deadlock)
             }
             ffi::EINTR => Err(Error::Cancelled),
-            _ => error::in_child(),
+            _ => Err(error::of_making(answer)),
         }
     }
 
@@ -226,14 +237,14 @@ impl Inside {
 
     /// No call is on its way any more that waits. Its waker, if that wasn't called.
     pub(super) fn end_wait(&mut self) -> Option<Waker> {
-        let Call::Waits(number, lent) = self.rare.as_ref()?.call else { return None };
+        let Call::Waits(asked, lent) = self.rare.as_ref()?.call else { return None };
         let back = self.take_back(lent);
         // SAFETY: the call is on its way, and ends with this.
-        let told = match unsafe { ffi::ww_number_lock_poll(number.index(), self.raw(), ptr::null()) } {
+        let told = match unsafe { asked.poll(self.raw(), ptr::null()) } {
             answer if answer == -ffi::ETIMEDOUT => None,
-            answer => Some(self.told(number, answer)),
+            answer => Some(self.told(asked, answer)),
         };
-        self.rare().call = Call::Ended(number, told);
+        self.rare().call = Call::Ended(asked, told);
         back
     }
 
@@ -254,7 +265,7 @@ impl Inside {
     /// The lock call goes on, whose future this is, or begins.
     pub(super) fn poll(
         &mut self,
-        number: Number,
+        asked: Asked,
         waker: &Waker,
         first: Option<i32>,
         later: &mut Later,
@@ -270,29 +281,25 @@ impl Inside {
                 }
             }
             _ if self.is_over() => return Poll::Ready(Err(Error::Deadlock)),
+            // SAFETY: it has begun, and no call is on its way; others wait for this one until it is.
+            _ if unsafe { asked.is_duplicate(self.raw()) } => return Poll::Ready(Err(Error::Duplicate)),
             _ => {}
         }
         let lent = lent.unwrap_or_else(|| {
-            let unarmed = Unarmed { inside: self, number, first, waits };
+            let unarmed = Unarmed { inside: self, asked, first, waits };
             let clone = waker.clone();
             mem::forget(unarmed);
             Lent::lend(clone)
         });
-        let (index, raw) = (number.index(), self.raw());
         // SAFETY: the context has begun; what is on its way is this call, or nothing.
-        let answer = unsafe {
-            match first {
-                Some(r) => ffi::ww_number_lock_poll_further_(index, raw, &raw const lent.0, r),
-                None => ffi::ww_number_lock_poll(index, raw, &raw const lent.0),
-            }
-        };
+        let answer = unsafe { asked.poll_on(self.raw(), &raw const lent.0, first) };
         if answer == -ffi::EINPROGRESS {
-            self.rare().call = Call::Waits(number, lent);
+            self.rare().call = Call::Waits(asked, lent);
             return Poll::Pending;
         }
         // SAFETY: the library hasn't taken it.
         drop(unsafe { lent.back() });
-        Poll::Ready(self.told(number, answer))
+        Poll::Ready(self.told(asked, answer))
     }
 
     /// What the context has from its back-off; and what was forgotten, for which the library asks for each number. A lock
@@ -311,6 +318,9 @@ impl Inside {
         unsafe {
             if let Some(first) = first {
                 ffi::unlock(first.index(), self.raw());
+            }
+            if self.held() != 0 {
+                ffi::ww_acquire_end_reads(self.raw());
             }
             if self.held() != 0 {
                 ffi::ww_number_unlock_all(self.raw());
@@ -343,7 +353,7 @@ impl Inside {
 /// A call whose waker is being cloned, by other programs' code. If that panics, this ends the call, of which nobody knows.
 struct Unarmed<'i> {
     inside: &'i mut Inside,
-    number: Number,
+    asked: Asked,
     /// What its first step returned.
     first: Option<i32>,
     /// It is on its way.
@@ -353,17 +363,15 @@ struct Unarmed<'i> {
 impl Drop for Unarmed<'_> {
     #[cold]
     fn drop(&mut self) {
-        let (index, raw) = (self.number.index(), self.inside.raw());
+        if self.first.is_none() && !self.waits {
+            return;
+        }
+        let raw = self.inside.raw();
         // SAFETY: the context has begun, and the call is on its way, and ends with this; then it may have acquired the mutex.
         unsafe {
-            let answer = match self.first {
-                Some(r) => ffi::ww_number_lock_poll_further_(index, raw, ptr::null(), r),
-                None if self.waits => ffi::ww_number_lock_poll(index, raw, ptr::null()),
-                None => return,
-            };
-            match -answer {
-                0 => ffi::unlock(index, raw),
-                ffi::EDEADLK => drop(self.inside.told(self.number, answer)),
+            match self.asked.poll_on(raw, ptr::null(), self.first) {
+                0 => self.asked.undo(raw),
+                answer if answer == -ffi::EDEADLK => drop(self.inside.told(self.asked, answer)),
                 _ => {}
             }
         }

@@ -1,6 +1,7 @@
 //! Lock calls and guards.
 
 use super::inner::{Call, Entered, Inner, Later, Rare};
+use super::shared::Asked;
 use crate::events::{Event, Wait, Watch};
 use crate::number::Number;
 use crate::{ffi, Class, Error, Mutex};
@@ -37,18 +38,24 @@ impl<'x> Acquire<'x> {
                 Err(r) => first = r,
             }
         }
-        self.poll_on(inside, number, waker, first)
+        self.poll_on(inside, Asked::Lock(number), waker, first)
+    }
+
+    /// Another call than a lock.
+    pub(super) fn poll_shared(&mut self, asked: Asked, waker: &Waker) -> Poll<Result<(), Error>> {
+        let inside = self.inner.enter();
+        self.poll_on(inside, asked, waker, None)
     }
 
     #[cold]
     fn poll_on(
         &mut self,
         mut inside: Entered<'_>,
-        number: Number,
+        asked: Asked,
         waker: &Waker,
         mut first: Option<i32>,
     ) -> Poll<Result<(), Error>> {
-        if inside.rare.as_ref().is_some_and(Rare::is_free) {
+        if let (true, Asked::Lock(number)) = (inside.rare.as_ref().is_some_and(Rare::is_free), asked) {
             // SAFETY: as in `poll`.
             match unsafe { ffi::try_first(number.index(), inside.raw()) } {
                 Ok(()) => return Poll::Ready(Ok(())),
@@ -63,7 +70,7 @@ impl<'x> Acquire<'x> {
             return Poll::Pending;
         }
         let mut later = Later::default();
-        let told = inside.poll(number, waker, first, &mut later);
+        let told = inside.poll(asked, waker, first, &mut later);
         self.is_under_way = told.is_pending();
         if told.is_ready() {
             later.others = mem::take(&mut inside.rare().others);
@@ -106,9 +113,9 @@ impl Acquire<'_> {
         let back = inside.end_wait();
         let rare = inside.rare();
         let (call, others) = (mem::take(&mut rare.call), mem::take(&mut rare.others));
-        if let Call::Ended(number, Some(Ok(()))) = call {
+        if let Call::Ended(asked, Some(Ok(()))) = call {
             // SAFETY: the context holds it, no call is on its way, and nobody gets a guard of it.
-            unsafe { ffi::unlock(number.index(), inside.raw()) };
+            unsafe { asked.undo(inside.raw()) };
         }
         let later = Later { back: None, others };
         drop(inside);

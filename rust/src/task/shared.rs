@@ -1,0 +1,230 @@
+//! Reads and writes of shared mutexes by tasks.
+
+use super::inner::Inner;
+use super::lock::Acquire;
+use super::Tx;
+use crate::number::Number;
+use crate::{ffi, place, Class, Error, SharedMutex};
+use core::ffi::c_int;
+use core::fmt;
+use core::future::{poll_fn, Future};
+use core::marker::PhantomData;
+use core::ops::{Deref, DerefMut};
+use core::ptr;
+
+/// What a call asks for: a mutex, or with the word beside its number a shared one; or that what a call collided with there is
+/// through, which acquires nothing.
+#[derive(Clone, Copy)]
+pub(super) enum Asked {
+    Lock(Number),
+    Read(Number, *mut u64),
+    Write(Number, *mut u64),
+    Await,
+}
+
+impl Asked {
+    /// # Safety
+    ///
+    /// The context has begun; what is on its way is this call, or nothing. The word is there as long as the call is.
+    pub(super) unsafe fn poll(self, raw: *mut ffi::ww_acquire_ctx, waker: *const ffi::ww_waker) -> c_int {
+        // SAFETY: as asked for here.
+        unsafe {
+            match self {
+                Asked::Lock(number) => ffi::ww_number_lock_poll(number.index(), raw, waker),
+                Asked::Read(number, word) => ffi::ww_number_lock_shared_poll(number.index(), word, raw, waker),
+                Asked::Write(number, word) => ffi::ww_number_lock_exclusive_poll(number.index(), word, raw, waker),
+                Asked::Await => ffi::ww_shared_mutex_await_poll(raw, waker),
+            }
+        }
+    }
+
+    /// The same, if the first step of a lock was made already, and returned this.
+    ///
+    /// # Safety
+    ///
+    /// As above.
+    pub(super) unsafe fn poll_on(
+        self,
+        raw: *mut ffi::ww_acquire_ctx,
+        waker: *const ffi::ww_waker,
+        first: Option<i32>,
+    ) -> c_int {
+        // SAFETY: as asked for here.
+        unsafe {
+            match (self, first) {
+                (Asked::Lock(number), Some(r)) => ffi::ww_number_lock_poll_further_(number.index(), raw, waker, r),
+                _ => self.poll(raw, waker),
+            }
+        }
+    }
+
+    /// Whether the call may not begin: there may be references to what it would write.
+    ///
+    /// # Safety
+    ///
+    /// The context has begun, and no call of it is on its way.
+    pub(super) unsafe fn is_duplicate(self, raw: *mut ffi::ww_acquire_ctx) -> bool {
+        // SAFETY: as asked for here.
+        matches!(self, Asked::Write(number, _) if unsafe { ffi::ww_number_is_read(number.index(), raw) })
+    }
+
+    /// Nobody gets what it has acquired. A read ends with the others.
+    ///
+    /// # Safety
+    ///
+    /// The call has returned 0, and none is on its way.
+    pub(super) unsafe fn undo(self, raw: *mut ffi::ww_acquire_ctx) {
+        if let Asked::Lock(number) | Asked::Write(number, _) = self {
+            // SAFETY: as asked for here.
+            unsafe { ffi::unlock(number.index(), raw) };
+        }
+    }
+}
+
+impl Inner {
+    /// The call, which needs no waker where it needn't wait.
+    async fn asks(&self, asked: Asked) -> Result<(), Error> {
+        {
+            let mut inside = self.enter();
+            if inside.rare.is_none() {
+                // SAFETY: the context has begun, no call is on its way, and the word is borrowed by the future. Without a waker it
+                // doesn't wait.
+                let answer = unsafe {
+                    if asked.is_duplicate(inside.raw()) {
+                        -ffi::EALREADY
+                    } else {
+                        asked.poll(inside.raw(), ptr::null())
+                    }
+                };
+                if answer != -ffi::ETIMEDOUT {
+                    return inside.told(asked, answer);
+                }
+            }
+        }
+        self.awaits(asked).await
+    }
+
+    async fn awaits(&self, asked: Asked) -> Result<(), Error> {
+        let mut acquire = Acquire::new(self);
+        poll_fn(|cx| acquire.poll_shared(asked, cx.waker())).await
+    }
+
+    /// After `Deadlock` at a shared mutex, and once all is released: waits for what the context collided with.
+    pub(super) async fn awaits_others(&self) -> Result<(), Error> {
+        self.awaits(Asked::Await).await
+    }
+}
+
+// SAFETY: the address is that of a word that any thread may use.
+unsafe impl Send for Asked {}
+// SAFETY: as above.
+unsafe impl Sync for Asked {}
+
+impl<C: Class> Tx<C> {
+    /// Reads it, beside other transactions that do, and waits while one writes it; as [`Tx::read`](crate::Tx::read).
+    ///
+    /// ```
+    /// # use ww_mutex::{class, transaction, Error, SharedMutex};
+    /// # class!(struct Cache: WoundWait);
+    /// async fn refresh(rate: &SharedMutex<Cache, u64>, price: &SharedMutex<Cache, u64>) -> Result<u64, Error> {
+    ///     transaction!(Cache, |tx| {
+    ///         let rate = tx.read(rate).await?; // a &u64, to the end of the attempt
+    ///         *tx.write(price).await? = 100 * rate;
+    ///         Ok(*rate)
+    ///     })
+    /// }
+    /// # fn sends(_: impl Send) {}
+    /// # sends(refresh(&SharedMutex::new(7), &SharedMutex::new(0)));
+    /// ```
+    ///
+    /// # Errors
+    ///
+    /// As [`Tx::read`](crate::Tx::read).
+    ///
+    /// # Panics
+    ///
+    /// As [`lock`](Self::lock).
+    #[track_caller]
+    pub fn read<'x, T: ?Sized>(
+        &'x self,
+        mutex: &'x SharedMutex<C, T>,
+    ) -> impl Future<Output = Result<&'x T, Error>> + use<'x, C, T> {
+        place::said();
+        async {
+            let asked = Asked::Read(mutex.number(self.inner.class)?, mutex.readers());
+            self.inner.asks(asked).await?;
+            // SAFETY: the context reads it as long as `'x` may last, and while it does nobody has `&mut T`: another context can't
+            // write it, nor this one (`Duplicate`).
+            Ok(unsafe { &*mutex.value() })
+        }
+    }
+
+    /// Writes it, and waits until nobody else reads or writes it; as [`Tx::write`](crate::Tx::write).
+    ///
+    /// # Errors
+    ///
+    /// As [`Tx::write`](crate::Tx::write).
+    ///
+    /// # Panics
+    ///
+    /// As [`lock`](Self::lock).
+    #[track_caller]
+    pub fn write<'x, T: ?Sized>(
+        &'x self,
+        mutex: &'x SharedMutex<C, T>,
+    ) -> impl Future<Output = Result<SharedGuard<'x, C, T>, Error>> + use<'x, C, T> {
+        place::said();
+        async {
+            let number = mutex.number(self.inner.class)?;
+            self.inner.asks(Asked::Write(number, mutex.readers())).await?;
+            Ok(SharedGuard { mutex, index: number.index(), inner: &self.inner, value: PhantomData })
+        }
+    }
+}
+
+/// A shared mutex that a task writes, with access to its value. Its drop ends that.
+#[must_use = "the mutex is released as soon as its guard is dropped"]
+#[clippy::has_significant_drop]
+pub struct SharedGuard<'x, C: Class, T: ?Sized> {
+    mutex: &'x SharedMutex<C, T>,
+    index: u32,
+    inner: &'x Inner,
+    /// It is shared and sent only as the lines below say.
+    value: PhantomData<*mut T>,
+}
+
+// SAFETY: it leads to a value that may be sent, and releases its mutex in any thread.
+unsafe impl<C: Class, T: ?Sized + Send> Send for SharedGuard<'_, C, T> {}
+// SAFETY: threads that share it get `&T`.
+unsafe impl<C: Class, T: ?Sized + Send + Sync> Sync for SharedGuard<'_, C, T> {}
+
+impl<C: Class, T: ?Sized> Deref for SharedGuard<'_, C, T> {
+    type Target = T;
+
+    #[inline]
+    fn deref(&self) -> &T {
+        // SAFETY: the mutex is held, and the guard is borrowed.
+        unsafe { &*self.mutex.value() }
+    }
+}
+
+impl<C: Class, T: ?Sized> DerefMut for SharedGuard<'_, C, T> {
+    #[inline]
+    fn deref_mut(&mut self) -> &mut T {
+        // SAFETY: the mutex is held, nobody reads it, and this is its one guard, borrowed exclusively.
+        unsafe { &mut *self.mutex.value() }
+    }
+}
+
+impl<C: Class, T: ?Sized> Drop for SharedGuard<'_, C, T> {
+    #[inline]
+    fn drop(&mut self) {
+        self.inner.release(self.index);
+    }
+}
+
+impl<C: Class, T: ?Sized + fmt::Debug> fmt::Debug for SharedGuard<'_, C, T> {
+    fn fmt(&self, f: &mut fmt::Formatter<'_>) -> fmt::Result {
+        (**self).fmt(f)
+    }
+}
