@@ -157,9 +157,13 @@ static inline int sit(struct ww_acquire_ctx *x, struct limit limit)
 	return r;
 }
 
+/* Whether a task waits for it, which may be one that this thread has to run. */
+static bool is_awaited_by_task(const struct ww_desk *d) { return (__atomic_load_n(&d->mutex.waiters, __ATOMIC_RELAXED) & ~IS_DESK) >= A_TASK; }
+
 /*
  * The same for a downgrade, which doesn't fail: whoever has the desk is a writer that found a mark from before, and has it for a
- * moment alone; and after the first of these there are no marks.  False if the context may acquire nothing, as it was told.
+ * moment alone; and after the first of these there are no marks.  But a task that waits for it comes only when it is polled.  False
+ * if there is one, or if the context may acquire nothing, as it was told.
  */
 COLD static bool sit_for_certain(struct ww_acquire_ctx *x, struct ww_desk *d)
 {
@@ -169,7 +173,7 @@ COLD static bool sit_for_certain(struct ww_acquire_ctx *x, struct ww_desk *d)
 
 	x->state &= ~is_done;
 	__atomic_store_n(&d->reads, 0, __ATOMIC_RELAXED);
-	while ((r = ww_try_by(&d->mutex, x)) == -EBUSY && !d->mutex.pool->gone)
+	while ((r = ww_try_by(&d->mutex, x)) == -EBUSY && !is_awaited_by_task(d) && !d->mutex.pool->gone)
 		ww_await_guard(&looks, &until);
 	x->state |= is_done;
 	if (!r)

@@ -69,7 +69,8 @@ WW_MUST_CHECK int ww_shared_mutex_lock_until(struct ww_shared_mutex *lock, struc
 WW_MUST_CHECK int ww_shared_mutex_trylock(struct ww_shared_mutex *lock, struct ww_acquire_ctx *ctx);
 /*
  * Of a context that writes it: from now on it reads it, and others may.  It can't fail, and nobody writes it in between; but a
- * context that got -EDEADLK, or would get -ENOMEM or -ENOSPC for its first read, goes on writing it.
+ * context that got -EDEADLK, or would get -ENOMEM or -ENOSPC for its first read, goes on writing it; so does one that reads nothing
+ * yet, while a task that waited for its former reads, or of one before it, hasn't polled again.
  */
 void ww_shared_mutex_downgrade(struct ww_shared_mutex *lock, struct ww_acquire_ctx *ctx);
 

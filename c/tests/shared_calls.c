@@ -458,6 +458,22 @@ static void a_poll_backs_off(void)
 	end_both();
 }
 
+/* Only this thread could poll the task that has y's desk next. */
+static void a_downgrade_waits_for_no_task(void)
+{
+	begin_both();
+	MUST(!reads(&m, &y) && polls_write(&m, &x) == -EINPROGRESS);
+	unlocks(&m, &y);
+	MUST(was_called() && !writes(&n, &y));
+	ww_shared_mutex_downgrade(&n, &y);
+	MUST(ww_shared_mutex_is_written_by(&n, &y) && !polls_write(&m, &x));
+	ww_shared_mutex_downgrade(&n, &y);
+	MUST(ww_shared_mutex_is_read_by(&n, &y) && can_read(&n, &x) && !can_write(&n, &x));
+	unlocks(&m, &x);
+	unlocks(&n, &y);
+	end_both();
+}
+
 static void numbers_are_polled(void)
 {
 	uint64_t readers = 0;
@@ -697,6 +713,7 @@ static void of(struct ww_class *class)
 	if (c->is_wait_die) {
 		a_list_keeps_what_was_read();
 		a_poll_backs_off();
+		a_downgrade_waits_for_no_task();
 		a_loop_goes_on_after_a_writer();
 		a_loop_goes_on_after_a_reader();
 	}
