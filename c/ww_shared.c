@@ -457,6 +457,8 @@ void ww_shared_mutex_downgrade(struct ww_shared_mutex *m, struct ww_acquire_ctx 
 
 int ww_shared_mutex_unlock(struct ww_shared_mutex *m, struct ww_acquire_ctx *x)
 {
+	if (is_polled(x))
+		return -EBUSY;
 	if (has(x, &m->mutex_))
 		return ww_mutex_unlock_checked(&m->mutex_);
 	if (!ww_shared_mutex_is_read_by(m, x)) {
@@ -595,8 +597,10 @@ static int await_polled(struct ww_mutex *m, uint64_t *readers, struct ww_acquire
 		ww_mutex_unlock(&d->mutex);
 		r = await_readers(m, readers, x, limit);
 	}
-	if (r && r != -EINPROGRESS)
+	if (r && r != -EINPROGRESS) {
+		__atomic_store_n(&m->ctx, x, __ATOMIC_RELAXED); /* of a number, any other call by it has taken that away, though refused */
 		ww_mutex_unlock(m);
+	}
 	return r;
 }
 

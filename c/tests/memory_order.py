@@ -298,6 +298,7 @@ TABLE = {
         "ww_mutex_is_held_by": "load rlx", "WW_HOLDS_": "store rlx", "WW_HOLDS_NO_MORE_": "store rlx",
         "ww_mutex_unlock": "load rlx", "holder_of": "load rlx", "own": "store rlx", "release_all": "store rlx",
         "ww_mutex_unlock_checked": "store rlx", "ww_number_told": "load rlx, store rlx", "ww_number_unlock": "store rlx",
+        "await_polled": "store rlx",
     },
     # By it others look who uses the seat, which was said before.
     "alone": {"seat_of": "load acq", "own": "store rel", "unlock_alone": "store rlx"},
