@@ -17,8 +17,9 @@
  * That is Dekker's argument twice.  Each line is sequentially consistent, as the core's are.  A writer that has the mutex after 1.
  * finds the mark, and clears no bit of this desk before the read has ended; those before have released the mutex by then.  So once
  * 2. finds the bit, it stays; but a writer in between may have found none, if another desk with that bit has set it again.  If 3.
- * finds the mutex free, that writer is through, and all that come find bit and mark.  So a writer waits for each reader, and for
- * nobody else, as it waits for any holder of a mutex: ages, cycles, cancels and times are the core's.
+ * finds the mutex free, that writer is through, and all that come find bit and mark.  So a writer waits for each reader, as it
+ * waits for any holder of a mutex: ages, cycles, cancels and times are the core's.  It may wait for who reads others, too: who
+ * comes to a desk after it has found a mark there, and before it has the desk.
  *
  * A reader that finds the mutex taken acquires it, as a writer would, sets bit and mark under it, and releases it (reads_in_turn).
  * Meanwhile it has no mark of it, or a writer on its way from desk to desk would wait for that wait.  An upgrade is a writer that
