@@ -152,6 +152,8 @@ static inline void own(struct ww_mutex *m, struct ww_acquire_ctx *x, ww_seat *s)
 	}
 }
 
+static uint32_t counts_for(const struct ww_wait *wait) { return wait->polls ? A_TASK : 1; }
+
 static void begin_wait(struct ww_mutex *m, struct ww_acquire_ctx *x, ww_seat *s, struct ww_wait *wait)
 {
 	ww_begin_wait(wait);
@@ -161,7 +163,7 @@ static void begin_wait(struct ww_mutex *m, struct ww_acquire_ctx *x, ww_seat *s,
 		has_met(s);
 	DTRACE_PROBE2(ww, contention_begin, m, x);
 	DEBUG(ww_debug_waits(s, m, wait));
-	__atomic_fetch_add(&m->waiters, 1, __ATOMIC_SEQ_CST);
+	__atomic_fetch_add(&m->waiters, counts_for(wait), __ATOMIC_SEQ_CST);
 }
 
 static void end_wait(struct ww_mutex *m, struct ww_acquire_ctx *x, ww_seat *s, const struct ww_wait *wait, int r)
@@ -170,7 +172,7 @@ static void end_wait(struct ww_mutex *m, struct ww_acquire_ctx *x, ww_seat *s, c
 	__atomic_store_n(&s->awaits, 0, __ATOMIC_RELAXED);
 	DTRACE_PROBE3(ww, contention_end, m, x, r);
 	DEBUG(ww_debug_waits(s, NULL, NULL));
-	__atomic_fetch_sub(&m->waiters, 1, __ATOMIC_SEQ_CST);
+	__atomic_fetch_sub(&m->waiters, counts_for(wait), __ATOMIC_SEQ_CST);
 	if (!wait->polls)
 		ww_end_wait(s, wait);
 }

@@ -82,8 +82,9 @@ struct ww_desk {
 	uint64_t marks[] __attribute__((aligned(64))); /* one for each number of the class */
 };
 enum { MANY_BITS = 64 };
-/* A bit of a mutex's `waiters`, beside their number: it is a desk's. */
+/* A bit of a mutex's `waiters`, beside their number: it is a desk's. A task counts for so many threads, of which no desk has as many. */
 #define IS_DESK ((uint32_t)1 << 30)
+#define A_TASK ((uint32_t)1 << 16)
 
 /* See ww_gate.c. */
 #define NO_LIMIT UINT32_MAX

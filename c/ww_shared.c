@@ -17,8 +17,9 @@
  * That is Dekker's argument twice.  Each line is sequentially consistent, as the core's are.  A writer that has the mutex after 1.
  * finds the mark, and clears no bit of this desk before the read has ended; those before have released the mutex by then.  So once
  * 2. finds the bit, it stays; but a writer in between may have found none, if another desk with that bit has set it again.  If 3.
- * finds the mutex free, that writer is through, and all that come find bit and mark.  So a writer waits for each reader, and for
- * nobody else, as it waits for any holder of a mutex: ages, cycles, cancels and times are the core's.
+ * finds the mutex free, that writer is through, and all that come find bit and mark.  So a writer waits for each reader, as it
+ * waits for any holder of a mutex: ages, cycles, cancels and times are the core's.  It may wait for who reads others, too: who
+ * comes to a desk after it has found a mark there, and before it has the desk.
  *
  * A reader that finds the mutex taken acquires it, as a writer would, sets bit and mark under it, and releases it (reads_in_turn).
  * Meanwhile it has no mark of it, or a writer on its way from desk to desk would wait for that wait.  An upgrade is a writer that
@@ -157,9 +158,13 @@ static inline int sit(struct ww_acquire_ctx *x, struct limit limit)
 	return r;
 }
 
+/* Whether a task waits for it, which may be one that this thread has to run. */
+static bool is_awaited_by_task(const struct ww_desk *d) { return (__atomic_load_n(&d->mutex.waiters, __ATOMIC_RELAXED) & ~IS_DESK) >= A_TASK; }
+
 /*
  * The same for a downgrade, which doesn't fail: whoever has the desk is a writer that found a mark from before, and has it for a
- * moment alone; and after the first of these there are no marks.  False if the context may acquire nothing, as it was told.
+ * moment alone; and after the first of these there are no marks.  But a task that waits for it comes only when it is polled.  False
+ * if there is one, or if the context may acquire nothing, as it was told.
  */
 COLD static bool sit_for_certain(struct ww_acquire_ctx *x, struct ww_desk *d)
 {
@@ -169,7 +174,7 @@ COLD static bool sit_for_certain(struct ww_acquire_ctx *x, struct ww_desk *d)
 
 	x->state &= ~is_done;
 	__atomic_store_n(&d->reads, 0, __ATOMIC_RELAXED);
-	while ((r = ww_try_by(&d->mutex, x)) == -EBUSY && !d->mutex.pool->gone)
+	while ((r = ww_try_by(&d->mutex, x)) == -EBUSY && !is_awaited_by_task(d) && !d->mutex.pool->gone)
 		ww_await_guard(&looks, &until);
 	x->state |= is_done;
 	if (!r)
@@ -453,6 +458,8 @@ void ww_shared_mutex_downgrade(struct ww_shared_mutex *m, struct ww_acquire_ctx 
 
 int ww_shared_mutex_unlock(struct ww_shared_mutex *m, struct ww_acquire_ctx *x)
 {
+	if (is_polled(x))
+		return -EBUSY;
 	if (has(x, &m->mutex_))
 		return ww_mutex_unlock_checked(&m->mutex_);
 	if (!ww_shared_mutex_is_read_by(m, x)) {
@@ -594,7 +601,10 @@ static int read_poll(struct ww_mutex *m, uint64_t *readers, struct ww_acquire_ct
 	return r ? r : read_by(m, readers, x, (struct limit){ POLLS, .waker = waker });
 }
 
-/* It waits for whoever has this desk, and then for the other readers. It may have moved since it got the mutex. */
+/*
+ * It waits for whoever has this desk, and then for the other readers.  The context may have moved since it got the mutex; and of a
+ * number, any other call by it that was refused has taken away that it holds this.
+ */
 static int await_polled(struct ww_mutex *m, uint64_t *readers, struct ww_acquire_ctx *x, struct limit limit)
 {
 	struct ww_desk *d = (struct ww_desk *)(void *)x->polled;

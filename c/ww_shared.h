@@ -69,20 +69,21 @@ WW_MUST_CHECK int ww_shared_mutex_lock_until(struct ww_shared_mutex *lock, struc
 WW_MUST_CHECK int ww_shared_mutex_trylock(struct ww_shared_mutex *lock, struct ww_acquire_ctx *ctx);
 /*
  * Of a context that writes it: from now on it reads it, and others may.  It can't fail, and nobody writes it in between; but a
- * context that got -EDEADLK, or would get -ENOMEM or -ENOSPC for its first read, goes on writing it.
+ * context that got -EDEADLK, or would get -ENOMEM or -ENOSPC for its first read, goes on writing it; so does one that reads nothing
+ * yet, while a task that waited for its former reads, or of one before it, hasn't polled again.
  */
 void ww_shared_mutex_downgrade(struct ww_shared_mutex *lock, struct ww_acquire_ctx *ctx);
 
 /*
  * Of a context that writes it: ends that; and else one of its reads.  Each lock call that returned 0, and trylock that returned 1,
- * needs one, or ww_acquire_unlock_all for all.  -EINVAL: the context neither writes nor reads it.
+ * needs one, or in a loop ww_acquire_unlock_all for all.  -EINVAL: the context neither writes nor reads it.
  */
 int ww_shared_mutex_unlock(struct ww_shared_mutex *lock, struct ww_acquire_ctx *ctx);
 /* Ends all reads of the context. */
 void ww_acquire_end_reads(struct ww_acquire_ctx *ctx);
 /*
- * By hand, after -EDEADLK: waits for what the context collided with, and holds nothing then.  It has the limits, and returns the
- * errors, of ww_mutex_lock_slow_until.
+ * By hand, after -EDEADLK, with nothing held: waits for what the context collided with, which has to exist still, and holds
+ * nothing then.  It has the limits, and returns the errors, of ww_mutex_lock_slow_until.
  */
 WW_MUST_CHECK int ww_shared_mutex_await(struct ww_acquire_ctx *ctx, const struct timespec *monotonic);
 /* Whether the context writes it; and whether it reads it, for the thread that uses the context. */
@@ -111,8 +112,8 @@ struct ww_shared_item {
 WW_MUST_CHECK int ww_shared_mutex_lock_all(struct ww_acquire_ctx *ctx, const struct ww_shared_item *items, size_t count);
 /*
  * For event loops and coroutines: the same as polls of ww_poll.h, as ww_mutex_lock_poll is one.  A further call goes on only if it
- * is the same one.  Without a waker (NULL) a call ends the wait, and what it has acquired on its way is released again: what was
- * read and written before still is.  After -EDEADLK release everything, and poll ww_shared_mutex_await_poll, which holds nothing
+ * is the same one.  Without a waker (NULL) a call ends the wait: it returns 0 if it then reads or writes; else what it has
+ * acquired on its way is released again, and what was read and written before still is.  After -EDEADLK release everything, and poll ww_shared_mutex_await_poll, which holds nothing
  * once it returns 0; then begin again.
  */
 struct ww_waker;

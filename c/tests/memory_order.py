@@ -317,6 +317,7 @@ TABLE = {
         "ww_number_take": "fetch_add rlx",
         "wait_first": "load rlx", # whether it is a desk's, which it always is
         "waits_at_desk": "load rlx", # likewise
+        "is_awaited_by_task": "load rlx", # in a loop
     },
     # A reader marks, and then looks whether the mutex is free; a writer has that, and then looks for bits, desks and marks. Of bits
     # the same: who finds its mutex free again, after another had it, finds the bit that this one cleared gone.

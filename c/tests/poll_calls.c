@@ -51,17 +51,17 @@ static void waits_and_is_called(void)
 	begins(&x);
 	begins(&y);
 	MUST(!ww_mutex_lock_poll(&m[0], &x, &w) && !ww_mutex_lock_poll(&m[1], &x, NULL));
-	MUST(ww_mutex_lock_poll(&m[0], &y, &w) == -EINPROGRESS && m[0].waiters == 1 && !calls);
+	MUST(ww_mutex_lock_poll(&m[0], &y, &w) == -EINPROGRESS && m[0].waiters && !calls);
 	/* Any other call by the context. */
 	MUST(ww_mutex_lock(&m[2], &y) == -EBUSY && !ww_mutex_trylock(&m[2], &y) && ww_acquire_fini_checked(&y) == -EBUSY);
 	MUST(ww_mutex_lock_poll(&m[2], &y, &w) == -EBUSY && ww_number_lock_poll(number, &y, &w) == -EBUSY);
 	MUST(ww_mutex_destroy(&m[0]) == -EBUSY);
-	MUST(ww_mutex_lock_poll(&m[0], &y, &w) == -EINPROGRESS && m[0].waiters == 1 && !calls);
+	MUST(ww_mutex_lock_poll(&m[0], &y, &w) == -EINPROGRESS && m[0].waiters && !calls);
 	ww_mutex_unlock(&m[1]);
 	MUST(!calls);
 	ww_mutex_unlock(&m[0]);
 	MUST(calls == 1 && !ww_poll_take_back(&y, NULL));
-	MUST(!ww_mutex_lock_poll(&m[0], &y, &w) && calls == 1 && m[0].waiters == 0 && ww_mutex_is_held_by(&m[0], &y));
+	MUST(!ww_mutex_lock_poll(&m[0], &y, &w) && calls == 1 && !m[0].waiters && ww_mutex_is_held_by(&m[0], &y));
 	MUST(ww_mutex_lock_poll(&m[0], &y, &w) == -EALREADY && ww_mutex_lock_poll(&m[0], &y, NULL) == -EALREADY);
 	ww_mutex_unlock(&m[0]);
 	ends(&y);
@@ -79,7 +79,7 @@ static void wait_ends(void)
 	MUST(!ww_mutex_lock_poll(&m[0], &x, &w));
 	MUST(ww_mutex_lock_poll(&m[0], &y, &w) == -EINPROGRESS && ww_poll_take_back(&y, NULL) && !ww_poll_take_back(&y, NULL));
 	MUST(ww_mutex_lock_poll(&m[0], &y, &other) == -EINPROGRESS);
-	MUST(ww_mutex_lock_poll(&m[0], &y, NULL) == -ETIMEDOUT && m[0].waiters == 0);
+	MUST(ww_mutex_lock_poll(&m[0], &y, NULL) == -ETIMEDOUT && !m[0].waiters);
 	ww_mutex_unlock(&m[0]);
 	MUST(!calls && !others);
 	for (int k = 0; k < 3; k++) { /* A cancel that wasn't needed calls off no later wait. */
@@ -407,7 +407,7 @@ static void refused_amid_a_wait(void)
 		for (unsigned k = 0; k < CALLS; k++)
 			if (k == which || which == CALLS)
 				refused_call(k);
-		MUST(!calls && y.acquired == 2 && ww_mutex_is_held_by(&m[1], &y) && m[0].waiters == 1);
+		MUST(!calls && y.acquired == 2 && ww_mutex_is_held_by(&m[1], &y) && m[0].waiters);
 		MUST(ww_mutex_lock_poll(&m[0], &y, &w) == -EINPROGRESS);
 		ww_mutex_unlock(&m[0]);
 		MUST(calls == 1 && !nobodys);

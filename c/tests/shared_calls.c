@@ -424,12 +424,14 @@ static void refuse_others_amid_a_poll(void)
 	ww_mutex_unlock(&plain);
 	MUST(was_called() && !ww_mutex_lock_poll(&plain, &x, &waker));
 	ww_mutex_unlock(&plain);
-	MUST(!writes(&m, &y) && !reads(&n, &x) && polls_read(&m, &x) == -EINPROGRESS && reads(&n, &x) == -EBUSY);
+	MUST(!writes(&m, &y) && !reads(&n, &x) && !reads(&n, &x) && polls_read(&m, &x) == -EINPROGRESS && reads(&n, &x) == -EBUSY);
+	MUST(ww_shared_mutex_unlock(&n, &x) == -EBUSY);
 	MUST(ww_shared_mutex_lock_shared_poll(&m, &x, NULL) == -ETIMEDOUT && !writes(&n, &x));
 	MUST(polls_read(&m, &x) == -EINPROGRESS && reads(&n, &x) == -EBUSY && !ww_shared_mutex_trylock_shared(&n, &x));
 	unlocks(&m, &y);
 	MUST(was_called() && !polls_read(&m, &x));
 	unlocks(&m, &x);
+	unlocks(&n, &x);
 	unlocks(&n, &x);
 	unlocks(&n, &x);
 	ww_until_all_locked(&x)
@@ -473,6 +475,22 @@ static void moves_back(void)
 	memset(&moved, 0x55, sizeof moved);
 }
 
+/* Only this thread could poll the task that has y's desk next. */
+static void a_downgrade_waits_for_no_task(void)
+{
+	begin_both();
+	MUST(!reads(&m, &y) && polls_write(&m, &x) == -EINPROGRESS);
+	unlocks(&m, &y);
+	MUST(was_called() && !writes(&n, &y));
+	ww_shared_mutex_downgrade(&n, &y);
+	MUST(ww_shared_mutex_is_written_by(&n, &y) && !polls_write(&m, &x));
+	ww_shared_mutex_downgrade(&n, &y);
+	MUST(ww_shared_mutex_is_read_by(&n, &y) && can_read(&n, &x) && !can_write(&n, &x));
+	unlocks(&m, &x);
+	unlocks(&n, &y);
+	end_both();
+}
+
 static void numbers_are_polled(void)
 {
 	uint64_t readers = 0;
@@ -485,6 +503,9 @@ static void numbers_are_polled(void)
 	MUST(!ww_number_lock_shared_poll(number, &readers, &x, &waker) && ww_number_is_read(number, &x));
 	ww_acquire_end_reads(&x);
 	MUST(!ww_number_lock_shared_poll(number, &readers, &y, &waker));
+	MUST(ww_number_lock_exclusive_poll(number, &readers, &x, &waker) == -EINPROGRESS);
+	MUST(ww_number_lock_exclusive(number, &readers, &x, NULL) == -EBUSY && !ww_number_trylock(number, &x));
+	MUST(ww_number_lock_exclusive_poll(number, &readers, &x, NULL) == -ETIMEDOUT && !x.acquired);
 	MUST(ww_number_lock_exclusive_poll(number, &readers, &x, &waker) == -EINPROGRESS);
 	ww_acquire_end_reads(&y);
 	MUST(was_called() && !ww_number_lock_exclusive_poll(number, &readers, &x, &waker) && !ww_number_unlock(number, &x));
@@ -721,6 +742,7 @@ static void of(struct ww_class *class)
 	if (c->is_wait_die) {
 		a_list_keeps_what_was_read();
 		a_poll_backs_off();
+		a_downgrade_waits_for_no_task();
 		a_loop_goes_on_after_a_writer();
 		a_loop_goes_on_after_a_reader();
 	}

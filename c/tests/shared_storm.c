@@ -184,11 +184,11 @@ static void use(struct step *steps, unsigned count, unsigned me, unsigned *x)
 		leaves(steps[k].it, steps[k].what != READS);
 }
 
-/* From now on it reads. */
+/* From now on it reads; or it goes on to write, if a task waits for its desk. */
 static void downgrade(struct step *s, struct ww_acquire_ctx *ctx)
 {
 	ww_shared_mutex_downgrade(&s->it->lock, ctx);
-	MUST(ww_shared_mutex_is_read_by(&s->it->lock, ctx) && !ww_shared_mutex_is_written_by(&s->it->lock, ctx));
+	MUST(ww_shared_mutex_is_read_by(&s->it->lock, ctx) != ww_shared_mutex_is_written_by(&s->it->lock, ctx));
 	enters(s->it, false);
 	MUST(s->it->a == s->it->b && ww_shared_mutex_destroy(&s->it->lock) == -EBUSY);
 	leaves(s->it, false);

@@ -7,7 +7,8 @@
  *	?	the next is tried: where that fails the rest of the transaction is left out
  *	t	the next is until a time, likewise
  *	y	the next is by polls, and so is the wait after -EDEADLK: it sleeps until its waker is called; z: it polls once more without need;
- *		x: it ends the wait, and where it has none, the rest of the transaction is left out
+ *		x: it ends the wait, and where it has none, the rest of the transaction is left out; l: whenever it is called it polls late,
+ *		once all other threads wait, and until then a downgrade leaves what is written
  *	> <	behind a transaction: what it writes it only reads from here on; that has its mutex asked for by a second context first
  *	d	destroys a, and makes it anew, where nobody has it; D: somebody has
  *	1-9 ~1	something has happened; waits for that, which orders	_1	waits for it, which doesn't
@@ -36,6 +37,7 @@ static struct it {
 static long writes[BOTH];
 static uint32_t happened[10];
 static struct timespec soon;
+static bool is_late; /* a task is */
 unsigned il_looks, il_bits;
 /* Of each poll of a thread whether its waker was called, and may be. */
 enum { POLLS = 16 };
@@ -60,6 +62,8 @@ void il_setup(const struct il_program *p)
 	for (unsigned k = 0; k < IL_THREADS && p->threads[k]; k++)
 		if (strchr(p->threads[k], 't'))
 			soon = il_in(1000000);
+	for (unsigned k = 0; k < IL_THREADS && p->threads[k]; k++)
+		is_late |= !!strchr(p->threads[k], 'l');
 	il_looks = p->flags & IL_PATIENT ? UINT32_MAX : 1;
 	il_bits = p->flags & ONE_BIT ? 1 : MANY_BITS;
 }
@@ -124,9 +128,11 @@ static int by_polls(struct user *u, char letter, char how)
 			others_are_refused(u, letter);
 		if (how == 'x')
 			return poll_once(u, letter, NULL);
-		if (how == 'y')
+		if (how != 'z')
 			il_await(&it->calls);
-		how = 'y';
+		if (how == 'l')
+			il_late();
+		how = how == 'l' ? 'l' : 'y';
 	}
 }
 
@@ -136,7 +142,7 @@ static int lock(struct user *u, char letter, char how)
 	struct ww_shared_mutex *m = &it_of(letter)->lock;
 	bool writes = isupper(letter);
 
-	if (how && strchr("xyz", how))
+	if (how && strchr("lxyz", how))
 		return by_polls(u, letter, how);
 	if (how == '?')
 		return (writes ? ww_shared_mutex_trylock(m, &u->x) : ww_shared_mutex_trylock_shared(m, &u->x)) ? 0 : -EBUSY;
@@ -204,7 +210,7 @@ static int lock_each(struct user *u, const char *at, bool is_loop)
 
 		if (happens(&at))
 			continue;
-		if (strchr("?txyz", *at)) {
+		if (strchr("?ltxyz", *at)) {
 			how = *at;
 			continue;
 		}
@@ -230,7 +236,7 @@ static void in_loop(struct user *u, const char *at)
 
 static void by_hand(struct user *u, const char *at)
 {
-	bool is_polled = strcspn(at, "xyz") < strcspn(at, "]");
+	bool is_polled = strcspn(at, "lxyz") < strcspn(at, "]");
 
 	while (lock_each(u, at, false) == -EDEADLK) {
 		unlock_by_hand(u);
@@ -280,6 +286,8 @@ static void downgrade(struct user *u)
 		if (!u->writes[k])
 			continue;
 		ww_shared_mutex_downgrade(&its[k].lock, &u->x);
+		if (is_late && ww_shared_mutex_is_written_by(&its[k].lock, &u->x))
+			continue;
 		il_reads(k, &u->x);
 		MUST(ww_shared_mutex_is_read_by(&its[k].lock, &u->x) && its[k].data == writes[k]);
 		MUST(ww_shared_mutex_destroy(&its[k].lock) == -EBUSY);
@@ -433,6 +441,7 @@ const struct il_program il_programs[] = {
 	{ "poll-two-readers", { "(a1~2)3", "(a2~3)", "~1~2[yA]" }, CONTEXTS(4), 1 },
 	{ "poll-one-bit", { "[ya]", "(a)", "[zA]" }, CONTEXTS(4) | ONE_BIT, 1 },
 	{ "poll-downgrade", { "[yA]>", "[ya]", "(A)" }, CONTEXTS(4), 1 },
+	{ "poll-late-downgrade", { "(a)(B)>", "[lA]" }, CONTEXTS(4), 2 },
 	{ "list-cross", { "{aB}", "{bA}" }, CONTEXTS(4), 2 },
 	{ "list-cross-die", { "{aB}", "{bA}" }, CONTEXTS(4) | WAIT_DIE, 2 },
 	{ "list-upgrades", { "{aA}", "{aAb}" }, CONTEXTS(4), 2 },
