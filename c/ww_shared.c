@@ -486,9 +486,11 @@ void ww_acquire_end_reads(struct ww_acquire_ctx *x)
 		reads_on(x->own->desk, 0);
 }
 
+static struct ww_mutex *contended_by(const struct ww_acquire_ctx *x) { return x ? x->contending_lock : NULL; }
+
 int ww_shared_mutex_await(struct ww_acquire_ctx *x, const struct timespec *until)
 {
-	struct ww_mutex *m = x->contending_lock;
+	struct ww_mutex *m = contended_by(x);
 	int r = ww_mutex_lock_slow_until(m, x, until);
 
 	if (!r)
@@ -645,7 +647,7 @@ int ww_shared_mutex_lock_poll(struct ww_shared_mutex *m, struct ww_acquire_ctx *
 
 int ww_shared_mutex_await_poll(struct ww_acquire_ctx *x, const struct ww_waker *waker)
 {
-	struct ww_mutex *m = x->contending_lock;
+	struct ww_mutex *m = contended_by(x);
 	int r = may_poll(x, m, NULL);
 
 	if (!r)

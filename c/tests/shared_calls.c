@@ -175,6 +175,7 @@ static void refuse_misuse(void)
 	begin_both();
 	ww_acquire_init(&of_other, &other);
 	MUST(reads(&m, NULL) == -EINVAL && writes(&m, NULL) == -EINVAL && !ww_shared_mutex_trylock_shared(&m, NULL));
+	MUST(ww_shared_mutex_await(NULL, NULL) == -EINVAL);
 	MUST(reads(&m, &of_other) == -EINVAL && writes(&m, &of_other) == -EINVAL);
 	MUST(ww_shared_mutex_lock_shared_until(&m, &x, &none) == -EINVAL && ww_shared_mutex_lock_until(&m, &x, &none) == -EINVAL);
 	ww_acquire_fini(&of_other);
@@ -436,7 +437,8 @@ static void refuse_others_amid_a_poll(void)
 	unlocks(&n, &x);
 	ww_until_all_locked(&x)
 		MUST(polls_read(&m, &x) == -EINVAL && polls_write(&m, &x) == -EINVAL && ww_shared_mutex_await_poll(&x, &waker) == -EINVAL);
-	MUST(polls_read(&m, NULL) == -EINVAL && polls_write(&m, NULL) == -EINVAL && faults() == before);
+	MUST(polls_read(&m, NULL) == -EINVAL && polls_write(&m, NULL) == -EINVAL && ww_shared_mutex_await_poll(NULL, &waker) == -EINVAL);
+	MUST(faults() == before);
 	end_both();
 }
 
