@@ -173,7 +173,9 @@ static void end_wait(struct ww_mutex *m, struct ww_acquire_ctx *x, ww_seat *s, c
 	DTRACE_PROBE3(ww, contention_end, m, x, r);
 	DEBUG(ww_debug_waits(s, NULL, NULL));
 	__atomic_fetch_sub(&m->waiters, counts_for(wait), __ATOMIC_SEQ_CST);
-	if (!wait->polls)
+	if (wait->polls)
+		ww_task_has_waited(s);
+	else
 		ww_end_wait(s, wait);
 }
 

@@ -461,6 +461,19 @@ COLD static void look_at_gate(struct ww_seats *of, uint64_t now)
 		serve(of, id, &of->seats[k], true);
 }
 
+static inline void look_if_due(struct ww_seats *of, uint64_t now)
+{
+	if (now >= __atomic_load_n(&of->due, __ATOMIC_RELAXED))
+		look_at_gate(of, now);
+}
+
+/* By now nobody may wait for a seat, as there is one for each task; then those that wait for locks look whether fewer would do more. */
+COLD void ww_task_has_waited(const ww_seat *s)
+{
+	if (s->of == &s->pool->tasks && !s->pool->gone)
+		look_if_due(s->of, ww_now());
+}
+
 /* While tasks wait the seat, whose user is through, is handed to the first of them if it isn't lent any more. */
 static bool hands_over(struct ww_seats *of, ww_seat *s)
 {
@@ -469,8 +482,7 @@ static bool hands_over(struct ww_seats *of, ww_seat *s)
 	struct ww_waker waker = { 0 };
 	bool hands;
 
-	if (now >= __atomic_load_n(&of->due, __ATOMIC_RELAXED))
-		look_at_gate(of, now);
+	look_if_due(of, now);
 	if (now < s->lent)
 		return false;
 	pthread_mutex_lock(&p->queue);

@@ -242,6 +242,8 @@ WW_HIDDEN ww_seat *ww_other_seat(struct ww_pool *p);
 WW_HIDDEN ww_seat *ww_seat_to_begin(struct ww_pool *p);
 /* Releases a seat, by a thread that isn't its keeper. */
 WW_HIDDEN void ww_give_seat(ww_seat *s);
+/* The task that has this seat has waited for a lock. */
+WW_HIDDEN void ww_task_has_waited(const ww_seat *s);
 /* Waits for a seat, after all that wait already, until a time if that isn't NULL (-ETIMEDOUT), or until the class ends waits that
    heed that (-EINTR); -EINVAL in a child. */
 WW_HIDDEN int ww_seek_seat(struct ww_pool *p, const struct timespec *until, bool heeds, ww_seat **s);

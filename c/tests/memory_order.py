@@ -386,7 +386,7 @@ TABLE = {
     # When to look at a gate next, which is asked again under its lock.
     "due": {
         "ww_crowd_open": "store rlx", "look": "store rlx", "goes_on": "load rlx", "open_seats_of": "store rlx", "look_at_gate": "store rlx",
-        "hands_over": "load rlx",
+        "look_if_due": "load rlx",
     },
     # Changed under the lock of numbers; whoever frees a class at 0 sees all that those wrote who had one.
     "taken": {"ww_take_number": "fetch_add rlx", "ww_give_number": "fetch_sub rel", "taken_numbers": "load acq", "make_desk": "fetch_sub rel"},

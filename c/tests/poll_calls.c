@@ -317,6 +317,24 @@ static void as_many_as_the_gate_says(void)
 	end_both(both);
 }
 
+/* Each task has a context, so nobody waits for one: whoever has waited for a lock measures. */
+static void looks_after_a_wait(void)
+{
+	struct ww_acquire_ctx both[2];
+	struct ww_seats *tasks = &c->pool->tasks;
+
+	ww_mutex_init(&m[0], c);
+	all_in_use(both, 0);
+	wakers[0] = counts_in(&called[0]);
+	MUST(!ww_mutex_lock_poll(&m[0], &both[0], &wakers[0]) && ww_mutex_lock_poll(&m[0], &both[1], &wakers[0]) == -EINPROGRESS);
+	ww_mutex_unlock(&m[0]);
+	tasks->due = 0;
+	MUST(!ww_mutex_lock_poll(&m[0], &both[1], &wakers[0]) && tasks->due);
+	ww_mutex_unlock(&m[0]);
+	end_both(both);
+	MUST(!ww_mutex_destroy(&m[0]));
+}
+
 /* A class isn't freed while a task waits for a context, also if it was called, and none is in use. */
 static void stays_while_one_waits(void)
 {
@@ -344,6 +362,7 @@ static void by_contexts_of_their_own(void)
 	called_in_turn();
 	passes_on_its_call();
 	as_many_as_the_gate_says();
+	looks_after_a_wait();
 	stays_while_one_waits();
 	MUST(!ww_class_free(c));
 }
