@@ -26,7 +26,7 @@ int __wrap_clock_gettime(clockid_t clock, struct timespec *at)
 static void is_later_by(time_t seconds)
 {
 	__atomic_store_n(&ahead, seconds - 60, __ATOMIC_RELAXED);
-	usleep(200000);
+	usleep(600000);
 }
 
 /* ---- what is said ---- */
@@ -90,7 +90,7 @@ static pthread_t waits_for_one(void *ctx)
 
 	while (waits() == before)
 		usleep(1000);
-	usleep(100000);
+	usleep(300000);
 	return thread;
 }
 
@@ -112,7 +112,7 @@ static void is_said_once(void)
 	begins_anew();
 	for (unsigned k = 0; k < 2; k++)
 		threads[k] = waits_for_one(NULL);
-	is_later_by(9);
+	is_later_by(5);
 	says("");
 	is_later_by(11);
 	says(all_in_use);
@@ -191,7 +191,7 @@ static void is_said_of_tasks(void)
 	for (unsigned k = 0; k < 4; k++) {
 		MUST(ww_acquire_init_poll(&y, &c, &seeks[k], &waker) == -EINPROGRESS);
 		says(k == 2 ? all : "");
-		is_later_by(k < 1 ? 20 : 33 + (time_t)k);
+		is_later_by(k < 1 ? 16 : 33 + (time_t)k);
 	}
 	for (unsigned k = 0; k < 4; k++)
 		MUST(ww_acquire_init_poll(&y, &c, &seeks[k], NULL) == -ETIMEDOUT);
@@ -226,10 +226,10 @@ static void waits_for_a_mutex(unsigned count, bool is_to_end, const char *words)
 		threads[k] = begin_thread(locks, NULL);
 	while (__atomic_load_n(&a.waiters, __ATOMIC_SEQ_CST) < count)
 		usleep(1000);
-	usleep(100000);
+	usleep(300000);
 	if (is_to_end)
 		MUST(!pthread_cancel(threads[0]));
-	is_later_by(9);
+	is_later_by(5);
 	says("");
 	is_later_by(11);
 	says(words);
