@@ -28,7 +28,10 @@ static inline void __tsan_release(void *at) { (void)at; }
 
 struct ww_pool;
 
-/* A seat has two cache lines of its own; a context that meets nobody leaves the second one alone. It begins with its handle, as ww_mutex.h assumes. */
+/*
+ * A seat has two cache lines of its own; a context that meets nobody leaves the second one alone.  It begins with its handle, as
+ * ww_mutex.h assumes.
+ */
 typedef struct ww_seat {
 	ww_handle handle;
 	uint32_t token;		/* one futex word: nothing, a token, or its waker is to be called */

@@ -226,8 +226,8 @@ int ww_acquire_cancel(struct ww_acquire_ctx *ctx);
 /*
  * Ends, with -EINTR, each wait of the class that ww_acquire_cancel or a time limit could end, and each wait for a context or a
  * permit in ww_acquire_init_until, also with NULL, or by a poll; and each later one at once.  A class stays so until ww_class_free.
- * It stops no other wait, and nothing that needn't wait.  So a program that ends needs no list of its contexts.  Any thread may call it.  -ENOMEM: the
- * class can't be opened; -EINVAL: in a forked child.
+ * It stops no other wait, and nothing that needn't wait.  So a program that ends needs no list of its contexts.  Any thread may
+ * call it.  -ENOMEM: the class can't be opened; -EINVAL: in a forked child.
  */
 int ww_class_cancel(struct ww_class *ww_class);
 /*

@@ -559,8 +559,9 @@ static struct ww_seek **place_of(struct ww_seats *of, const struct ww_seek *it)
 }
 
 /*
- * Whoever was called looks.  Who has looked often, or is to wait no more, looks at all seats, once it has said that nobody is called.  It gets a seat, or waits
- * again, or it is to look once more, when its loop comes round: then its own waker is called.  The queue is locked.
+ * Whoever was called looks.  Who has looked often, or is to wait no more, looks at all seats, once it has said that nobody is
+ * called.  It gets a seat, or waits again, or it is to look once more, when its loop comes round: then its own waker is called.
+ * The queue is locked.
  */
 static struct ww_waker look(struct ww_seats *of, struct ww_seek *me, const struct ww_waker *again)
 {

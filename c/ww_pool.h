@@ -201,7 +201,10 @@ struct ww_pool {
 #define WW_PATIENCE 10
 #endif
 
-/* The values of `served_` of one that seeks a seat: see ww_pool.c.  CALLED: it looks at `seat_` first; SERVED: it has that; without one its wait ends. */
+/*
+ * The values of `served_` of one that seeks a seat: see ww_pool.c.  CALLED: it looks at `seat_` first; SERVED: it has that; without
+ * one its wait ends.
+ */
 enum { WAITS, CALLED, SERVED };
 
 /* What each thread has for itself. */

@@ -112,9 +112,9 @@ struct ww_shared_item {
 WW_MUST_CHECK int ww_shared_mutex_lock_all(struct ww_acquire_ctx *ctx, const struct ww_shared_item *items, size_t count);
 /*
  * For event loops and coroutines: the same as polls of ww_poll.h, as ww_mutex_lock_poll is one.  A further call goes on only if it
- * is the same one.  Without a waker (NULL) a call ends the wait: it returns 0 if it then reads or writes; else what it has
- * acquired on its way is released again, and what was read and written before still is.  After -EDEADLK release everything, and poll ww_shared_mutex_await_poll, which holds nothing
- * once it returns 0; then begin again.
+ * is the same one.  Without a waker (NULL) a call ends the wait: it returns 0 if it then reads or writes; else what it has acquired
+ * on its way is released again, and what was read and written before still is.  After -EDEADLK release everything, and poll
+ * ww_shared_mutex_await_poll, which holds nothing once it returns 0; then begin again.
  */
 struct ww_waker;
 WW_MUST_CHECK int ww_shared_mutex_lock_shared_poll(struct ww_shared_mutex *lock, struct ww_acquire_ctx *ctx,

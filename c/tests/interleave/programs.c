@@ -945,6 +945,8 @@ const struct il_program il_programs[] = {
 	{ "tasks-hand-free", { "y(7)", "y(8)", "y(9)", "_7_8_9F" }, HANDED | NARROW, 1 },
 	{ "tasks-wider", { "y(1sW)", "~1y()", "~1y()" }, TASKS | NARROW, 2 },
 	{ "tasks-wider-late", { "y(1sW)y()", "~1l()", "~1y()" }, TASKS | NARROW, 1 },
+	{ "tasks-wider-waited", { "(m1wWM)", "~1y(ymM)", "~1y()" }, TASKS | NARROW, 2 },
+	{ "tasks-narrower-waited", { "(m1wNM)", "~1y(ymM)y()", "~1l()" }, TASKS, 1 },
 	{ "tasks-narrower", { "y(1~2sN3)", "~1y(2~3)", "~2y()", "~2y()" }, HANDED, 1 },
 	{ "tasks-narrower-lent", { "y(1~2sN3)", "~1y(2~3)", "~2l()" }, TASKS, 1 },
 	{ "shared", { "(1)", "(~1)", "y()", "()" }, TASKS, 1 },
