@@ -1,4 +1,4 @@
-"""What crates/ww_live asks of endless runs, of a few seats and locks: without each premise some run keeps the others
+"""What crates/ww_laws asks of endless runs, of a few seats and locks: without each premise some run keeps the others
 and breaks a law, and where all are kept none does.
 
 A run through finitely many scenes comes to stay in some of them, each of which leads to each. So a search looks for

@@ -1,4 +1,4 @@
-"""The core of the locks with its sleepers, as crates/ww_wakes/specs/Scene.antt has it, above the core of tools/core.py.
+"""The core of the locks with its sleepers, as crates/ww_laws/specs/Scene.antt has it, above the core of tools/core.py.
 
 So this is a second reading of these steps, of a few seats and locks. A part of them can be left out.
 """

@@ -7,7 +7,7 @@ use Rattle.ww_model.specs.declared.event.Event.TheVariants.{FastGive, Unguard, L
 use Rattle.ww_model.specs.State.{put}
 use Rattle.ww_view.specs.Made.{without}
 use Rattle.ww_invariant.specs.Layout.{lock_at}
-use Rattle.ww_wakes.specs.Scene.{performs}
+use Rattle.ww_laws.specs.Scene.{performs}
 use Rattle.ww_refines.proofs.Pictures.{seated}
 use Rattle.ww_refines.proofs.Small.{small, waiter_1}
 use Rattle.ww_refines.proofs.CalledOff.{off_1, off_5, free, cancels, waits, heeds, leaves_list, comes_out, releases, moment, calm, scheduled}

@@ -6,7 +6,7 @@ use native.Mathlib.Decide.{ℕ_discrete}
 use Rattle.ww_model.specs.State.{put}
 use Rattle.ww_model.proofs.Puts.{put_here, put_else}
 use Rattle.ww_invariant.specs.declared.cells.Start.{Start}
-use Rattle.ww_wakes.specs.Scene.{Step}
+use Rattle.ww_laws.specs.Scene.{Step}
 use Rattle.ww_drives.specs.Stages.{Stage}
 use Rattle.ww_drives.specs.Deeds.{steps, halts}
 use Rattle.ww_drives.specs.Handing.{DeskReleases, DeskAcquires}

@@ -6,7 +6,7 @@ use Rattle.ww_queue.specs.declared.kind.Kind.{Kind}
 use Rattle.ww_model.specs.declared.event.Event.TheVariants.{Die, Unguard}
 use Rattle.ww_model.specs.State.{put}
 use Rattle.ww_invariant.specs.declared.cells.Sight.{Sight}
-use Rattle.ww_wakes.specs.Scene.{performs}
+use Rattle.ww_laws.specs.Scene.{performs}
 use Rattle.ww_refines.proofs.Pictures.{Picture, At}
 use Rattle.ww_refines.proofs.Small.{small}
 use Rattle.ww_refines.proofs.Doomed.{died_out, IsAboutToDie, dies, comes_out, sit_out, moment, pending, sleeper_is_scheduled, dying_is_scheduled, are_dead}

@@ -8,7 +8,7 @@ use Rattle.ww_view.specs.View.{first_view}
 use Rattle.ww_invariant.specs.declared.cells.Part.{Part}
 use Rattle.ww_invariant.specs.declared.cells.Start.{Start}
 use Rattle.ww_invariant.specs.Rule.{first_part}
-use Rattle.ww_wakes.specs.Scene.{Step, performs}
+use Rattle.ww_laws.specs.Scene.{Step, performs}
 use Rattle.ww_refines.specs.Moment.{HasToWake}
 use Rattle.ww_refines.specs.Plays.{IsBy}
 use Rattle.ww_refines.specs.Runs as runs

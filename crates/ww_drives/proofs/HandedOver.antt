@@ -8,7 +8,7 @@ use Rattle.ww_view.specs.Made.{without, fast_taken}
 use Rattle.ww_invariant.specs.declared.cells.Sight.{Sight}
 use Rattle.ww_invariant.specs.Layout.{lock_at}
 use Rattle.ww_invariant.specs.Steps.{knowing}
-use Rattle.ww_wakes.specs.Scene.{performs}
+use Rattle.ww_laws.specs.Scene.{performs}
 use Rattle.ww_refines.proofs.Pictures.{Picture, Next, seated, acting, gives_as, gives_then, locks_as, locks_then}
 use Rattle.ww_refines.proofs.Small.{small, holder_2, waiter_1, p_4, first_locks, second_not_first}
 use Rattle.ww_refines.proofs.CalledOff.{free}

@@ -7,8 +7,8 @@ use Rattle.ww_model.specs.State.{put}
 use Rattle.ww_model.proofs.Puts.{put_here, put_else}
 use Rattle.ww_view.specs.declared.view.View.{View}
 use Rattle.ww_invariant.specs.declared.cells.Start.{Start}
-use Rattle.ww_wakes.specs.Scene.{Step}
-use Rattle.ww_wakes.specs.Scene as scene
+use Rattle.ww_laws.specs.Scene.{Step}
+use Rattle.ww_laws.specs.Scene as scene
 use Rattle.ww_refines.specs.Moment.{Moment, Acts}
 use Rattle.ww_refines.specs.Moves.{OthersStay, StepsThere, Reads, Follows}
 use Rattle.ww_refines.proofs.Standstill.{idles}

@@ -3,7 +3,7 @@ use Rattle.std.proofs.Common.{◌≡◌, ℕ, not, false, true≢false, List, Op
 use Rattle.std.specs.Arc.{arc_value}
 use Rattle.ww_model.proofs.Outcomes.{number_same}
 use Rattle.ww_table.specs.declared.board.Board.{Board}
-use Rattle.ww_wakes.specs.Scene.{Step}
+use Rattle.ww_laws.specs.Scene.{Step}
 use Rattle.ww_invariant.specs.declared.cells.Start.{Start}
 use Rattle.ww_refines.specs.Naps.{ArePlaysOf, is_to_sleep, HaveNone, WaitsOutside}
 use Rattle.ww_refines.proofs.Napping.{naps_are_last}

@@ -6,7 +6,7 @@ use Rattle.ww_model.specs.Event.{actor}
 use Rattle.ww_view.specs.declared.view.View.{View}
 use Rattle.ww_view.specs.View.{owns}
 use Rattle.ww_invariant.specs.declared.cells.Start.{Start}
-use Rattle.ww_wakes.specs.Scene.{performs}
+use Rattle.ww_laws.specs.Scene.{performs}
 use Rattle.ww_refines.proofs.Passing.{owners_hand_over_in_runs}
 use Rattle.ww_drives.specs.Stages.{Stage}
 use Rattle.ww_drives.specs.Deeds.{steps, IsDriven}

@@ -8,7 +8,7 @@ use Rattle.ww_invariant.specs.declared.cells.Sight.{Sight}
 use Rattle.ww_invariant.specs.declared.cells.Start.{Start}
 use Rattle.ww_invariant.specs.Layout.{words_for, slots_for}
 use Rattle.ww_invariant.specs.Rule.{St, first_part, places_for}
-use Rattle.ww_wakes.specs.Scene.{Step}
+use Rattle.ww_laws.specs.Scene.{Step}
 use Rattle.ww_refines.specs.Moment as runs
 use Rattle.ww_refines.specs.Moment.{Moment}
 use Rattle.ww_refines.proofs.Pictures.{Picture, At, Next, Beside, nobody, first_picture, IsSeated, part_is}

@@ -11,7 +11,7 @@ use Rattle.ww_invariant.specs.declared.cells.Sight.{Sight}
 use Rattle.ww_invariant.specs.declared.cells.Start.{Start}
 use Rattle.ww_invariant.specs.Layout.{stamp_at}
 use Rattle.ww_invariant.specs.Steps.{drawing, knowing}
-use Rattle.ww_wakes.specs.Scene.{Step, performs}
+use Rattle.ww_laws.specs.Scene.{Step, performs}
 use Rattle.ww_refines.proofs.Pictures.{Picture, At, Next, IsSeated, begins_as, locks_as, misses_as, missed, ComesToWait}
 use Rattle.ww_seat.specs.Calls.{HasStayedOut}
 use Rattle.ww_seat.specs.declared.look.Arrival.TheVariants.{Came}

@@ -2,7 +2,7 @@
 use Rattle.std.specs.Prelude.{ℕ, ◌≡◌, ◌<◌, ◌+◌, ◌-◌, Bool, true, false, List, Option, Some, Result}
 use Rattle.ww_model.specs.State.{put}
 use Rattle.ww_invariant.specs.declared.cells.Start.{Start}
-use Rattle.ww_wakes.specs.Scene.{Step}
+use Rattle.ww_laws.specs.Scene.{Step}
 use Rattle.ww_invariant.specs.Rule.{wakes_owed}
 use Rattle.ww_refines.specs.Moment.{Moment, view, Acts, HasLeftToWait}
 use Rattle.ww_refines.specs.Moves.{StepsThere, Reads, Follows}

@@ -5,7 +5,7 @@ use Rattle.ww_plain.specs.Numbers.{is_among}
 use Rattle.ww_model.specs.declared.event.Event.TheVariants.{Fast, FastGive, Take, Give}
 use Rattle.ww_view.specs.View.{owns}
 use Rattle.ww_invariant.specs.declared.cells.Start.{Start}
-use Rattle.ww_wakes.specs.Scene.{performs}
+use Rattle.ww_laws.specs.Scene.{performs}
 use Rattle.ww_steps.specs.Situations.{Situation}
 use Rattle.ww_drives.specs.Stages.{Stage, IsDesk}
 use Rattle.ww_drives.specs.Deeds.{Deed, steps}

@@ -6,10 +6,10 @@ use Rattle.atomic_table.specs.Seated.{TableId}
 use Rattle.ww_model.specs.State.{start}
 use Rattle.ww_invariant.specs.declared.cells.Start.{Start}
 use Rattle.ww_invariant.specs.Rule.{St, Ruled, first_part, places_for}
-use Rattle.ww_wakes.specs.Scene.{Step, performs}
-use Rattle.ww_wakes.specs.Scene as scene
-use Rattle.ww_live.specs.Premises.{InTheEnd}
-use Rattle.ww_live.specs.Theorem.{AreDeadlocked}
+use Rattle.ww_laws.specs.Scene.{Step, performs}
+use Rattle.ww_laws.specs.Scene as scene
+use Rattle.ww_laws.specs.Premises.{InTheEnd}
+use Rattle.ww_laws.specs.GoingOn.{AreDeadlocked}
 use Rattle.ww_refines.specs.Moment.{core, view, HasToWake, Acts, HasLeftToWait, IsToldOf}
 use Rattle.ww_refines.specs.Moves.{Follows}
 use Rattle.ww_refines.specs.Naps.{ArePlaysOf, is_to_sleep, HaveNone, SleepsLast}

@@ -4,7 +4,7 @@ use Rattle.ww_queue.specs.declared.kind.Kind.{Kind}
 use Rattle.ww_model.specs.Waits.{IsOneOf}
 use Rattle.ww_invariant.specs.declared.cells.Start.{Start}
 use Rattle.ww_invariant.specs.Rule.{first_graph, places_for}
-use Rattle.ww_live.specs.Theorem.{AreDeadlocked}
+use Rattle.ww_laws.specs.GoingOn.{AreDeadlocked}
 use Rattle.ww_refines.specs.Moment.{core, view}
 use Rattle.ww_refines.specs.Deadlocks.{HoldersGoOnThere}
 use Rattle.ww_steps.specs.declared.turn.Answer.TheVariants.{Deadlk}

@@ -1,3 +1,4 @@
+-- the core
 pub mod Condemned
 pub mod Moves
 pub mod Oldest
@@ -9,3 +10,36 @@ pub mod Taking
 pub mod Joining
 pub mod Tests
 pub mod Reaching
+-- the core with its sleepers
+pub mod Woken
+pub mod Keeping
+pub mod Walks
+pub mod Endless
+pub mod Calls
+pub mod AtRest
+pub mod Examples
+pub mod EndlessExamples
+-- endless runs of these
+pub mod Steps
+pub mod Runs
+pub mod Links
+pub mod Climbs
+pub mod Deadlocks
+pub mod Dues
+pub mod Leaves
+pub mod Progress
+pub mod Handoff
+pub mod Plain
+pub mod Witness
+pub mod Ahead
+pub mod Rests
+pub mod Served
+pub mod OldestServed
+pub mod Livelock
+pub mod Asked
+pub mod Ending
+pub mod Viewed
+pub mod Contexts
+pub mod Idle
+pub mod Passing
+pub mod Deaths

@@ -19,7 +19,7 @@ use Rattle.ww_invariant.specs.Steps.{knowing}
 use Rattle.ww_invariant.specs.Guards.{exiting}
 use Rattle.ww_invariant.specs.Waiting.{joining}
 use Rattle.ww_invariant.specs.Cancels.{cancelling, heeding, stopping}
-use Rattle.ww_wakes.specs.Scene.{Step, performs}
+use Rattle.ww_laws.specs.Scene.{Step, performs}
 use Rattle.ww_invariant.specs.Rule.{wakes_owed}
 use Rattle.ww_refines.specs.Moment.{Moment, view, HasToWake}
 use Rattle.ww_refines.specs.Moves.{Follows}

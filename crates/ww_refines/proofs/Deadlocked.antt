@@ -18,7 +18,7 @@ use Rattle.ww_invariant.specs.Steps.{knowing}
 use Rattle.ww_invariant.specs.Guards.{exiting}
 use Rattle.ww_invariant.specs.Waiting.{joining}
 use Rattle.ww_invariant.specs.Signs.{condemning}
-use Rattle.ww_wakes.specs.Scene.{performs, leaves_to_sleep, finds_no_sign, wakes, falls_asleep}
+use Rattle.ww_laws.specs.Scene.{performs, leaves_to_sleep, finds_no_sign, wakes, falls_asleep}
 use Rattle.ww_refines.specs.Plays as play
 use Rattle.ww_refines.proofs.Pictures.{Picture, Next, Beside, rung_by, asleep_by, played, waking, parking, seated, acting, word_there, plays_then, wakes_then, parks_then, list_out, locks_as, locks_then, gone_in, ComesToWait, waits_as, comes_to_wait, exits_as, sleeps_then}
 use Rattle.ww_refines.proofs.Small.{least, small, AreSeated, nothing_owed, owner, is_valid, first_not_second, second_not_first, holder_2, waiter_1, p_4, first_locks}

@@ -17,10 +17,10 @@ use Rattle.ww_invariant.specs.Rule.{St, wakes_owed}
 use Rattle.ww_invariant.specs.Guards.{exiting}
 use Rattle.ww_invariant.specs.Waiting.{dying}
 use Rattle.ww_invariant.proofs.Fits.{place_low}
-use Rattle.ww_wakes.specs.Scene.{Step, performs}
-use Rattle.ww_live.specs.Premises.{InTheEnd}
-use Rattle.ww_live.specs.Theorem.{AreDeadlocked}
-use Rattle.ww_live.proofs.Deadlocks.{are_deadlocked}
+use Rattle.ww_laws.specs.Scene.{Step, performs}
+use Rattle.ww_laws.specs.Premises.{InTheEnd}
+use Rattle.ww_laws.specs.GoingOn.{AreDeadlocked}
+use Rattle.ww_laws.proofs.Deadlocks.{are_deadlocked}
 use Rattle.ww_refines.specs.Moment.{Moment, core, view, HasToWake}
 use Rattle.ww_refines.specs.Moves.{Follows}
 use Rattle.ww_refines.specs.Deadlocks.{IsScheduledThere, HasDeadlockThere, DeadlocksAreInEndlessRuns}

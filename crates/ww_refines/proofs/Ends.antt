@@ -6,9 +6,9 @@ use Rattle.ww_model.specs.State.{State}
 use Rattle.ww_model.proofs.Puts.{put_else}
 use Rattle.ww_model.proofs.Kept.{reached_is_lawful}
 use Rattle.ww_invariant.specs.declared.cells.Start.{Start}
-use Rattle.ww_wakes.specs.Scene.{asleep, Scene, Step, finds_no_sign, next, IsReached, goes_on}
-use Rattle.ww_wakes.specs.Theorem.{WakesArrive, HasToWait}
-use Rattle.ww_wakes.proofs.Endless.{nobody_sleeps_in_vain, sleep_for_ever_is_a_wait}
+use Rattle.ww_laws.specs.Scene.{asleep, Scene, Step, finds_no_sign, next, IsReached, goes_on}
+use Rattle.ww_laws.specs.Sleepers.{WakesArrive, HasToWait}
+use Rattle.ww_laws.proofs.Endless.{nobody_sleeps_in_vain, sleep_for_ever_is_a_wait}
 use Rattle.ww_refines.specs.Moment.{Moment, core, view}
 use Rattle.ww_refines.specs.Moves.{Follows}
 use Rattle.ww_refines.specs.Runs.{IsPhase, IsSceneOf, ShowsScene, GoesAlong, HasToWaitThere}

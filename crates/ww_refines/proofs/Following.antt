@@ -15,11 +15,11 @@ use Rattle.ww_view.specs.Made.{view_after, naps_after, found_none, has_read}
 use Rattle.ww_invariant.specs.declared.cells.Part.{Part}
 use Rattle.ww_invariant.specs.declared.cells.Start.{Start}
 use Rattle.ww_invariant.specs.Rule.{times, wakes_owed}
-use Rattle.ww_wakes.specs.Scene.{Phase, acting, going_to_sleep, asleep, Scene, performs, leaves_to_sleep, finds_no_sign, finds_no_cancel, wakes, falls_asleep, rises, MayLeaveToSleep, next, woken_by, uncancelled_after, put_debt, IsReached}
-use Rattle.ww_wakes.specs.Ties.{IsInCall}
-use Rattle.ww_wakes.proofs.Woken.{owing_was, debt_was, debt_here}
-use Rattle.ww_wakes.proofs.Keeping.{guards_are_held_awake}
-use Rattle.ww_wakes.proofs.Calls.{leaving_is_a_step}
+use Rattle.ww_laws.specs.Scene.{Phase, acting, going_to_sleep, asleep, Scene, performs, leaves_to_sleep, finds_no_sign, finds_no_cancel, wakes, falls_asleep, rises, MayLeaveToSleep, next, woken_by, uncancelled_after, put_debt, IsReached}
+use Rattle.ww_laws.specs.InCall.{IsInCall}
+use Rattle.ww_laws.proofs.Woken.{owing_was, debt_was, debt_here}
+use Rattle.ww_laws.proofs.Keeping.{guards_are_held_awake}
+use Rattle.ww_laws.proofs.Calls.{leaving_is_a_step}
 use Rattle.ww_refines.specs.Moment.{Moment, core, view, HasToWake, Acts}
 use Rattle.ww_refines.specs.Moves.{cancelled_after, OthersStay, MakesEvent, Performs, LeavesToSleep, FindsNoSign, FindsNoCancel, Notes, Reads, StaysThere, Rings, Parks, Rises, StandsStill}
 use Rattle.ww_refines.specs.Runs.{IsPhase, IsSceneOf, GoesAlong, MovesAreSteps, OthersAreNone}

@@ -11,7 +11,7 @@ use Rattle.ww_invariant.specs.declared.cells.Start.{Start}
 use Rattle.ww_invariant.specs.Rule.{St, Sat}
 use Rattle.ww_invariant.specs.Steps.{nobody, first_seat, without_first, with_seat}
 use Rattle.ww_invariant.proofs.Fits.{place_low}
-use Rattle.ww_wakes.specs.Scene.{Step, leaves_to_sleep}
+use Rattle.ww_laws.specs.Scene.{Step, leaves_to_sleep}
 use Rattle.ww_refines.specs.Moment.{Moment}
 use Rattle.ww_refines.specs.Plays as play
 use Rattle.ww_refines.specs.Plays.{Plays, IsFound}

@@ -18,9 +18,9 @@ use Rattle.ww_view.specs.declared.view.View.{View}
 use Rattle.ww_view.specs.View.{Knows}
 use Rattle.ww_view.specs.Made.{view_after, with_condemned, with_heir, is_one_of}
 use Rattle.ww_invariant.specs.Rule.{times}
-use Rattle.ww_wakes.specs.Scene.{first_of, woken_by, uncancelled_after}
-use Rattle.ww_wakes.proofs.Woken.{another_was}
-use Rattle.ww_wakes.proofs.Calls.{views_tell_whom_to_wake}
+use Rattle.ww_laws.specs.Scene.{first_of, woken_by, uncancelled_after}
+use Rattle.ww_laws.proofs.Woken.{another_was}
+use Rattle.ww_laws.proofs.Calls.{views_tell_whom_to_wake}
 use Rattle.ww_refines.specs.Moves.{cancelled_after}
 
 -- ---- how often a seat stands among others

@@ -6,8 +6,8 @@ use Rattle.ww_model.specs.declared.event.Event.TheVariants.{Fast, FastGive, Take
 use Rattle.ww_model.specs.State.{State}
 use Rattle.ww_view.specs.View.{owns}
 use Rattle.ww_invariant.specs.declared.cells.Start.{Start}
-use Rattle.ww_wakes.specs.Scene.{Step, performs}
-use Rattle.ww_live.proofs.Passing.{owners_hand_over}
+use Rattle.ww_laws.specs.Scene.{Step, performs}
+use Rattle.ww_laws.proofs.Passing.{owners_hand_over}
 use Rattle.ww_refines.specs.Moment.{Moment, core, view}
 use Rattle.ww_refines.specs.Endless.{step_of}
 use Rattle.ww_refines.specs.Handing.{OwnersHandOverInRuns}

@@ -29,7 +29,7 @@ use Rattle.ww_invariant.specs.Steps.{MayDraw, taker, drawing, knowing}
 use Rattle.ww_invariant.specs.Guards.{entering, exiting}
 use Rattle.ww_invariant.specs.Waiting.{joining, dying}
 use Rattle.ww_invariant.proofs.Fits.{place_low}
-use Rattle.ww_wakes.specs.Scene.{Step, performs, leaves_to_sleep, finds_no_sign, finds_no_cancel, wakes, falls_asleep}
+use Rattle.ww_laws.specs.Scene.{Step, performs, leaves_to_sleep, finds_no_sign, finds_no_cancel, wakes, falls_asleep}
 use Rattle.ww_refines.specs.Moment.{Moment, core, HasToWake, Acts}
 use Rattle.ww_refines.specs.Moves.{StepsThere, Follows}
 use Rattle.ww_refines.specs.Runs.{IsOfRun}

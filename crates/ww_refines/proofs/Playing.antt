@@ -36,8 +36,8 @@ use Rattle.ww_invariant.proofs.Moves as moves
 use Rattle.ww_invariant.proofs.InsideMoves as inside
 use Rattle.ww_invariant.proofs.Places as places
 use Rattle.ww_invariant.proofs.Seats.{splits_on, joins_on}
-use Rattle.ww_wakes.specs.Scene.{Step, performs, leaves_to_sleep, finds_no_sign, finds_no_cancel, first_of, woken_by}
-use Rattle.ww_wakes.proofs.Woken.{another_was}
+use Rattle.ww_laws.specs.Scene.{Step, performs, leaves_to_sleep, finds_no_sign, finds_no_cancel, first_of, woken_by}
+use Rattle.ww_laws.proofs.Woken.{another_was}
 use Rattle.ww_refines.specs.Moment.{Moment, IsToldOf, core, view, Acts, HasLeftToWait}
 use Rattle.ww_refines.specs.Moves.{IsRead, IsNoted, cancelled_after, OthersStay, StepsThere, MakesEvent, Looks}
 use Rattle.ww_refines.proofs.Seating.{told_cut, told_in}

@@ -5,12 +5,12 @@ use Rattle.ww_queue.specs.Queue.{Stands}
 use Rattle.ww_model.specs.declared.event.Event.TheVariants.{Take, Die, Leave}
 use Rattle.ww_model.specs.State.{State, OwnsSome}
 use Rattle.ww_invariant.specs.declared.cells.Start.{Start}
-use Rattle.ww_wakes.specs.Scene.{Step, performs}
-use Rattle.ww_live.specs.Theorem.{EndsWait}
-use Rattle.ww_live.proofs.Oldest.{oldest_is_served}
-use Rattle.ww_live.proofs.Ending.{oldest_never_gives_way, oldest_ends}
-use Rattle.ww_live.proofs.Deaths.{backing_off_ends}
-use Rattle.ww_live.proofs.Contexts.{contexts_are_over, contexts_are_served, oldest_wait_die_is_served}
+use Rattle.ww_laws.specs.Scene.{Step, performs}
+use Rattle.ww_laws.specs.GoingOn.{EndsWait}
+use Rattle.ww_laws.proofs.OldestServed.{oldest_is_served}
+use Rattle.ww_laws.proofs.Ending.{oldest_never_gives_way, oldest_ends}
+use Rattle.ww_laws.proofs.Deaths.{backing_off_ends}
+use Rattle.ww_laws.proofs.Contexts.{contexts_are_over, contexts_are_served, oldest_wait_die_is_served}
 use Rattle.ww_refines.specs.Moment.{Moment, core}
 use Rattle.ww_refines.specs.Endless.{step_of, RunsAlong}
 use Rattle.ww_refines.specs.Contexts.{steps_of, TakesOrLeaves, EndsWaitThere, OldestNeverGivesWayInRuns, OldestIsServedInRuns, OldestEndsInRuns, ContextsAreServedInRuns, OldestWaitDieIsServedInRuns, BackingOffEndsInRuns, ContextsAreOverInRuns}

@@ -6,8 +6,8 @@ use Rattle.ww_model.specs.State.{State, put}
 use Rattle.ww_model.proofs.Puts.{put_was}
 use Rattle.ww_invariant.specs.declared.cells.Part.{Part}
 use Rattle.ww_invariant.specs.Layout.{lock_at}
-use Rattle.ww_wakes.specs.Scene.{Step, wakes, rises}
-use Rattle.ww_wakes.specs.Theorem.{IsDue}
+use Rattle.ww_laws.specs.Scene.{Step, wakes, rises}
+use Rattle.ww_laws.specs.Sleepers.{IsDue}
 use Rattle.ww_invariant.specs.Rule.{wakes_owed}
 use Rattle.ww_refines.specs.Moment.{Moment, HasToWake, HasLeftToWait}
 use Rattle.ww_refines.specs.Moves.{Follows}

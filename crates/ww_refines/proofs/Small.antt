@@ -31,7 +31,7 @@ use Rattle.ww_invariant.specs.Steps.{drawing, knowing, first_seat, without_first
 use Rattle.ww_invariant.specs.Guards.{entering, exiting}
 use Rattle.ww_invariant.specs.Waiting.{joining}
 use Rattle.ww_invariant.proofs.Seats.{opens, opens_start}
-use Rattle.ww_wakes.specs.Scene.{performs, leaves_to_sleep, finds_no_cancel}
+use Rattle.ww_laws.specs.Scene.{performs, leaves_to_sleep, finds_no_cancel}
 use Rattle.ww_refines.specs.Moment.{HasToWake}
 use Rattle.ww_refines.specs.Runs as runs
 use Rattle.ww_refines.specs.Plays as play

@@ -1,7 +1,7 @@
 -- A deadlock is no standstill.
 use Rattle.std.proofs.Common.{◌≡◌, ⊎_elim, inl, ℕ, ◌<◌, true≢false, Some, None, refl, sym, ◌∙◌, arith}
 use Rattle.ww_invariant.specs.declared.cells.Start.{Start}
-use Rattle.ww_wakes.specs.Scene.{Step}
+use Rattle.ww_laws.specs.Scene.{Step}
 use Rattle.ww_refines.specs.Moment.{Moment}
 use Rattle.ww_refines.specs.Moves.{Follows}
 use Rattle.ww_refines.specs.Runs.{IsOfRun}

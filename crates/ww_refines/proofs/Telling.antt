@@ -47,7 +47,7 @@ use Rattle.ww_invariant.specs.Cancels.{cancelling, heeding, stopping, stops, can
 use Rattle.ww_invariant.proofs.Fits.{place_low}
 use Rattle.ww_invariant.proofs.Moves as moves
 use Rattle.ww_invariant.proofs.InsideMoves as inside
-use Rattle.ww_wakes.specs.Scene.{Step, performs, finds_no_sign, finds_no_cancel}
+use Rattle.ww_laws.specs.Scene.{Step, performs, finds_no_sign, finds_no_cancel}
 use Rattle.ww_refines.specs.Moment.{Moment, core}
 use Rattle.ww_refines.specs.Plays as play
 use Rattle.ww_refines.specs.Plays.{Plays, IsFound, word, node_there}

@@ -16,12 +16,12 @@ use Rattle.ww_view.specs.View.{Knows}
 use Rattle.ww_view.specs.Made.{view_after, naps_after}
 use Rattle.ww_invariant.specs.declared.cells.Part.{Part}
 use Rattle.ww_invariant.specs.declared.cells.Start.{Start}
-use Rattle.ww_wakes.specs.Scene.{acting, going_to_sleep, Step, performs, leaves_to_sleep, finds_no_sign, finds_no_cancel, wakes, falls_asleep, rises}
-use Rattle.ww_live.specs.Premises.{IsScheduled, WaiterGoesOn, WaitersGoOn, HoldersGoOn}
-use Rattle.ww_live.specs.Theorem.{AreDeadlocked}
-use Rattle.ww_live.proofs.Asked.{who_leaves_has_asked}
-use Rattle.ww_live.proofs.Deadlocks.{no_deadlock_lasts}
-use Rattle.ww_live.proofs.Handoff.{waits_end}
+use Rattle.ww_laws.specs.Scene.{acting, going_to_sleep, Step, performs, leaves_to_sleep, finds_no_sign, finds_no_cancel, wakes, falls_asleep, rises}
+use Rattle.ww_laws.specs.Premises.{IsScheduled, WaiterGoesOn, WaitersGoOn, HoldersGoOn}
+use Rattle.ww_laws.specs.GoingOn.{AreDeadlocked}
+use Rattle.ww_laws.proofs.Asked.{who_leaves_has_asked}
+use Rattle.ww_laws.proofs.Deadlocks.{no_deadlock_lasts}
+use Rattle.ww_laws.proofs.Handoff.{waits_end}
 use Rattle.ww_refines.specs.Moment.{Moment, core, view, Acts, HasLeftToWait}
 use Rattle.ww_refines.specs.Moves.{OthersStay, Performs, Follows}
 use Rattle.ww_refines.specs.Runs.{IsPhase}

@@ -2,8 +2,8 @@
 use Rattle.std.proofs.Common.{⊎_elim, inl, inr, ℕ, Bool, true≢false, Option, Some, None, refl, sym, ap, ◌∙◌, subst, arith}
 use Rattle.ww_invariant.specs.declared.cells.Part.{Part}
 use Rattle.ww_invariant.specs.declared.cells.Start.{Start}
-use Rattle.ww_wakes.specs.Scene.{Step, first_scene, next, begins, goes_on}
-use Rattle.ww_wakes.proofs.Keeping.{no_wake_is_lost}
+use Rattle.ww_laws.specs.Scene.{Step, first_scene, next, begins, goes_on}
+use Rattle.ww_laws.proofs.Keeping.{no_wake_is_lost}
 use Rattle.ww_refines.specs.Moment.{Moment, view}
 use Rattle.ww_refines.specs.Moves.{Follows}
 use Rattle.ww_refines.specs.Runs as runs

@@ -1,4 +1,4 @@
--- Contexts are served in runs of threads. What is asked of programs is what ww_live asks, of the scenes that the moments
+-- Contexts are served in runs of threads. What is asked of programs is what ww_laws asks, of the scenes that the moments
 -- show.
 use Rattle.std.specs.Prelude.{ℕ, ◌≡◌, ◌≢◌, ◌<◌, ◌≤◌, ◌⊎◌, Option, Some}
 use Rattle.ww_queue.specs.declared.kind.Kind.TheVariants.{WoundWait, WaitDie}
@@ -6,9 +6,9 @@ use Rattle.ww_queue.specs.Queue.{Stands}
 use Rattle.ww_model.specs.declared.event.Event.TheVariants.{Sign, Take, Die, Leave}
 use Rattle.ww_model.specs.State.{OwnsSome}
 use Rattle.ww_invariant.specs.declared.cells.Start.{Start}
-use Rattle.ww_wakes.specs.Scene.{Step, performs}
-use Rattle.ww_live.specs.Backing.{OlderAreOver}
-use Rattle.ww_live.specs.Premises.{InTheEnd, HoldersRelease, IsOver, IsOldestActive, ContextsEnd, WaitsOwning, BacksOff, TakesContendedFirst, ContextsEndOrDie}
+use Rattle.ww_laws.specs.Scene.{Step, performs}
+use Rattle.ww_laws.specs.Backing.{OlderAreOver}
+use Rattle.ww_laws.specs.Premises.{InTheEnd, HoldersRelease, IsOver, IsOldestActive, ContextsEnd, WaitsOwning, BacksOff, TakesContendedFirst, ContextsEndOrDie}
 use Rattle.ww_refines.specs.Moment.{Moment, core}
 use Rattle.ww_refines.specs.Endless.{IsEndless, step_of, RunsAlong}
 use Rattle.ww_refines.specs.Deadlocks.{IsScheduledThere}

@@ -5,9 +5,9 @@ use Rattle.ww_model.specs.declared.event.Event.TheVariants.{Take, Die, Leave}
 use Rattle.ww_model.specs.Waits.{IsOneOf}
 use Rattle.ww_view.specs.View.{owns}
 use Rattle.ww_invariant.specs.declared.cells.Start.{Start}
-use Rattle.ww_wakes.specs.Scene.{Step, performs, wakes, rises}
-use Rattle.ww_live.specs.Premises.{InTheEnd, LeavesToSleep, FirstsAsk}
-use Rattle.ww_live.specs.Theorem.{AreDeadlocked}
+use Rattle.ww_laws.specs.Scene.{Step, performs, wakes, rises}
+use Rattle.ww_laws.specs.Premises.{InTheEnd, LeavesToSleep, FirstsAsk}
+use Rattle.ww_laws.specs.GoingOn.{AreDeadlocked}
 use Rattle.ww_refines.specs.Moment.{Moment, core, view, HasToWake, Acts, HasLeftToWait}
 use Rattle.ww_refines.specs.Runs.{IsOfRun}
 use Rattle.ww_refines.specs.Endless.{IsEndless, step_of, RunsAlong}

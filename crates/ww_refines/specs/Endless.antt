@@ -2,8 +2,8 @@
 use Rattle.std.specs.Prelude.{ℕ, suc, ◌≡◌, ◌<◌, ◌≤◌, true, false, Option, Some, None}
 use Rattle.ww_queue.specs.declared.kind.Kind.{Kind}
 use Rattle.ww_invariant.specs.declared.cells.Start.{Start}
-use Rattle.ww_wakes.specs.Scene.{Scene, Step, finds_no_sign, wakes, rises}
-use Rattle.ww_wakes.specs.Theorem.{IsEndlessRun}
+use Rattle.ww_laws.specs.Scene.{Scene, Step, finds_no_sign, wakes, rises}
+use Rattle.ww_laws.specs.Sleepers.{IsEndlessRun}
 use Rattle.ww_refines.specs.Moment.{Moment, HasToWake}
 use Rattle.ww_refines.specs.Moves.{Follows}
 use Rattle.ww_refines.specs.Runs.{IsSceneOf, IsOfRun, HasToWaitThere}

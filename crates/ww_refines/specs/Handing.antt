@@ -3,7 +3,7 @@ use Rattle.std.specs.Prelude.{ℕ, ◌≡◌, ◌≢◌, ◌<◌, ◌≤◌, ◌
 use Rattle.ww_model.specs.declared.event.Event.TheVariants.{Fast, FastGive, Take, Give}
 use Rattle.ww_view.specs.View.{owns}
 use Rattle.ww_invariant.specs.declared.cells.Start.{Start}
-use Rattle.ww_wakes.specs.Scene.{Step, performs}
+use Rattle.ww_laws.specs.Scene.{Step, performs}
 use Rattle.ww_refines.specs.Moment.{Moment, view}
 use Rattle.ww_refines.specs.Endless.{IsEndless}
 

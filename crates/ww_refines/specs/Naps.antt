@@ -6,7 +6,7 @@ use Rattle.ww_view.specs.declared.view.View.{View}
 use Rattle.ww_invariant.specs.declared.cells.Sight.{Sight}
 use Rattle.ww_invariant.specs.declared.cells.Start.{Start}
 use Rattle.ww_invariant.specs.Rule.{St, Sat}
-use Rattle.ww_wakes.specs.Scene.{Step, performs, leaves_to_sleep}
+use Rattle.ww_laws.specs.Scene.{Step, performs, leaves_to_sleep}
 use Rattle.ww_refines.specs.Moment.{Moment, HasLeftToWait}
 use Rattle.ww_refines.specs.Moves.{Reads}
 use Rattle.ww_refines.specs.Plays.{Plays}

@@ -30,7 +30,7 @@ use Rattle.ww_invariant.specs.Guards.{entering, exiting}
 use Rattle.ww_invariant.specs.Waiting.{joining, taking_inside, giving_inside, asking, dying}
 use Rattle.ww_invariant.specs.Signs.{condemning, clearing}
 use Rattle.ww_invariant.specs.Cancels.{cancelling, heeding, stopping}
-use Rattle.ww_wakes.specs.Scene.{Step, performs, leaves_to_sleep, finds_no_sign, finds_no_cancel, wakes, falls_asleep, rises}
+use Rattle.ww_laws.specs.Scene.{Step, performs, leaves_to_sleep, finds_no_sign, finds_no_cancel, wakes, falls_asleep, rises}
 use Rattle.ww_refines.specs.Moment.{Moment, core, Acts}
 use Rattle.ww_refines.specs.Moves.{StepsThere, Follows}
 

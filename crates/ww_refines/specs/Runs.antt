@@ -4,8 +4,8 @@ use Rattle.ww_queue.specs.Queue.{Has}
 use Rattle.ww_model.specs.State.{start}
 use Rattle.ww_invariant.specs.declared.cells.Start.{Start}
 use Rattle.ww_invariant.specs.Rule.{St, Ruled, first_sight, wakes_owed}
-use Rattle.ww_wakes.specs.Scene.{Phase, acting, going_to_sleep, asleep, Scene, Step, first_scene, May, next, IsReached}
-use Rattle.ww_wakes.specs.Theorem.{HasToWait}
+use Rattle.ww_laws.specs.Scene.{Phase, acting, going_to_sleep, asleep, Scene, Step, first_scene, May, next, IsReached}
+use Rattle.ww_laws.specs.Sleepers.{HasToWait}
 use Rattle.ww_refines.specs.Moment.{Moment, view, HasToWake, Acts, IsFirstMoment}
 use Rattle.ww_refines.specs.Moves.{Follows}
 

@@ -30,7 +30,7 @@ use Rattle.ww_invariant.specs.Guards.{enters_to, exits_to, looks_to, glances_to,
 use Rattle.ww_invariant.specs.Waiting.{tries_to, joins, takes_inside, takes_bare_inside, gives_inside, gives_bare_inside, asks, dies_to}
 use Rattle.ww_invariant.specs.Signs.{signs_to, reads_to, clears_to}
 use Rattle.ww_invariant.specs.Cancels.{cancels_to, heeds_to, leaves_to}
-use Rattle.ww_wakes.specs.Scene.{Step, performs, leaves_to_sleep, finds_no_sign, finds_no_cancel}
+use Rattle.ww_laws.specs.Scene.{Step, performs, leaves_to_sleep, finds_no_sign, finds_no_cancel}
 use Rattle.ww_refines.specs.Moment.{Moment}
 use Rattle.ww_refines.specs.Plays.{Plays, word}
 

@@ -1,0 +1,5 @@
+use Rattle.ww_laws.proofs.Calls as kept
+use Rattle.ww_laws.proofs.in_call.shown_is_a_step.Goals as goal
+
+pub returns : goal.returns
+returns c = kept.shown_is_a_step

@@ -1,0 +1,5 @@
+use Rattle.ww_laws.proofs.AtRest as kept
+use Rattle.ww_laws.proofs.in_call.start_is_in_call.Goals as goal
+
+pub returns : goal.returns
+returns c = kept.start_is_in_call

@@ -1,0 +1,5 @@
+use Rattle.ww_laws.proofs.Walks as kept
+use Rattle.ww_laws.proofs.sleepers.sleepers_await_somebody_up.Goals as goal
+
+pub returns : goal.returns
+returns c = kept.sleepers_await_somebody_up

@@ -1,0 +1,5 @@
+use Rattle.ww_laws.proofs.Viewed as kept
+use Rattle.ww_laws.proofs.viewed_runs.viewed_deadlocks_end.Goals as goal
+
+pub returns : goal.returns
+returns c = kept.viewed_deadlocks_end

@@ -1,5 +1,0 @@
-use Rattle.ww_live.proofs.Deaths as kept
-use Rattle.ww_live.proofs.backing.backing_off_ends.Goals as goal
-
-pub returns : goal.returns
-returns c = kept.backing_off_ends

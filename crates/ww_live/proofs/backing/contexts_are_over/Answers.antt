@@ -1,5 +1,0 @@
-use Rattle.ww_live.proofs.Contexts as kept
-use Rattle.ww_live.proofs.backing.contexts_are_over.Goals as goal
-
-pub returns : goal.returns
-returns c = kept.contexts_are_over

@@ -1,5 +1,0 @@
-use Rattle.ww_wakes.proofs.Walks as kept
-use Rattle.ww_wakes.proofs.theorem.sleepers_await_a_holder.Goals as goal
-
-pub returns : goal.returns
-returns c = kept.sleepers_await_a_holder

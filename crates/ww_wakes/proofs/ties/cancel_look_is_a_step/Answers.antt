@@ -1,5 +1,0 @@
-use Rattle.ww_wakes.proofs.Calls as kept
-use Rattle.ww_wakes.proofs.ties.cancel_look_is_a_step.Goals as goal
-
-pub returns : goal.returns
-returns c = kept.cancel_look_is_a_step

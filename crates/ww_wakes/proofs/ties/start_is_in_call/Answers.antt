@@ -1,5 +1,0 @@
-use Rattle.ww_wakes.proofs.Rests as kept
-use Rattle.ww_wakes.proofs.ties.start_is_in_call.Goals as goal
-
-pub returns : goal.returns
-returns c = kept.start_is_in_call
