@@ -1,7 +1,7 @@
 /*
  * The proved library for C on aarch64, as the kit's compiler (LLVM) makes it.  Written by ./build c --assembly.
  *
- * sources: ce15a6b6404f303eb70dbe97c6a0be55b06bbf3c9f0875c2e786e359d5b2667a
+ * sources: e93701fd22297a91badc1a5e822a5dbde83b131b54d4bae5c66c74aa6a2dfd02
  * kit:     rattle-kit-13f logic dac8208d650f15bf
  * proof:   logic=proved functions=66 axioms=3 target=aarch64-unknown-linux-gnu sum=dac8208d650f15bf
  */

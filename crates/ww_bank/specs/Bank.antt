@@ -1,7 +1,7 @@
 -- What a bank's threads record.
 use Rattle.std.specs.Prelude.{ℕ, List}
 use Rattle.ww_plain.specs.History.{Recorded}
-use Rattle.ww_plain_laws.specs.Totals.{is_move}
+use Rattle.ww_plain.specs.Totals.{is_move}
 use Rattle.ww_scope.specs.Crew.{OwnMeet}
 
 -- each record of the log is a `Move`

@@ -1,7 +1,7 @@
 //! Accounts, and threads that move amounts between them.
 
 ghost use Rattle.std.specs.Prelude.{◌≡◌, ◌≤◌, IfOk, []};
-ghost use Rattle.ww_plain_laws.specs.Totals.{total_of};
+ghost use Rattle.ww_plain.specs.Totals.{total_of};
 ghost use Rattle.ww_lock.specs.Holding.{IsAtHome};
 ghost use Rattle.ww_bank.specs.Bank.{OwnMoves};
 

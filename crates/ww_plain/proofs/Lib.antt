@@ -16,3 +16,5 @@ pub mod Reversals
 -- histories, and what two things that say the same are
 pub mod Histories
 pub mod Sames
+-- the total of all values
+pub mod Totals

@@ -7,3 +7,4 @@ pub mod Footprint
 pub mod Meaning
 pub mod History
 pub mod Laws
+pub mod Totals

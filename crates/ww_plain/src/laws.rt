@@ -2,6 +2,7 @@
 
 ghost use Rattle.std.specs.Prelude.{◌≡◌};
 ghost use Rattle.ww_plain.specs.Laws.{WalkIsTheOne, TransactionKeepsGraph, OnlyFootprintChanges, OnlyFootprintMatters, FootprintIsWhatConcerns, ReverseTurnsTheWalk, UnusedPortsStayEmpty, HistoryGoesOn, HistoryGrows};
+ghost use Rattle.ww_plain.specs.Totals.{MoveKeepsTotal, RefusedMoveChangesNothing, ReadsChangeNothing, OnlyAddsChangeTotal, OnlyAddsChangeTotals, MovesKeepTotal};
 
 use crate::graph::MAX_NODES;
 use crate::node::PORTS;
@@ -62,4 +63,40 @@ pub fn history_goes_on()
 /// One record more takes the next place, follows from the graph so far, and joins its caller's part alone.
 pub fn history_grows()
     ensures { HistoryGrows }
+{}
+
+/// A `Move` keeps the total, whatever it is answered.
+#[tactic(auto, using(crate::proofs::Totals::move_keeps))]
+pub fn move_keeps_total()
+    ensures { MoveKeepsTotal }
+{}
+
+/// A `Move` that is refused changes nothing.
+#[tactic(auto, using(crate::proofs::Totals::refused_keeps))]
+pub fn refused_move_changes_nothing()
+    ensures { RefusedMoveChangesNothing }
+{}
+
+/// A `Get`, a `Sum` and a `Peek` change nothing.
+#[tactic(auto, using(crate::proofs::Totals::reads_keep))]
+pub fn reads_change_nothing()
+    ensures { ReadsChangeNothing }
+{}
+
+/// Only an `Add` can change the total.
+#[tactic(auto, using(crate::proofs::Totals::others_keep))]
+pub fn only_adds_change_total()
+    ensures { OnlyAddsChangeTotal }
+{}
+
+/// A legal history without an `Add` ends with the total that it began with.
+#[tactic(auto, using(crate::proofs::Totals::history_keeps))]
+pub fn only_adds_change_totals()
+    ensures { OnlyAddsChangeTotals }
+{}
+
+/// A legal history of which each record is a `Move` ends with the total that it began with.
+#[tactic(auto, using(crate::proofs::Totals::moves_keep))]
+pub fn moves_keep_total()
+    ensures { MovesKeepTotal }
 {}

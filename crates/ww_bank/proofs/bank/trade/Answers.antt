@@ -1,7 +1,7 @@
 use Rattle.std.proofs.Common.{ap, ◌∙◌, rules}
 use Rattle.ww_plain.specs.History.{history_of}
-use Rattle.ww_plain_laws.specs.Totals.{total_of, is_move}
-use Rattle.ww_plain_laws.proofs.Totals.{moves_keep}
+use Rattle.ww_plain.specs.Totals.{total_of, is_move}
+use Rattle.ww_plain.proofs.Totals.{moves_keep}
 use Rattle.ww_bank.proofs.bank.trade.Goals as goal
 
 pub returns : goal.returns

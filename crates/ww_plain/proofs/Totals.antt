@@ -11,7 +11,7 @@ use Rattle.ww_plain.specs.Walk.{walk_of, stop_of}
 use Rattle.ww_plain.specs.Meaning.{moved, moving, turned, answer_to, graph_after}
 use Rattle.ww_plain.specs.History.{Recorded, IsLegal, last_graph}
 use Rattle.ww_plain.proofs.Members.{true_or_false, different_head}
-use Rattle.ww_plain_laws.specs.Totals.{total_of, is_move, is_add, is_read, AreMoves, HasNoAdd}
+use Rattle.ww_plain.specs.Totals.{total_of, is_move, is_add, is_read, AreMoves, HasNoAdd}
 
 -- ---- one node is changed
 
