@@ -1,6 +1,6 @@
 /*
- * moves.c - holds the library to the six moves of a driver, as crates/ww_drives states them: by these no wake-up is lost, and
- * no deadlock lasts.
+ * moves.c - holds the library to the six moves of a driver, as crates/ww_callers states them: by these no wake-up is lost,
+ * and no deadlock lasts.
  *
  *	calls d		a step of the proved library by seat d, which doesn't sleep, and of which no other step is on its way
  *	names d u	ww_next_wake_ answers u, likewise

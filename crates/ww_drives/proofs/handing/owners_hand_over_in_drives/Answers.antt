@@ -1,5 +1,0 @@
-use Rattle.ww_drives.proofs.Passing as kept
-use Rattle.ww_drives.proofs.handing.owners_hand_over_in_drives.Goals as goal
-
-pub returns : goal.returns
-returns c = kept.owners_hand_over_in_drives

@@ -1,5 +1,0 @@
-use Rattle.ww_drives.proofs.Drives as kept
-use Rattle.ww_drives.proofs.laws.no_deadlock_lasts_in_drives.Goals as goal
-
-pub returns : goal.returns
-returns c = kept.no_deadlock_lasts_in_drives
