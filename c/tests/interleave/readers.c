@@ -1,5 +1,5 @@
 /*
- * readers.c - holds the library to the moves of readers and writers, as crates/ww_readers states them (specs/Hall.antt): by these
+ * readers.c - holds the library to the moves of readers and writers, as crates/ww_protocols states them (specs/Hall.antt): by these
  * nobody reads a shared mutex that another context writes.
  *
  * The hall is kept here beside each run: who has each lock, as its word says; bits and marks, as atomic accesses left them; and what
@@ -62,7 +62,7 @@ int32_t __real_ww_look_(ww_handle *h, uint32_t lock);
 #define ASK(fact, ...)                                                                                 \
 	do {                                                                                           \
 		if (!(fact))                                                                           \
-			il_fail("no move of ww_readers: " __VA_ARGS__);                                \
+			il_fail("no move of ww_protocols: " __VA_ARGS__);                                \
 	} while (0)
 
 static char name_of(const struct mutex *m) { return (char)('a' + (m - mutexes)); }

@@ -1,5 +1,5 @@
 /*
- * seats.c - holds the library to the steps by which seats are used and kept, as crates/ww_seating states them: by these two
+ * seats.c - holds the library to the steps by which seats are used and kept, as crates/ww_protocols states them: by these two
  * threads never use one seat, and none is lost.
  *
  * Each access of a `busy` has to be one of these steps, by what was there, what is, and whose it is; the tables at the head of

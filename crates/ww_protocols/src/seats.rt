@@ -1,0 +1,23 @@
+//! A seat has one user, and none is lost.
+ghost use Rattle.ww_protocols.specs.Seats.{SeatsHaveOneUser, NobodyUsesItYet, SeatsSayWhoseTheyAre, NoSeatIsLost};
+
+/// In each reached class two users of one seat are one.
+pub fn seats_have_one_user()
+    ensures { SeatsHaveOneUser }
+{}
+
+/// Whoever comes to use a seat comes to one that nobody uses, itself included.
+pub fn nobody_uses_it_yet()
+    ensures { NobodyUsesItYet }
+{}
+
+/// A seat is BUSY just where it has a user, and IS_KEPT just where it has a keeper.
+pub fn seats_say_whose_they_are()
+    ensures { SeatsSayWhoseTheyAre }
+{}
+
+/// Where nobody is in a call of a queue, no seat is free while a thread waits, and none that tasks may claim while a task waits,
+/// unless one was called.
+pub fn no_seat_is_lost()
+    ensures { NoSeatIsLost }
+{}

@@ -1,0 +1,13 @@
+//! The theorems of seats speak of something, and need their rules.
+ghost use Rattle.ww_protocols.specs.Witness.{SuchAreReached, EachRuleMatters};
+
+/// A class is reached in which one returns a seat while its keeper, another, stops keeping it; and one at rest in which
+/// a task waits beside a seat that is free, and another was called.
+pub fn such_are_reached()
+    ensures { SuchAreReached }
+{}
+
+/// For each rule that a protocol may leave out it comes to two users of one seat, or to a seat that is lost.
+pub fn each_rule_matters()
+    ensures { EachRuleMatters }
+{}

@@ -1,4 +1,0 @@
-pub mod Changes
-pub mod Kept
-pub mod Runs
-pub mod Ways

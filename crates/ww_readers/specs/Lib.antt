@@ -1,4 +1,0 @@
-pub mod Hall
-pub mod Invariant
-pub mod Theorem
-pub mod Ways

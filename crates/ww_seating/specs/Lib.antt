@@ -1,4 +1,0 @@
-pub mod Seat
-pub mod Class
-pub mod Theorem
-pub mod Witness
