@@ -45,11 +45,11 @@ $(PROGRAM): $(ASSEMBLY) c/program.c c/ww_steps.h
 	@tools/is_of_sources $@ || true
 
 check: all
-	+@bench/check_made $(PROGRAM) '$(CROSS)' $(RUN)
+	+@checks/check_made $(PROGRAM) '$(CROSS)' $(RUN)
 
 # As programs of another processor are run.
 check-program: $(PROGRAM)
-	+@bench/check_made --program $(PROGRAM) '$(CROSS)' $(RUN)
+	+@checks/check_made --program $(PROGRAM) '$(CROSS)' $(RUN)
 
 install: all
 	install -d $(DESTDIR)$(PREFIX)/bin $(DESTDIR)$(MANDIR)/man1 $(DESTDIR)$(DOCDIR) $(DESTDIR)$(TOOLSDIR)
