@@ -20,14 +20,14 @@ find_program() {
 }
 
 # Short inputs that are refused, one a row.
-rows=cases/refused.rows
+rows=program/cases/refused.rows
 
-# The inputs of cases/ and examples/, into the array `inputs`. Each has a file beside it with what it prints, so a file
+# The inputs of program/, into the array `inputs`. Each has a file beside it with what it prints, so a file
 # that belongs to no input, or an input to which none belongs, is a slip that would leave something untried.
 find_inputs() {
     local file
     inputs=()
-    for file in cases/* examples/*; do
+    for file in program/cases/* program/examples/*; do
         case $file in
         "$rows") ;;
         *.stdout | *.status)
@@ -43,7 +43,7 @@ find_inputs() {
 }
 
 # An input that is refused, from standard input into this file, with the line that it prints and its status beside it as in
-# cases/; and into the array `inputs`.
+# program/cases; and into the array `inputs`.
 add_refused() {
     cat >"$1"
     echo "$2" >"$1.stdout"

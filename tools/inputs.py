@@ -1,4 +1,4 @@
-"""The input, read as docs/FORMATS.md says, with its first fault: written from that page, and not from the program."""
+"""The input, read as program/FORMATS.md says, with its first fault: written from that page, not from the program."""
 import collections
 import json
 import math
@@ -58,7 +58,7 @@ class Fault(Exception):
         super().__init__(f"refused {number} {FAULTS[number]}", f"{spot}: {why}" if spot else why)
 
 
-# ---- JSON, as docs/FORMATS.md says it is read
+# ---- JSON, as program/FORMATS.md says it is read
 
 
 class Number:

@@ -1,3 +1,3 @@
-"""The versions of the input, and how many ports a node has in each: `docs/FORMATS.md`, "Scripts"."""
+"""The versions of the input, and how many ports a node has in each: `program/FORMATS.md`, "Scripts"."""
 
 PORTS = {1: 4, 2: 8}
