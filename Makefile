@@ -58,8 +58,7 @@ install: all
 	install -m 644 $(PAGES) $(DESTDIR)$(DOCDIR)
 	install -m 644 c/README.md $(DESTDIR)$(DOCDIR)/C.md
 	install -m 755 $(TOOLS:%=tools/%) $(DESTDIR)$(TOOLSDIR)
-	install -m 644 tools/core.py tools/inputs.py tools/layout.py tools/options.py tools/printed.py tools/streams.py tools/versions.py \
-		$(DESTDIR)$(TOOLSDIR)
+	install -m 644 tools/command.py tools/core.py tools/inputs.py tools/printed.py $(DESTDIR)$(TOOLSDIR)
 	+$(MAKES_C) install
 	@[ -n '$(DESTDIR)' ] || echo 'Programs find libww.so after ldconfig, or with -Wl,-rpath,$(abspath $(PREFIX))/lib; pkg-config --static ww takes libww.a.'
 

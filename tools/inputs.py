@@ -5,7 +5,6 @@ import math
 import re
 
 from core import Core
-from versions import PORTS
 
 LONGEST = 1_048_576
 DEEPEST = 127
@@ -28,6 +27,8 @@ FAULTS = {
 }
 
 KINDS = ("wound-wait", "wait-die")
+# The versions, and how many ports a node has in each.
+PORTS = {1: 4, 2: 8}
 
 # The members that each word asks for, by what they are. `by` and the lists are read by the functions of these names.
 TRANSACTIONS = {
