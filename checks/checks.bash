@@ -19,17 +19,26 @@ find_program() {
     { [ -f "$program" ] && [ -x "$program" ]; } || fail "$1 is no program"
 }
 
-# Short inputs that are refused, one a row.
+# Short inputs that are refused, one a row; and those that are accepted, one a block.
 rows=program/cases/refused.rows
+blocks=program/cases/accepted.blocks
 
-# The inputs of program/, into the array `inputs`. Each has a file beside it with what it prints, so a file
-# that belongs to no input, or an input to which none belongs, is a slip that would leave something untried.
+# The inputs of program/, into the array `inputs`, those in the blocks as files of this new folder. Each has a file beside
+# it with what it prints, so a file that belongs to no input, or an input to which none belongs, is a slip that would
+# leave something untried.
 find_inputs() {
     local file
+    mkdir "$1"
+    awk -v folder="$1" '
+        /^(#|$)/ { next }
+        /^== / { close(file); file = folder "/" $2; next }
+        /^--$/ { close(file); file = file ".stdout"; next }
+        { print >file }' "$blocks"
+    [ "$(find "$1" -name '*.stdout' | wc -l)" = "$(grep -c '^== ' "$blocks")" ] || fail "$blocks: a name is there twice"
     inputs=()
-    for file in program/cases/* program/examples/*; do
+    for file in "$1"/* program/cases/* program/examples/*; do
         case $file in
-        "$rows") ;;
+        "$rows" | "$blocks") ;;
         *.stdout | *.status)
             [ -f "${file%.*}" ] || fail "$file belongs to no input"
             ;;
