@@ -73,7 +73,7 @@ void ww_crowd_open(struct ww_pool *p)
 /* ---- whether there is one ---- */
 
 /* Relaxed: a thread that sees it late begins one context more without a permit, or looks once more for one. */
-static void be(struct ww_pool *p, bool crowded) { __atomic_store_n(&p->at_hand, crowded ? CROWDED : p->id, __ATOMIC_RELAXED); }
+static void set_crowded(struct ww_pool *p, bool crowded) { __atomic_store_n(&p->at_hand, crowded ? CROWDED : p->id, __ATOMIC_RELAXED); }
 
 COLD static void begin_crowd(struct ww_pool *p)
 {
@@ -83,7 +83,7 @@ COLD static void begin_crowd(struct ww_pool *p)
 	pthread_mutex_lock(&crowd->lock);
 	if (!is_crowded(p)) {
 		ww_gate_open(&crowd->gate, said ? said : 1, said ? said : 1, said ? said : 1, said ? said : MANY_PERMITS, MANY_PERMITS);
-		be(p, true);
+		set_crowded(p, true);
 	}
 	pthread_mutex_unlock(&crowd->lock);
 }
@@ -122,7 +122,7 @@ void ww_crowd_cancel(struct ww_pool *p)
 }
 
 /* Looks at the gate, and ends a crowd that is of no use. The crowd is locked. */
-static void look(struct ww_pool *p, uint64_t now)
+static void look_at_crowd(struct ww_pool *p, uint64_t now)
 {
 	struct ww_crowd *crowd = &p->crowd;
 
@@ -136,7 +136,7 @@ static void look(struct ww_pool *p, uint64_t now)
 	}
 	__atomic_store_n(&crowd->rests, now + crowd->rest, __ATOMIC_RELAXED);
 	crowd->rest = crowd->rest < LONGEST_REST / 2 ? 2 * crowd->rest : LONGEST_REST;
-	be(p, false);
+	set_crowded(p, false);
 	call_all(crowd);
 }
 
@@ -268,7 +268,7 @@ COLD static int find_permit(struct ww_pool *p, uint64_t now, uint64_t until, boo
 	if (ww_mine.permit.id == p->id && ww_mine.permit.it && ww_mine.permit.it->ends == ww_mine.permit.ends)
 		*ww_mine.permit.it = (struct ww_permit){ .ends = now };
 	ww_mine.permit = (struct ww_my_permit){ .id = p->id };
-	look(p, now);
+	look_at_crowd(p, now);
 	call_first(crowd, now);
 	*stood = is_crowded(p) && !takes(p, now, NULL);
 	if (*stood)
@@ -291,7 +291,7 @@ static void goes_on(struct ww_pool *p, uint64_t now)
 	ww_mine.permit.at_once = now - ww_mine.permit.seen < ww_mine.permit.brief ? AT_ONCE : 0;
 	ww_mine.permit.seen = now;
 	if (now >= __atomic_load_n(&crowd->due, __ATOMIC_RELAXED) && !pthread_mutex_trylock(&crowd->lock)) {
-		look(p, now);
+		look_at_crowd(p, now);
 		call_first(crowd, now);
 		pthread_mutex_unlock(&crowd->lock);
 	}

@@ -121,12 +121,12 @@ unsigned long ww_debug_warnings(void) { return __atomic_load_n(&warnings, __ATOM
 static bool is_new(uint64_t about)
 {
 	enum { PLACES = 4096 };
-	static uint64_t told_of[PLACES];
+	static uint64_t reported[PLACES];
 
 	for (unsigned k = 0; k < PLACES; k++) {
 		uint64_t is = 0;
 
-		if (__atomic_compare_exchange_n(&told_of[(about / PLACES + k) % PLACES], &is, about, false, __ATOMIC_RELAXED, __ATOMIC_RELAXED))
+		if (__atomic_compare_exchange_n(&reported[(about / PLACES + k) % PLACES], &is, about, false, __ATOMIC_RELAXED, __ATOMIC_RELAXED))
 			return true;
 		if (is == about)
 			return false;
@@ -455,7 +455,7 @@ static void refuse(const struct ww_mutex *m, struct ww_acquire_ctx *x)
 {
 	struct watch *s = watch_of(x->own);
 
-	x->state |= WAS_TOLD;
+	x->state |= WAS_REFUSED;
 	use(s);
 	set_place(&s->asked);
 	__atomic_store_n(&s->refused, m, __ATOMIC_RELAXED);
@@ -481,7 +481,7 @@ static int injected(struct ww_mutex *m, struct ww_acquire_ctx *x)
 	return -EDEADLK;
 }
 
-int ww_debug_told(struct ww_mutex *m, struct ww_acquire_ctx *x, int r, bool injects)
+int ww_debug_result(struct ww_mutex *m, struct ww_acquire_ctx *x, int r, bool injects)
 {
 	bool anew = acquired == m; /* What it held before stays held. */
 
@@ -493,15 +493,15 @@ int ww_debug_told(struct ww_mutex *m, struct ww_acquire_ctx *x, int r, bool inje
 	else if (r == -EINVAL && injects && watch_of(x->own)->refused)
 		tell_not_released("ww_mutex_lock", x->own);
 	else if (r == -EINVAL && injects)
-		ww_debug_fault(m->pool->class_, "ww_mutex_lock", told(r));
+		ww_debug_fault(m->pool->class_, "ww_mutex_lock", reason_of(r));
 	if (r)
 		return r;
 	if (anew && x->state & IS_DONE)
 		ww_debug_fault(m->pool->class_, "ww_mutex_lock", "the context is done");
-	if (x->state & WAS_TOLD && x->contending_lock != m)
+	if (x->state & WAS_REFUSED && x->contending_lock != m)
 		tell(&faults, m->pool->class_, "ww_mutex_lock", &watch_of(x->own)->asked,
 		     "after -EDEADLK another mutex comes first than that at which it came, at");
-	x->state &= ~(unsigned)(WAS_TOLD | WAS_INJECTED);
+	x->state &= ~(unsigned)(WAS_REFUSED | WAS_INJECTED);
 	__atomic_store_n(&watch_of(x->own)->refused, NULL, __ATOMIC_RELAXED);
 	return injects && anew && x->acquired > 1 ? injected(m, x) : 0;
 }

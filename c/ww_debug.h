@@ -35,12 +35,12 @@ WW_HIDDEN void ww_debug_made(const struct ww_mutex *m);
 /* A call waits at most until this time: warns where that is hardly one of the monotonic clock. */
 WW_HIDDEN void ww_debug_time(const struct timespec *until);
 /*
- * Whether a lock call is refused: since the context was never begun, which is told here; or though the proved library would allow
+ * Whether a lock call is refused: since the context was never begun, which is reported here; or though the proved library would allow
  * it, since an -EDEADLK was made up.
  */
 WW_HIDDEN bool ww_debug_refuses(const char *call, const struct ww_mutex *m, const struct ww_acquire_ctx *x);
 /* What a lock call returns instead of r. */
-WW_HIDDEN int ww_debug_told(struct ww_mutex *m, struct ww_acquire_ctx *x, int r, bool injects);
+WW_HIDDEN int ww_debug_result(struct ww_mutex *m, struct ww_acquire_ctx *x, int r, bool injects);
 /* Whether the last -EDEADLK of the context was made up, at this mutex, and it has released all since. */
 WW_HIDDEN bool ww_debug_injected(const struct ww_mutex *m, const struct ww_acquire_ctx *x);
 /* Of ww_shared.c: a line of what somebody reads by the mutex of this number, if it is a desk's. */

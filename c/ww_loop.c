@@ -144,7 +144,7 @@ bool ww_has_for(struct ww_acquire_ctx *x, struct ww_mutex *m, bool twice)
 	return true;
 }
 
-int ww_looped(struct ww_mutex *m, struct ww_acquire_ctx *x, int r)
+int ww_result_in_loop(struct ww_mutex *m, struct ww_acquire_ctx *x, int r)
 {
 	if (r == 0)
 		become(x, owes_it(x, m) ? TRIES | IS_PRELOCKED : TRIES, 0); /* What was owed may have been released meanwhile. */
@@ -160,7 +160,7 @@ static int wait_first(struct ww_acquire_ctx *x, const struct ww_wait *how)
 	bool is_desk = __atomic_load_n(&m->waiters, __ATOMIC_RELAXED) & IS_DESK;
 	int r = ww_lock_by(m, x, x->own, how);
 
-	if (!ww_debug_told(m, x, r, false)) {
+	if (!ww_debug_result(m, x, r, false)) {
 		x->prelocked = m;
 		become(x, TRIES, is_desk ? 0 : IS_PRELOCKED);
 		if (is_desk)
@@ -180,7 +180,7 @@ int ww_lock_in_loop(struct ww_mutex *m, struct ww_acquire_ctx *x, const struct w
 		if (r || ww_has_for(x, m, false))
 			return r;
 	}
-	return ww_looped(m, x, ww_lock_by(m, x, x->own, &how));
+	return ww_result_in_loop(m, x, ww_lock_by(m, x, x->own, &how));
 }
 
 /* ---- loops ---- */

@@ -48,7 +48,7 @@ void ww_mutex_init(struct ww_mutex *m, struct ww_class *c)
 	int r = ww_mutex_init_checked(m, c);
 
 	if (UNLIKELY(r))
-		end_of(c, "ww_mutex_init", told(r));
+		end_of(c, "ww_mutex_init", reason_of(r));
 }
 
 bool ww_mutex_is_locked(struct ww_mutex *m) { return holder_of(m) || seat_of(m); }
@@ -57,7 +57,7 @@ bool ww_mutex_is_locked(struct ww_mutex *m) { return holder_of(m) || seat_of(m);
  * Makes all steps of a call after the first one.  In a forked child, a call by a seat from before the fork would wait for
  * threads that don't exist; so it makes no step.  That call never ends, and any other by the seat changes nothing: -EBUSY.
  */
-COLD static int go_on(ww_seat *s, struct ww_wait *wait, bool sleeps)
+COLD static int go_on_here(ww_seat *s, struct ww_wait *wait, bool sleeps)
 {
 	return LIKELY(!s->pool->gone) ? ww_go_on(s, wait, sleeps) : -EBUSY;
 }
@@ -67,7 +67,7 @@ COLD int ww_release_on(ww_seat *s, int r)
 {
 	has_met(s);
 	if (r > 0)
-		r = go_on(s, &(struct ww_wait){ 0 }, false);
+		r = go_on_here(s, &(struct ww_wait){ 0 }, false);
 	return is_let_go(s, r) ? 0 : r;
 }
 
@@ -207,7 +207,7 @@ COLD int ww_lock_on(struct ww_mutex *m, struct ww_acquire_ctx *x, ww_seat *s, in
 	if (is_busy)
 		r = ww_try_awake(s, m->number, &wait);
 	while (sleeps || r > 0) {
-		r = go_on(s, &wait, sleeps);
+		r = go_on_here(s, &wait, sleeps);
 		sleeps = false;
 		if (r == -EINTR)
 			ww_may_stop(s);
@@ -232,7 +232,7 @@ int ww_lock_by(struct ww_mutex *m, struct ww_acquire_ctx *x, ww_seat *s, const s
 static const char not_due[] = "no -EDEADLK of this mutex came before, or the context still holds a mutex";
 
 /* Why the first lock of a mutex gave it no number, or its class no seat. */
-static const char *told_of(const struct ww_mutex *m, int r) { return ww_class_of(m) ? told(r) : "the mutex isn't initialized"; }
+static const char *reason_of_first(const struct ww_mutex *m, int r) { return ww_class_of(m) ? reason_of(r) : "the mutex isn't initialized"; }
 
 /*
  * For a mutex and a context that don't fit: 0 once they do, or the error, and why.  A mutex that WW_MUTEX_INIT made gets its
@@ -242,12 +242,12 @@ COLD static int fit(struct ww_mutex *m, const struct ww_acquire_ctx *x, const ch
 {
 	int r = pool_at(m) ? 0 : ww_number_at_first(m);
 
-	*why = r ? told_of(m, r) : !x || x->own ? "the mutex is of another class, or isn't initialized" : "the context has ended";
+	*why = r ? reason_of_first(m, r) : !x || x->own ? "the mutex is of another class, or isn't initialized" : "the context has ended";
 	return r ? r : fits(m, x) ? 0 : -EINVAL;
 }
 
 /* The same, and reports it. */
-COLD static int fit_or_told(const char *call, struct ww_mutex *m, const struct ww_acquire_ctx *x)
+COLD static int fit_or_report(const char *call, struct ww_mutex *m, const struct ww_acquire_ctx *x)
 {
 	const char *why;
 	int r = fit(m, x, &why);
@@ -261,7 +261,7 @@ COLD static int fit_or_told(const char *call, struct ww_mutex *m, const struct w
  * This context acquires by hand first: if its seat rested, it draws an age of its own now, unless it already holds a mutex, or
  * has met somebody, by the quick call of ww_number.h.
  */
-static void goes_by_hand(struct ww_acquire_ctx *x)
+static void draw_age_by_hand(struct ww_acquire_ctx *x)
 {
 	ww_seat *s = x->own;
 
@@ -276,10 +276,10 @@ static void goes_by_hand(struct ww_acquire_ctx *x)
 
 int ww_may_lock(const char *call, struct ww_mutex *m, struct ww_acquire_ctx *x)
 {
-	int r = ww_debug_refuses(call, m, x) ? -EINVAL : LIKELY(fits(m, x)) ? 0 : fit_or_told(call, m, x);
+	int r = ww_debug_refuses(call, m, x) ? -EINVAL : LIKELY(fits(m, x)) ? 0 : fit_or_report(call, m, x);
 
 	if (!r)
-		goes_by_hand(x);
+		draw_age_by_hand(x);
 	return r;
 }
 
@@ -292,7 +292,7 @@ static int lock(struct ww_mutex *m, struct ww_acquire_ctx *x, const struct ww_wa
 	if (r)
 		return r;
 	r = is_loop(x) ? ww_lock_in_loop(m, x, how) : ww_lock_by(m, x, x->own, how);
-	return ww_debug_told(m, x, r, true);
+	return ww_debug_result(m, x, r, true);
 }
 
 int ww_mutex_lock_else_(struct ww_mutex *m, struct ww_acquire_ctx *x)
@@ -303,7 +303,7 @@ int ww_mutex_lock_else_(struct ww_mutex *m, struct ww_acquire_ctx *x)
 int ww_mutex_lock_further_(struct ww_mutex *m, struct ww_acquire_ctx *x, int r)
 {
 	r = ww_lock_on(m, x, x->own, r, x->state & WW_INTERRUPTIBLE ? &heeds : &stays);
-	return ww_debug_told(m, x, is_loop(x) ? ww_looped(m, x, r) : r, true);
+	return ww_debug_result(m, x, is_loop(x) ? ww_result_in_loop(m, x, r) : r, true);
 }
 
 /*
@@ -317,7 +317,7 @@ static int lock_slowly(struct ww_mutex *m, struct ww_acquire_ctx *x, bool heeds,
 	if (!x || !fits(m, x))
 		return -EINVAL;
 	r = ww_lock_by(m, x, x->own, &(struct ww_wait){ .slowly = !ww_debug_injected(m, x), .heeds = heeds, .until = until });
-	return ww_debug_told(m, x, is_loop(x) ? ww_looped(m, x, r) : r, false);
+	return ww_debug_result(m, x, is_loop(x) ? ww_result_in_loop(m, x, r) : r, false);
 }
 
 int ww_mutex_lock_slow_checked(struct ww_mutex *m, struct ww_acquire_ctx *x) { return lock_slowly(m, x, false, NULL); }
@@ -398,7 +398,7 @@ int ww_mutex_lock_alone_(struct ww_mutex *m)
 	int r = lock_alone(m, &stays);
 
 	if (UNLIKELY(r))
-		end_of(ww_class_of(m), "ww_mutex_lock", told_of(m, r));
+		end_of(ww_class_of(m), "ww_mutex_lock", reason_of_first(m, r));
 	return 0;
 }
 
@@ -442,13 +442,13 @@ int ww_try_by(struct ww_mutex *m, struct ww_acquire_ctx *x)
 {
 	int r;
 
-	goes_by_hand(x);
+	draw_age_by_hand(x);
 	r = ww_try_(&x->own->handle, m->number);
 	if (r)
 		return r == -EALREADY && ww_has_for(x, m, false) ? 0 : r;
 	own(m, x, NULL);
-	(void)ww_debug_told(m, x, 0, false);
-	return is_loop(x) ? ww_looped(m, x, 0) : 0;
+	(void)ww_debug_result(m, x, 0, false);
+	return is_loop(x) ? ww_result_in_loop(m, x, 0) : 0;
 }
 
 int ww_mutex_trylock_else_(struct ww_mutex *m, struct ww_acquire_ctx *x)
@@ -464,7 +464,7 @@ int ww_mutex_trylock(struct ww_mutex *m, struct ww_acquire_ctx *x) { return ww_m
 
 int ww_mutex_trylock_checked(struct ww_mutex *m, struct ww_acquire_ctx *x)
 {
-	int r = fit_or_told("ww_mutex_trylock", m, x);
+	int r = fit_or_report("ww_mutex_trylock", m, x);
 
 	return r ? r : x ? !ww_try_by(m, x) : try_alone(m);
 }

@@ -111,7 +111,7 @@ struct ww_mutex *ww_number_asked(const char *call, uint32_t number, const struct
 }
 
 /* What a lock call returned; only in a loop the mutex goes on saying who holds it. */
-int ww_number_told(struct ww_mutex *m, const struct ww_acquire_ctx *x, int r)
+int ww_number_result(struct ww_mutex *m, const struct ww_acquire_ctx *x, int r)
 {
 	if (!is_loop(x) && __atomic_load_n(&m->ctx, __ATOMIC_RELAXED) == x)
 		__atomic_store_n(&m->ctx, NULL, __ATOMIC_RELAXED);
@@ -125,7 +125,7 @@ int ww_number_lock_further_(uint32_t number, struct ww_acquire_ctx *x, int r)
 
 	if (!m)
 		return -EINVAL;
-	return ww_number_told(m, x, r == -EINVAL ? ww_mutex_lock(m, x) : ww_mutex_lock_further_(m, x, r));
+	return ww_number_result(m, x, r == -EINVAL ? ww_mutex_lock(m, x) : ww_mutex_lock_further_(m, x, r));
 }
 
 int ww_number_lock(uint32_t number, struct ww_acquire_ctx *x) { return ww_number_lock_further_(number, x, -EINVAL); }
@@ -134,14 +134,14 @@ int ww_number_lock_until(uint32_t number, struct ww_acquire_ctx *x, const struct
 {
 	struct ww_mutex *m = ww_number_asked("ww_number_lock_until", number, x, 0);
 
-	return m ? ww_number_told(m, x, ww_mutex_lock_until(m, x, until)) : -EINVAL;
+	return m ? ww_number_result(m, x, ww_mutex_lock_until(m, x, until)) : -EINVAL;
 }
 
 int ww_number_trylock(uint32_t number, struct ww_acquire_ctx *x)
 {
 	struct ww_mutex *m = ww_number_asked("ww_number_trylock", number, x, 0);
 
-	return m ? ww_number_told(m, x, ww_mutex_trylock(m, x)) : 0;
+	return m ? ww_number_result(m, x, ww_mutex_trylock(m, x)) : 0;
 }
 
 int ww_number_trylock_else_(uint32_t number, struct ww_acquire_ctx *x) { return ww_number_trylock(number, x); }

@@ -26,7 +26,7 @@ static int poll_on(struct ww_mutex *m, struct ww_acquire_ctx *x, const struct ww
 	if (r == -EINPROGRESS)
 		return r;
 	x->state &= ~(unsigned)IS_POLLED;
-	return ww_debug_told(m, x, r, true);
+	return ww_debug_result(m, x, r, true);
 }
 
 static int first_poll(struct ww_mutex *m, struct ww_acquire_ctx *x, const struct ww_waker *waker)
@@ -52,23 +52,23 @@ int ww_mutex_lock_poll(struct ww_mutex *m, struct ww_acquire_ctx *x, const struc
 }
 
 /* If it waits, another thread may already use the context. */
-static int told_of_number(struct ww_mutex *m, struct ww_acquire_ctx *x, int r)
+static int result_of_number(struct ww_mutex *m, struct ww_acquire_ctx *x, int r)
 {
-	return r == -EINPROGRESS ? r : ww_number_told(m, x, r);
+	return r == -EINPROGRESS ? r : ww_number_result(m, x, r);
 }
 
 int ww_number_lock_poll(uint32_t number, struct ww_acquire_ctx *x, const struct ww_waker *waker)
 {
 	struct ww_mutex *m = ww_number_asked("ww_number_lock_poll", number, x, 0);
 
-	return m ? told_of_number(m, x, ww_mutex_lock_poll(m, x, waker)) : -EINVAL;
+	return m ? result_of_number(m, x, ww_mutex_lock_poll(m, x, waker)) : -EINVAL;
 }
 
 int ww_number_lock_poll_further_(uint32_t number, struct ww_acquire_ctx *x, const struct ww_waker *waker, int r)
 {
 	struct ww_mutex *m = ww_number_asked("ww_number_lock_poll", number, x, r);
 
-	return m ? told_of_number(m, x, poll_on(m, x, waker, r)) : -EINVAL;
+	return m ? result_of_number(m, x, poll_on(m, x, waker, r)) : -EINVAL;
 }
 
 /* ---- contexts ---- */

@@ -47,7 +47,7 @@
  * (use_kept), and the load by the thread that frees the class, acquire.  Else all is sequentially consistent, so one of these
  * two sees the other:
  *
- *	a user that is through (ww_give_seat)	one that seeks a seat (ww_queue_up, look)
+ *	a user that is through (ww_give_seat)	one that seeks a seat (ww_queue_up, look_for_seat)
  *	busy = 0				seekers++, or called = 0
  *	seekers, called?			busy of each seat?
  */
@@ -563,7 +563,7 @@ static struct ww_seek **place_of(struct ww_seats *of, const struct ww_seek *it)
  * called.  It gets a seat, or waits again, or it is to look once more, when its loop comes round: then its own waker is called.
  * The queue is locked.
  */
-static struct ww_waker look(struct ww_seats *of, struct ww_seek *me, const struct ww_waker *again)
+static struct ww_waker look_for_seat(struct ww_seats *of, struct ww_seek *me, const struct ww_waker *again)
 {
 	bool looks_on = of->looks++ < LOOKS && !ww_ends_waits(of->pool);
 	ww_seat *s;
@@ -588,7 +588,7 @@ bool ww_is_served(struct ww_seek *me, const struct ww_waker *otherwise)
 	pthread_mutex_lock(&p->queue);
 	me->waker_ = (struct ww_waker){ 0 };
 	if (me->served_ == CALLED)
-		waker = look(me->of_, me, otherwise);
+		waker = look_for_seat(me->of_, me, otherwise);
 	if (me->served_ != SERVED && ww_ends_waits(p))
 		waker = hand_to(me->of_, place_of(me->of_, me), NULL);
 	served = me->served_ == SERVED;
@@ -642,7 +642,7 @@ const struct timespec *ww_says_if_long(struct ww_pool *p, const struct timespec 
 
 	if (until || !ww_patience())
 		return until;
-	if (is_long(next) && !__atomic_exchange_n(&p->is_told_of_lock, true, __ATOMIC_RELAXED)) {
+	if (is_long(next) && !__atomic_exchange_n(&p->is_lock_reported, true, __ATOMIC_RELAXED)) {
 		snprintf(why, sizeof why, "it has lasted %u seconds; libww_debug says where its holder began", ww_patience());
 		say_of(p->class_, "a wait for a mutex", why);
 	}
@@ -651,7 +651,7 @@ const struct timespec *ww_says_if_long(struct ww_pool *p, const struct timespec 
 #endif
 
 /* A context that is left without ww_acquire_fini keeps its seat. */
-static void tell_leak(const struct ww_seats *of)
+static void report_leak(const struct ww_seats *of)
 {
 	const struct ww_pool *p = of->pool;
 	char why[128];
@@ -670,7 +670,7 @@ static bool is_stuck(struct ww_seats *of, struct timespec *next, uint64_t *seen)
 	if (!is_long(next) && waits_on)
 		return false;
 	*seen = served;
-	return waits_on && served == before && !__atomic_exchange_n(&of->pool->is_told, true, __ATOMIC_RELAXED);
+	return waits_on && served == before && !__atomic_exchange_n(&of->pool->is_reported, true, __ATOMIC_RELAXED);
 }
 
 /* No thread of theirs sleeps, so the next task that comes to wait looks whether the wait of those before is long. The queue is locked. */
@@ -709,7 +709,7 @@ bool ww_queue_up(struct ww_seek *me)
 	}
 	pthread_mutex_unlock(&p->queue);
 	if (is_long_wait)
-		tell_leak(of);
+		report_leak(of);
 	return served;
 }
 
@@ -729,7 +729,7 @@ COLD int ww_seek_seat(struct ww_pool *p, const struct timespec *until, bool heed
 			break;
 		if (ww_patience() && !until) {
 			if (is_stuck(&p->threads, &next, &seen))
-				tell_leak(&p->threads);
+				report_leak(&p->threads);
 			end = &next;
 		}
 		ww_futex_wait(&me.served_, 0, end);
@@ -968,8 +968,8 @@ static int make_pool(struct ww_class *c, uint32_t may_keep, struct ww_pool **mad
 	p->fresh = p->free = 0;
 	__atomic_store_n(&p->is_large, false, __ATOMIC_RELAXED);
 	__atomic_store_n(&p->ends_waits, false, __ATOMIC_SEQ_CST);
-	__atomic_store_n(&p->is_told, false, __ATOMIC_RELAXED);
-	__atomic_store_n(&p->is_told_of_lock, false, __ATOMIC_RELAXED);
+	__atomic_store_n(&p->is_reported, false, __ATOMIC_RELAXED);
+	__atomic_store_n(&p->is_lock_reported, false, __ATOMIC_RELAXED);
 	ww_crowd_open(p);
 	p->below = calloc(p->locks, sizeof *p->below);
 	p->seats = aligned_alloc(_Alignof(ww_seat), (seats_of(p) + SPARE) * sizeof *p->seats);

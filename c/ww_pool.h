@@ -23,7 +23,7 @@
  *	taken fresh free below	pool	who takes and gives one, likewise			numbers-4
  *	kept changed	pool		who comes to keep a seat or lets one go, under `opening`	kept-end-3
  *	ends_waits	pool		who cancels the class					class-cancel
- *	is_told is_told_of_lock	pool	who waits for long					mutex_leaks
+ *	is_reported is_lock_reported	pool	who waits for long					mutex_leaks
  *	next		pool		who opens and frees a class, under `opening`		free-3
  *	seekers called	seats		who waits, or hands a seat over, under `queue`		tasks-late-held
  *	sought served looks	seats	likewise						contexts-3
@@ -164,7 +164,7 @@ struct ww_pool {
 	struct ww_seats threads, tasks;
 	pthread_mutex_t queue; /* the lock of both queues */
 	bool ends_waits;       /* all that something may end, for good */
-	bool is_told, is_told_of_lock; /* it was said that all contexts of threads have been in use for long; that a wait for a mutex is long */
+	bool is_reported, is_lock_reported; /* it was said that all contexts of threads have been in use for long; that a wait for a mutex is long */
 	/*
 	 * Of the numbers of `mutexes` mutexes the first `fresh` were given out at least once.  Those of them that are free again
 	 * are in a list: `free` is the first one plus one, and `below` has the next one of each, likewise.  The words of four
@@ -264,7 +264,7 @@ WW_HIDDEN int ww_begin_by(struct ww_acquire_ctx *x, ww_seat *s, int r);
 WW_HIDDEN int ww_may_lock(const char *call, struct ww_mutex *m, struct ww_acquire_ctx *x);
 /* The mutex of a number, and what its lock call returns: see ww_number.c. */
 WW_HIDDEN struct ww_mutex *ww_number_asked(const char *call, uint32_t number, const struct ww_acquire_ctx *x, int r);
-WW_HIDDEN int ww_number_told(struct ww_mutex *m, const struct ww_acquire_ctx *x, int r);
+WW_HIDDEN int ww_number_result(struct ww_mutex *m, const struct ww_acquire_ctx *x, int r);
 /* After how many seconds a wait is long; 0: never. */
 WW_HIDDEN uint32_t ww_patience(void);
 /* How many processors this thread may use, at most MANY_PERMITS. */
@@ -474,7 +474,7 @@ enum {
 	WAITS_FIRST = 8,
 	TRIES = HAS_TO_BACK_OFF | WAITS_FIRST,
 	IS_DONE = 16, /* which no call but ww_acquire_done itself refuses */
-	WAS_TOLD = 32,
+	WAS_REFUSED = 32,
 	WAS_INJECTED = 64,
 	IS_POLLED = 128, /* a lock call of ww_poll.h waits, for `polled` */
 	IS_PRELOCKED = 256, /* the context has waited for `prelocked` before the body asked for that, as it has yet to do */
@@ -484,7 +484,7 @@ enum {
 static inline bool is_polled(const struct ww_acquire_ctx *x) { return UNLIKELY(x->state & IS_POLLED); }
 #define WAITS_BY_POLL "the context waits by a poll"
 
-/* In a forked child a call by the seat never ends (go_on of ww_mutex.c), so each further one returns -EBUSY. */
+/* In a forked child a call by the seat never ends (go_on_here of ww_mutex.c), so each further one returns -EBUSY. */
 static inline bool is_let_go(const ww_seat *s, int r) { return r == -EBUSY && s->pool->gone; }
 
 /* In ww_until_all_locked, or after it: the context retries by itself, and what it acquired is listed. */
@@ -514,7 +514,7 @@ WW_HIDDEN int ww_try_by(struct ww_mutex *m, struct ww_acquire_ctx *x);
 /* Locks in a loop. */
 WW_HIDDEN int ww_lock_in_loop(struct ww_mutex *m, struct ww_acquire_ctx *x, const struct ww_wait *how);
 /* What a lock call in a loop returns, if the proved library returned r. */
-WW_HIDDEN int ww_looped(struct ww_mutex *m, struct ww_acquire_ctx *x, int r);
+WW_HIDDEN int ww_result_in_loop(struct ww_mutex *m, struct ww_acquire_ctx *x, int r);
 /* Locks each of a list, up to the first one that fails. */
 typedef int ww_locks_each(struct ww_acquire_ctx *x, const void *locks, size_t count);
 /*
@@ -548,7 +548,7 @@ static inline void unlist(struct ww_acquire_ctx *x, const struct ww_mutex *m)
 #define ww_debug_fault(c, call, why) ((void)(c), (void)(call), (void)(why))
 #define ww_debug_unheld(m) ((void)(m), false)
 #define ww_debug_refuses(call, m, x) false
-#define ww_debug_told(m, x, r, injects) (r)
+#define ww_debug_result(m, x, r, injects) (r)
 #define ww_debug_injected(m, x) false
 #define ww_debug_lists() false
 #endif
@@ -577,7 +577,7 @@ __attribute__((noreturn, cold)) static inline void end_of(const struct ww_class 
 __attribute__((noreturn, cold)) static inline void end(const char *call, const char *why) { end_of(NULL, call, why); }
 
 /* A message for an error: why a class gave no number or no seat. */
-static inline const char *told(int r)
+static inline const char *reason_of(int r)
 {
 	switch (r) {
 	case -ENOMEM: return "there is no memory to open it";

@@ -670,7 +670,7 @@ int ww_number_lock_exclusive(uint32_t number, uint64_t *readers, struct ww_acqui
 {
 	struct ww_mutex *m = ww_number_asked("ww_number_lock_exclusive", number, x, 0);
 
-	return m ? ww_number_told(m, x, write_by(m, readers, x, (struct limit){ ENDS, { until } })) : -EINVAL;
+	return m ? ww_number_result(m, x, write_by(m, readers, x, (struct limit){ ENDS, { until } })) : -EINVAL;
 }
 
 int ww_number_lock_shared_poll(uint32_t number, uint64_t *readers, struct ww_acquire_ctx *x, const struct ww_waker *waker)
@@ -686,7 +686,7 @@ int ww_number_lock_exclusive_poll(uint32_t number, uint64_t *readers, struct ww_
 	struct ww_mutex *m = ww_number_asked("ww_number_lock_exclusive_poll", number, x, 0);
 	int r = m ? write_poll(m, readers, x, waker) : -EINVAL;
 
-	return m && r != -EINPROGRESS ? ww_number_told(m, x, r) : r;
+	return m && r != -EINPROGRESS ? ww_number_result(m, x, r) : r;
 }
 
 bool ww_number_is_read(uint32_t number, const struct ww_acquire_ctx *x)

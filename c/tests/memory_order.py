@@ -298,7 +298,7 @@ TABLE = {
         "comes_along": "store rlx", "await_polled": "store rlx", "read_poll": "store rlx",
         "ww_mutex_is_held_by": "load rlx", "WW_HOLDS_": "store rlx", "WW_HOLDS_NO_MORE_": "store rlx",
         "ww_mutex_unlock": "load rlx", "holder_of": "load rlx", "own": "store rlx", "release_all": "store rlx",
-        "ww_mutex_unlock_checked": "store rlx", "ww_number_told": "load rlx, store rlx", "ww_number_unlock": "store rlx",
+        "ww_mutex_unlock_checked": "store rlx", "ww_number_result": "load rlx, store rlx", "ww_number_unlock": "store rlx",
     },
     # By it others look who uses the seat, which was said before.
     "alone": {"seat_of": "load acq", "own": "store rel", "unlock_alone": "store rlx"},
@@ -355,14 +355,14 @@ TABLE = {
         "give_shared": "fetch_add sc", "hands_over": "fetch_add sc", "given": "load rlx", "ww_class_stats": "load rlx",
     },
     # Who was called says first that nobody is, and then looks for a seat; whoever gives one looks the other way round.
-    "called": {"call_first": "store sc", "give_shared": "load sc", "look": "store sc"},
+    "called": {"call_first": "store sc", "give_shared": "load sc", "look_for_seat": "store sc"},
     # Written under the lock of the queue. Who claims a seat by an older limit does what it might have done before.
     "limit": {"look_at_gate": "store sc", "open_seats": "load sc", "claim_from": "load sc"},
     # Hints: whoever sees them late waits for a permit without need, for a while, or begins without one.
     "at_hand": {
-        "seat_at_hand": "load rlx", "ww_other_seat": "load rlx", "is_crowded": "load rlx", "be": "store rlx", "set_id": "store rlx",
+        "seat_at_hand": "load rlx", "ww_other_seat": "load rlx", "is_crowded": "load rlx", "set_crowded": "store rlx", "set_id": "store rlx",
     },
-    "rests": {"ww_crowd_open": "store rlx", "ww_has_waited": "load rlx", "look": "store rlx"},
+    "rests": {"ww_crowd_open": "store rlx", "ww_has_waited": "load rlx", "look_at_crowd": "store rlx"},
     # Hints for who stays awake, for a while at most.
     "awaits": {
         "begin_wait": "store rlx", "end_wait": "store rlx", "is_in_cycle": "load rlx",
@@ -370,14 +370,14 @@ TABLE = {
     # Written under the crowd's lock, and a word for the futex to look at.
     "is_called": {"call": "store rlx", "stand_in_line": "store rlx"},
     # A count for the gate.
-    "begun": {"ww_await_permit": "fetch_add rlx", "look": "load rlx"},
+    "begun": {"ww_await_permit": "fetch_add rlx", "look_at_crowd": "load rlx"},
     "awaited": {"ww_crowd_open": "store rlx", "ww_class_stats": "load rlx"},
     # Whoever frees a class at 0 sees the seats, in use, of those that stood in the line.
     "waiting": {"join": "add_fetch rlx", "ww_has_begun": "sub_fetch rel", "permit_seekers": "load acq"},
     # To all threads but the one that it names, or named, it is the same. Who may be the next keeper is a glance before the lock.
     "keeper": {"give_seat": "load rlx", "let_go": "store rlx", "keep": "store rlx"},
     # How many seats are kept, a hint; whoever sees that it didn't change between two passes saw in both that the same were.
-    "kept": {"keeps_more": "store rlx", "any_seat": "load rlx", "tell_leak": "load rlx"},
+    "kept": {"keeps_more": "store rlx", "any_seat": "load rlx", "report_leak": "load rlx"},
     "changed": {"keeps_more": "fetch_add sc", "claim_from": "load sc"},
     # Written before others see the class; whoever serves late finds nobody in the queue, or somebody who saw that.
     "id": {"set_id": "store rlx", "serve": "load rlx"},
@@ -385,7 +385,7 @@ TABLE = {
     "seekers": {"has_seekers": "load sc", "take_out": "fetch_sub sc", "ww_queue_up": "fetch_add sc", "ww_debug_seen": "load rlx, load rlx", "ww_class_stats": "load rlx, load rlx"},
     # When to look at a gate next, which is asked again under its lock.
     "due": {
-        "ww_crowd_open": "store rlx", "look": "store rlx", "goes_on": "load rlx", "open_seats_of": "store rlx", "look_at_gate": "store rlx",
+        "ww_crowd_open": "store rlx", "look_at_crowd": "store rlx", "goes_on": "load rlx", "open_seats_of": "store rlx", "look_at_gate": "store rlx",
         "look_if_due": "load rlx",
     },
     # Changed under the lock of numbers; whoever frees a class at 0 sees all that those wrote who had one.
@@ -399,8 +399,8 @@ TABLE = {
     # Said before a waiter is woken, which looks at it after it took its token away, or was taken out of the queue under its lock; or
     # before those in the line for a permit are called, which look at it under its lock.
     "ends_waits": {"make_pool": "store sc", "ww_ends_waits": "load sc", "ww_class_cancel": "store sc"},
-    "is_told": {"make_pool": "store rlx", "is_stuck": "exchange rlx"},
-    "is_told_of_lock": {"make_pool": "store rlx", "ww_says_if_long": "exchange rlx"},
+    "is_reported": {"make_pool": "store rlx", "is_stuck": "exchange rlx"},
+    "is_lock_reported": {"make_pool": "store rlx", "ww_says_if_long": "exchange rlx"},
     "patience": {"ww_report_long_waits": "store rlx", "ww_patience": "load rlx"},
     "served": {"is_stuck": "load rlx"},
     "counted": {"count": "store rlx, load rlx", "tell": "fetch_add rlx"},
@@ -411,12 +411,12 @@ TABLE = {
     },
     "is_said": {"tell_if_unseen": "exchange rlx", "trace": "exchange rlx"},
     "lies_at": {"ww_debug_made": "store rlx", "is_copy": "load rlx", "why_unheld": "load rlx, load rlx"},
-    "told_of": {"is_new": "compare_exchange rlx/rlx"},
+    "reported": {"is_new": "compare_exchange rlx/rlx"},
     "check_interval": {"ww_debug_check_interval": "store rlx", "ww_debug_waits": "load rlx", "ww_debug_sleeps": "load rlx"},
     "stamps": {"ww_debug_begun": "add_fetch rlx"},
     "endless_waits": {"ww_debug_waits": "add_fetch rlx"},
     "context": {"has": "load rlx", "ww_debug_begun": "store rlx, store rlx", "ww_debug_ended": "store rlx"},
-    "refused": {"has": "load rlx", "refuse": "store rlx", "ww_debug_told": "store rlx", "ww_debug_ended": "store rlx"},
+    "refused": {"has": "load rlx", "refuse": "store rlx", "ww_debug_result": "store rlx", "ww_debug_ended": "store rlx"},
     "stamp": {
         "use": "load rlx", "unuse_if_free": "load rlx", "has": "load rlx", "ww_debug_begun": "store rlx", "ww_debug_ended": "store rlx",
         "is_used": "load rlx", "ww_debug_leak": "load rlx, load rlx", "print_seat": "load rlx",
@@ -556,7 +556,7 @@ PLAIN = {
     "s->desk": "by: make_desk",
     "x->own": "by: ",
     # By the context's own thread, and of a class before others see it, or in a forked child.
-    "x->pool": "by: begin_core close_or_open goes_by_hand may_be_older no_more of_seat",
+    "x->pool": "by: begin_core close_or_open draw_age_by_hand may_be_older no_more of_seat",
     # By the user of a seat, and by its keeper, or whoever frees the class, once nobody uses it: all that goes with `busy`.
     "s->ages": "by: has_met may_be_older stop_rest unlock_alone_on ww_acquire_fini ww_acquire_fini_checked",
     "p->fresh": "numbers: make_pool",
