@@ -1,11 +1,20 @@
-/* ww_context.c - the contexts of ww_mutex.h: how they begin and end, how they are cancelled, and whether they hold a mutex. */
+/*
+ * ww_context.c - the contexts of ww_mutex.h: how they begin and end, how they are cancelled, and whether they hold a
+ * mutex.
+ */
 #define _GNU_SOURCE
 #define WW_NO_INLINE /* As ww_mutex.c. */
 #include "ww_pool.h"
 
-static const char *reason_at_begin(int r) { return r == -ENOSPC ? "it has begun as many contexts as it may" : reason_of(r); }
+static const char *reason_at_begin(int r)
+{
+	return r == -ENOSPC ? "it has begun as many contexts as it may" : reason_of(r);
+}
 
-/* Relaxed: a thread that cancels the context that was here before may read these, and nothing is ordered by what it reads. */
+/*
+ * Relaxed: a thread that cancels the context that was here before may read these, and nothing is ordered by what it
+ * reads.
+ */
 static inline void of_seat(struct ww_acquire_ctx *x, struct ww_pool *p, ww_seat *s)
 {
 	x->pool = p;
@@ -125,7 +134,9 @@ void ww_acquire_init(struct ww_acquire_ctx *x, struct ww_class *c)
 		init_else(x, c, p);
 }
 
-/* The proved library isn't called: as in the kernel, a lock after this is like any other; the debug library reports it. */
+/*
+ * The proved library isn't called: as in the kernel, a lock after this is like any other; the debug library reports it.
+ */
 int ww_acquire_done_checked(struct ww_acquire_ctx *x)
 {
 	if (UNLIKELY(!x->own || x->state & (IS_DONE | IS_POLLED)))
@@ -139,7 +150,8 @@ static const struct ww_class *class_of(const struct ww_acquire_ctx *x) { return 
 void ww_acquire_done(struct ww_acquire_ctx *x)
 {
 	if (UNLIKELY(ww_acquire_done_checked(x)))
-		end_of(class_of(x), "ww_acquire_done", x->own && is_polled(x) ? WAITS_BY_POLL : "the context is done, or has ended");
+		end_of(class_of(x), "ww_acquire_done",
+	       x->own && is_polled(x) ? WAITS_BY_POLL : "the context is done, or has ended");
 }
 
 int ww_acquire_fini_checked(struct ww_acquire_ctx *x)

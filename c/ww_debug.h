@@ -11,7 +11,10 @@ WW_HIDDEN void ww_debug_unended(const struct ww_acquire_ctx *x);
 WW_HIDDEN void ww_debug_polls(bool now);
 /* A task uses the seat. */
 WW_HIDDEN void ww_debug_is_polled(ww_seat *s);
-/* The seat begins to wait for the mutex, and so does this thread, unless it polls; or the wait has ended, if the mutex is NULL. */
+/*
+ * The seat begins to wait for the mutex, and so does this thread, unless it polls; or the wait has ended, if the mutex
+ * is NULL.
+ */
 WW_HIDDEN void ww_debug_waits(ww_seat *s, const struct ww_mutex *m, const struct ww_wait *wait);
 /* This thread begins to wait for a seat, likewise. */
 WW_HIDDEN void ww_debug_seeks(const struct ww_pool *p, const struct timespec *until);
@@ -35,8 +38,8 @@ WW_HIDDEN void ww_debug_made(const struct ww_mutex *m);
 /* A call waits at most until this time: warns where that is hardly one of the monotonic clock. */
 WW_HIDDEN void ww_debug_time(const struct timespec *until);
 /*
- * Whether a lock call is refused: since the context was never begun, which is reported here; or though the proved library would allow
- * it, since an -EDEADLK was made up.
+ * Whether a lock call is refused: since the context was never begun, which is reported here; or though the proved
+ * library would allow it, since an -EDEADLK was made up.
  */
 WW_HIDDEN bool ww_debug_refuses(const char *call, const struct ww_mutex *m, const struct ww_acquire_ctx *x);
 /* What a lock call returns instead of r. */
@@ -49,6 +52,8 @@ WW_HIDDEN void ww_debug_reads(const struct ww_pool *p, uint32_t number, FILE *to
 WW_HIDDEN const struct ww_pool *ww_lock_pools(void);
 WW_HIDDEN void ww_unlock_pools(void);
 
-/* Whether each list of locks is kept exactly: it has to be, since making up an -EDEADLK releases a mutex immediately. */
+/*
+ * Whether each list of locks is kept exactly: it has to be, since making up an -EDEADLK releases a mutex immediately.
+ */
 static inline bool ww_debug_lists(void) { return true; }
 #endif

@@ -15,11 +15,12 @@
  *	  |                  \-- other ---> _further_: steps and sleeps until the call can return (lock_on, ww_go_on)
  *	  \-- with NULL ---> _alone_: by the seat at hand, or any, or once there is one
  *
- * So `_else_` is what the quick way doesn't do; `_further_` (and `_on`, inside) is all after the first step; `_alone` is for
- * locks without a context; and `_checked` returns an error where the other call would end the program.
+ * So `_else_` is what the quick way doesn't do; `_further_` (and `_on`, inside) is all after the first step; `_alone`
+ * is for locks without a context; and `_checked` returns an error where the other call would end the program.
  */
 #define _GNU_SOURCE
-#define WW_NO_INLINE /* Here are the functions that may be called in place of those that ww_mutex.h compiles into its callers. */
+/* Here are the functions that may be called in place of those that ww_mutex.h compiles into its callers. */
+#define WW_NO_INLINE
 #include "ww_pool.h"
 
 _Static_assert(sizeof(struct ww_mutex) == 32, "a mutex and 32 bytes of what it guards have room in one cache line");
@@ -54,8 +55,9 @@ void ww_mutex_init(struct ww_mutex *m, struct ww_class *c)
 bool ww_mutex_is_locked(struct ww_mutex *m) { return holder_of(m) || seat_of(m); }
 
 /*
- * Makes all steps of a call after the first one.  In a forked child, a call by a seat from before the fork would wait for
- * threads that don't exist; so it makes no step.  That call never ends, and any other by the seat changes nothing: -EBUSY.
+ * Makes all steps of a call after the first one.  In a forked child, a call by a seat from before the fork would wait
+ * for threads that don't exist; so it makes no step.  That call never ends, and any other by the seat changes nothing:
+ * -EBUSY.
  */
 COLD static int go_on_here(ww_seat *s, struct ww_wait *wait, bool sleeps)
 {
@@ -72,9 +74,9 @@ COLD int ww_release_on(ww_seat *s, int r)
 }
 
 /*
- * Whether the lock of a mutex is free, by a look of the spare seat, which no context has: so it can be made even if all contexts
- * are in use.  An unlock's last access to the mutex comes before the step that releases its lock; so all former holders are
- * through with it, and what they wrote is seen here.
+ * Whether the lock of a mutex is free, by a look of the spare seat, which no context has: so it can be made even if all
+ * contexts are in use.  An unlock's last access to the mutex comes before the step that releases its lock; so all
+ * former holders are through with it, and what they wrote is seen here.
  */
 bool ww_is_released(struct ww_pool *p, struct ww_mutex *m)
 {
@@ -88,7 +90,8 @@ bool ww_is_released(struct ww_pool *p, struct ww_mutex *m)
 }
 
 /*
- * A thread that sees no waiter sees the holder that a waiter became; one that sees neither comes after an unlock's last access:
+ * A thread that sees no waiter sees the holder that a waiter became; one that sees neither comes after an unlock's last
+ * access:
  *
  *	one that waited (lock_on)	one that releases it		one that destroys it
  *	ctx or alone = its own		ctx or alone = NULL		waiters?
@@ -232,17 +235,21 @@ int ww_lock_by(struct ww_mutex *m, struct ww_acquire_ctx *x, ww_seat *s, const s
 static const char not_due[] = "no -EDEADLK of this mutex came before, or the context still holds a mutex";
 
 /* Why the first lock of a mutex gave it no number, or its class no seat. */
-static const char *reason_of_first(const struct ww_mutex *m, int r) { return ww_class_of(m) ? reason_of(r) : "the mutex isn't initialized"; }
+static const char *reason_of_first(const struct ww_mutex *m, int r)
+{
+	return ww_class_of(m) ? reason_of(r) : "the mutex isn't initialized";
+}
 
 /*
- * For a mutex and a context that don't fit: 0 once they do, or the error, and why.  A mutex that WW_MUTEX_INIT made gets its
- * number here, before its first lock.
+ * For a mutex and a context that don't fit: 0 once they do, or the error, and why.  A mutex that WW_MUTEX_INIT made
+ * gets its number here, before its first lock.
  */
 COLD static int fit(struct ww_mutex *m, const struct ww_acquire_ctx *x, const char **why)
 {
 	int r = pool_at(m) ? 0 : ww_number_at_first(m);
 
-	*why = r ? reason_of_first(m, r) : !x || x->own ? "the mutex is of another class, or isn't initialized" : "the context has ended";
+	*why = r ? reason_of_first(m, r) : x && !x->own ? "the context has ended" :
+		"the mutex is of another class, or isn't initialized";
 	return r ? r : fits(m, x) ? 0 : -EINVAL;
 }
 
@@ -258,8 +265,8 @@ COLD static int fit_or_report(const char *call, struct ww_mutex *m, const struct
 }
 
 /*
- * This context acquires by hand first: if its seat rested, it draws an age of its own now, unless it already holds a mutex, or
- * has met somebody, by the quick call of ww_number.h.
+ * This context acquires by hand first: if its seat rested, it draws an age of its own now, unless it already holds a
+ * mutex, or has met somebody, by the quick call of ww_number.h.
  */
 static void draw_age_by_hand(struct ww_acquire_ctx *x)
 {
@@ -307,8 +314,8 @@ int ww_mutex_lock_further_(struct ww_mutex *m, struct ww_acquire_ctx *x, int r)
 }
 
 /*
- * In a loop this is the wait that the loop would begin with, or isn't due.  The proved library doesn't know of an -EDEADLK
- * that the debug library made up.
+ * In a loop this is the wait that the loop would begin with, or isn't due.  The proved library doesn't know of an
+ * -EDEADLK that the debug library made up.
  */
 static int lock_slowly(struct ww_mutex *m, struct ww_acquire_ctx *x, bool heeds, const struct timespec *until)
 {
@@ -340,7 +347,10 @@ int ww_mutex_lock_slow_until(struct ww_mutex *m, struct ww_acquire_ctx *x, const
 	return r;
 }
 
-int ww_mutex_lock_slow_interruptible(struct ww_mutex *m, struct ww_acquire_ctx *x) { return ww_mutex_lock_slow_until(m, x, NULL); }
+int ww_mutex_lock_slow_interruptible(struct ww_mutex *m, struct ww_acquire_ctx *x)
+{
+	return ww_mutex_lock_slow_until(m, x, NULL);
+}
 
 /* ---- locks without one: by a seat of its own, for which it may have to wait ---- */
 
@@ -472,8 +482,8 @@ int ww_mutex_trylock_checked(struct ww_mutex *m, struct ww_acquire_ctx *x)
 /* ---- unlocks ---- */
 
 /*
- * After the step that releases the lock, another thread may own the mutex, destroy it and free its memory.  Until then nobody
- * does, since ww_mutex_destroy takes the lock.
+ * After the step that releases the lock, another thread may own the mutex, destroy it and free its memory.  Until then
+ * nobody does, since ww_mutex_destroy takes the lock.
  */
 static inline int unlock_by(struct ww_mutex *m, struct ww_acquire_ctx *x)
 {
@@ -530,7 +540,8 @@ int ww_mutex_unlock_checked(struct ww_mutex *m)
 COLD static void end_unheld(const struct ww_mutex *m, int r)
 {
 	(void)ww_debug_unheld(m);
-	end("ww_mutex_unlock", r == -EBUSY ? "the context that holds the mutex is in another call" : "nobody holds the mutex");
+	end("ww_mutex_unlock",
+	    r == -EBUSY ? "the context that holds the mutex is in another call" : "nobody holds the mutex");
 }
 
 void ww_mutex_unlock(struct ww_mutex *m)

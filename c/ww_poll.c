@@ -1,6 +1,6 @@
 /*
- * ww_poll.c - contexts that wait without a thread.  They wait as threads do (ww.c, ww_pool.c), with their own waker in place of
- * one that wakes a thread.
+ * ww_poll.c - contexts that wait without a thread.  They wait as threads do (ww.c, ww_pool.c), with their own waker in
+ * place of one that wakes a thread.
  */
 #define _GNU_SOURCE
 #define WW_NO_INLINE /* As ww_mutex.c. */
@@ -73,7 +73,10 @@ int ww_number_lock_poll_further_(uint32_t number, struct ww_acquire_ctx *x, cons
 
 /* ---- contexts ---- */
 
-/* Takes its waker back; false if another thread has taken it, to call it. In a forked child nobody does, nor has the lock. */
+/*
+ * Takes its waker back; false if another thread has taken it, to call it. In a forked child nobody does, nor has the
+ * lock.
+ */
 static bool takes_back(struct ww_seek *me)
 {
 	struct ww_pool *p = me->of_->pool;
@@ -170,8 +173,8 @@ bool ww_poll_take_back(struct ww_acquire_ctx *x, struct ww_seek *seek)
 /* ---- loops that watch a descriptor ---- */
 
 /*
- * What a task wrote before is released with the list.  If the list isn't empty, the thread that filled it first writes to the
- * descriptor.  It does so by syscall, since in write(2) pthread_cancel could end a thread during its unlock.
+ * What a task wrote before is released with the list.  If the list isn't empty, the thread that filled it first writes
+ * to the descriptor.  It does so by syscall, since in write(2) pthread_cancel could end a thread during its unlock.
  */
 void ww_event_wake(void *event, void *woken)
 {

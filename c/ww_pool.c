@@ -1,9 +1,9 @@
 /*
- * ww_pool.c - classes of mutexes: their opening and freeing, numbers that are handed out and put back, and seats: those that
- * threads keep, those that anybody may use, and the queue for them.
+ * ww_pool.c - classes of mutexes: their opening and freeing, numbers that are handed out and put back, and seats: those
+ * that threads keep, those that anybody may use, and the queue for them.
  *
- * A seat is its user's while it is BUSY, and a thread may keep it (IS_KEPT): then nobody else comes to use it, and its keeper
- * does so without a read-modify-write.  These are two bits of its `busy`, and what comes next:
+ * A seat is its user's while it is BUSY, and a thread may keep it (IS_KEPT): then nobody else comes to use it, and its
+ * keeper does so without a read-modify-write.  These are two bits of its `busy`, and what comes next:
  *
  *	busy		whose		what comes next, and by what
  *	0		nobody's	BUSY: any thread uses it, by an exchange that finds it so (claims)
@@ -15,15 +15,17 @@
  *					BUSY: the keeper stops keeping it (let_go), by an exchange (leaves_used)
  *					0: the keeper does so, and used it itself, by a store (leaves_own)
  *
- * So two threads never use one seat.  One that is kept: only its keeper sets BUSY, and only its user clears it, so nothing
- * changes between the keeper's load that finds IS_KEPT alone and its store.  One that isn't: of the exchanges that find it free
- * one is the first; it may be made for another thread, which is taken out of the queue for it (serve).  No seat is lost: where
- * two threads may clear a bit each, both do so by exchanges, so whoever clears the second one knows it, and looks who waits.
+ * So two threads never use one seat.  One that is kept: only its keeper sets BUSY, and only its user clears it, so
+ * nothing changes between the keeper's load that finds IS_KEPT alone and its store.  One that isn't: of the exchanges
+ * that find it free one is the first; it may be made for another thread, which is taken out of the queue for it
+ * (serve).  No seat is lost: where two threads may clear a bit each, both do so by exchanges, so whoever clears the
+ * second one knows it, and looks who waits.
  *
- * Whoever finds no seat free waits in a queue.  Threads get seats in turn: while one waits nobody else begins, and a seat that is
- * given is handed to the one that has waited longest.  Tasks have a part of the seats (IS_SHARED), of which as many may be claimed
- * as ww_gate.c finds; unless the class says how many contexts it has: then they are in the one queue with threads.  Handing each
- * of these on would make each context a change of tasks.  So while tasks wait, for how long a seat is lent decides what comes next:
+ * Whoever finds no seat free waits in a queue.  Threads get seats in turn: while one waits nobody else begins, and a
+ * seat that is given is handed to the one that has waited longest.  Tasks have a part of the seats (IS_SHARED), of
+ * which as many may be claimed as ww_gate.c finds; unless the class says how many contexts it has: then they are in the
+ * one queue with threads.  Handing each of these on would make each context a change of tasks.  So while tasks wait,
+ * for how long a seat is lent decides what comes next:
  *
  *	busy			what comes next, if its user is through
  *	BUSY, IS_SHARED		BUSY, IS_SHARED: handed to the first in the queue, if it isn't lent any more; then it is lent anew (hands_on)
@@ -36,16 +38,16 @@
  *		often it WAITS again, but then it first says that nobody is called, and looks at all of them
  *	SERVED	it has a seat, and isn't in the queue any more; as a thread is, behind WAITS.  If it was CALLED, the next one is
  *
- * So wherever nobody is amid a call, none of the seats that may be claimed is free while somebody waits, unless the first was
- * called: who drops a call has looked at all, and who leaves passes it on.  tests/seats.py tries all that tasks may do by these tables,
- * and the search of schedules asks that of the sources.
+ * So wherever nobody is amid a call, none of the seats that may be claimed is free while somebody waits, unless the
+ * first was called: who drops a call has looked at all, and who leaves passes it on.  tests/seats.py tries all that
+ * tasks may do by these tables, and the search of schedules asks that of the sources.
  *
- * crates/ww_seating proves that two never use one seat, and that none is lost, of such steps in any order, by the names in
- * brackets; in the search each access of a `busy` has to be one of them (tests/interleave/seats.c).
+ * crates/ww_seating proves that two never use one seat, and that none is lost, of such steps in any order, by the names
+ * in brackets; in the search each access of a `busy` has to be one of them (tests/interleave/seats.c).
  *
- * The next user sees what a user wrote in the seat.  Kept: the store or exchange for IS_KEPT releases; the keeper's load
- * (use_kept), and the load by the thread that frees the class, acquire.  Else all is sequentially consistent, so one of these
- * two sees the other:
+ * The next user sees what a user wrote in the seat.  Kept: the store or exchange for IS_KEPT releases; the keeper's
+ * load (use_kept), and the load by the thread that frees the class, acquire.  Else all is sequentially consistent, so
+ * one of these two sees the other:
  *
  *	a user that is through (ww_give_seat)	one that seeks a seat (ww_queue_up, look_for_seat)
  *	busy = 0				seekers++, or called = 0
@@ -59,8 +61,8 @@
 #include <sys/random.h>
 
 /*
- * How many mutexes a class has if it says no number; how many locks have their words in one cache line; and how many mutexes
- * have a line to themselves, however many the class has.
+ * How many mutexes a class has if it says no number; how many locks have their words in one cache line; and how many
+ * mutexes have a line to themselves, however many the class has.
  */
 enum { MANY_MUTEXES = 65536, IN_A_LINE = 4, APART = 1024 };
 /* From how many mutexes on a class is large; in the search of schedules with one. */
@@ -70,8 +72,9 @@ enum { MANY_MUTEXES = 65536, IN_A_LINE = 4, APART = 1024 };
 /* How many lines are enough for 65 locks, which a world has at least. */
 enum { LEAST_LINES = 17 };
 /*
- * If a class says no number of contexts: how many it has besides those that threads may keep, how many these are, and how many of the
- * others tasks may have, at first for each processor, and at most.  In the search of schedules there are few.
+ * If a class says no number of contexts: how many it has besides those that threads may keep, how many these are, and
+ * how many of the others tasks may have, at first for each processor, and at most.  In the search of schedules there
+ * are few.
  */
 #ifndef WW_FEW
 enum { MANY_CONTEXTS = 1024, MANY_KEPT = 256, EACH_TASKS = 2, MANY_TASKS = 896 };
@@ -91,8 +94,8 @@ enum { SPARE = 1 };
 
 __thread struct ww_mine ww_mine __attribute__((tls_model("initial-exec")));
 /*
- * A process may have several copies of the library, and load one where another one lay before.  So each counts from a number
- * that it draws as it is loaded (see `load`): no two have the same ids, and none is NO_ID, CROWDED or 0.
+ * A process may have several copies of the library, and load one where another one lay before.  So each counts from a
+ * number that it draws as it is loaded (see `load`): no two have the same ids, and none is NO_ID, CROWDED or 0.
  */
 static uint64_t this_copy = (uint64_t)1 << 62;
 static uint64_t last_id; /* of a class */
@@ -169,7 +172,9 @@ static struct ww_pool *open_pool(uint64_t id)
 
 static void serve(struct ww_seats *of, uint64_t id, ww_seat *s, bool hands);
 
-/* So many more seats are kept. Opening is locked; others read this without that, as a hint, and to see that it changed. */
+/*
+ * So many more seats are kept. Opening is locked; others read this without that, as a hint, and to see that it changed.
+ */
 static void keeps_more(struct ww_pool *p, uint32_t more)
 {
 	__atomic_store_n(&p->kept, p->kept + more, __ATOMIC_RELAXED);
@@ -177,8 +182,8 @@ static void keeps_more(struct ww_pool *p, uint32_t more)
 }
 
 /*
- * This thread stops keeping the seat, even if that is in use.  Opening is locked.  If nobody uses it, its class is returned:
- * once nothing is locked it is handed to whoever waits for one (serve).
+ * This thread stops keeping the seat, even if that is in use.  Opening is locked.  If nobody uses it, its class is
+ * returned: once nothing is locked it is handed to whoever waits for one (serve).
  */
 static struct ww_pool *let_go(struct ww_known kept)
 {
@@ -223,8 +228,8 @@ static void put_first(struct ww_known first, uint32_t others)
 }
 
 /*
- * The thread comes to keep the seat that it uses, if not so many are kept as may be, and the library will learn when the thread
- * ends.  If it keeps as many as it may, it stops keeping the one that it hasn't used for the longest.
+ * The thread comes to keep the seat that it uses, if not so many are kept as may be, and the library will learn when
+ * the thread ends.  If it keeps as many as it may, it stops keeping the one that it hasn't used for the longest.
  */
 static void keep(struct ww_pool *p, ww_seat *s)
 {
@@ -247,15 +252,18 @@ static void keep(struct ww_pool *p, ww_seat *s)
 
 /* ---- seats that anybody may use ---- */
 
-/* The seats in the order in which one looks: from this one on those before the limit, and then the others, the last one first. */
+/*
+ * The seats in the order in which one looks: from this one on those before the limit, and then the others, the last one
+ * first.
+ */
 static ww_seat *seat_at(const struct ww_seats *of, uint32_t limit, uint32_t from, uint32_t k)
 {
 	return &of->seats[k < limit ? (from + k) % limit : of->count - 1 - (k - limit)];
 }
 
 /*
- * Any seat that is free, of so many.  NULL for all of them only if at some moment during the call none was free: each was in use or
- * kept in two passes, and none was given, kept or let go in between.
+ * Any seat that is free, of so many.  NULL for all of them only if at some moment during the call none was free: each
+ * was in use or kept in two passes, and none was given, kept or let go in between.
  */
 static ww_seat *claim_from(const struct ww_seats *of, uint32_t from, uint32_t many)
 {
@@ -280,7 +288,10 @@ static ww_seat *claim_from(const struct ww_seats *of, uint32_t from, uint32_t ma
 	return NULL;
 }
 
-/* The search begins at the one that this thread used last, or, where threads keep seats, at one where others don't begin. */
+/*
+ * The search begins at the one that this thread used last, or, where threads keep seats, at one where others don't
+ * begin.
+ */
 static ww_seat *claim_any(const struct ww_seats *of, uint32_t many)
 {
 	const struct ww_pool *p = of->pool;
@@ -290,7 +301,10 @@ static ww_seat *claim_any(const struct ww_seats *of, uint32_t many)
 	return claim_from(of, from, many);
 }
 
-/* The seat of the class that this thread keeps is put first, and is its own if nobody uses it; `keeps` says if there is one. */
+/*
+ * The seat of the class that this thread keeps is put first, and is its own if nobody uses it; `keeps` says if there is
+ * one.
+ */
 static ww_seat *kept_seat(const struct ww_pool *p, bool *keeps)
 {
 	uint32_t k = 0;
@@ -371,7 +385,10 @@ static struct ww_waker call_first(struct ww_seats *of, ww_seat *s)
 	return waker_of(it);
 }
 
-/* Takes the waiter at this place out; if it was called, the next one is. The queue is locked; a thread that waits looks without that. */
+/*
+ * Takes the waiter at this place out; if it was called, the next one is. The queue is locked; a thread that waits looks
+ * without that.
+ */
 static struct ww_waker take_out(struct ww_seats *of, struct ww_seek **at, uint32_t now)
 {
 	struct ww_seek *it = *at;
@@ -386,7 +403,10 @@ static struct ww_waker take_out(struct ww_seats *of, struct ww_seek **at, uint32
 	return was_called ? call_first(of, s) : (struct ww_waker){ 0 };
 }
 
-/* The waiter at this place gets the seat, and may not exist any more then. Its waker is called, or the next one's. The queue is locked. */
+/*
+ * The waiter at this place gets the seat, and may not exist any more then. Its waker is called, or the next one's. The
+ * queue is locked.
+ */
 static struct ww_waker hand_to(struct ww_seats *of, struct ww_seek **at, ww_seat *s)
 {
 	struct ww_seek *it = *at;
@@ -407,8 +427,8 @@ static bool is_for(const struct ww_seats *of, const ww_seat *s)
 }
 
 /*
- * The seat was given: it is handed to the first in the queue, or that is called for it.  Others may have freed the class since then,
- * and in a forked child nobody waits.
+ * The seat was given: it is handed to the first in the queue, or that is called for it.  Others may have freed the
+ * class since then, and in a forked child nobody waits.
  */
 COLD static void serve(struct ww_seats *of, uint64_t id, ww_seat *s, bool hands)
 {
@@ -467,7 +487,10 @@ static inline void look_if_due(struct ww_seats *of, uint64_t now)
 		look_at_gate(of, now);
 }
 
-/* By now nobody may wait for a seat, as there is one for each task; then those that wait for locks look whether fewer would do more. */
+/*
+ * By now nobody may wait for a seat, as there is one for each task; then those that wait for locks look whether fewer
+ * would do more.
+ */
 COLD void ww_task_has_waited(const ww_seat *s)
 {
 	if (s->of == &s->pool->tasks && !s->pool->gone)
@@ -559,9 +582,9 @@ static struct ww_seek **place_of(struct ww_seats *of, const struct ww_seek *it)
 }
 
 /*
- * Whoever was called looks.  Who has looked often, or is to wait no more, looks at all seats, once it has said that nobody is
- * called.  It gets a seat, or waits again, or it is to look once more, when its loop comes round: then its own waker is called.
- * The queue is locked.
+ * Whoever was called looks.  Who has looked often, or is to wait no more, looks at all seats, once it has said that
+ * nobody is called.  It gets a seat, or waits again, or it is to look once more, when its loop comes round: then its
+ * own waker is called.  The queue is locked.
  */
 static struct ww_waker look_for_seat(struct ww_seats *of, struct ww_seek *me, const struct ww_waker *again)
 {
@@ -661,7 +684,10 @@ static void report_leak(const struct ww_seats *of)
 	ww_debug_leak(of, why);
 }
 
-/* Nobody was handed a seat during a long wait, which is to be said once.  Each seat that is given is handed to somebody who waits. */
+/*
+ * Nobody was handed a seat during a long wait, which is to be said once.  Each seat that is given is handed to somebody
+ * who waits.
+ */
 static bool is_stuck(struct ww_seats *of, struct timespec *next, uint64_t *seen)
 {
 	uint64_t served = __atomic_load_n(&of->served, __ATOMIC_RELAXED), before = *seen;
@@ -673,7 +699,10 @@ static bool is_stuck(struct ww_seats *of, struct timespec *next, uint64_t *seen)
 	return waits_on && served == before && !__atomic_exchange_n(&of->pool->is_reported, true, __ATOMIC_RELAXED);
 }
 
-/* No thread of theirs sleeps, so the next task that comes to wait looks whether the wait of those before is long. The queue is locked. */
+/*
+ * No thread of theirs sleeps, so the next task that comes to wait looks whether the wait of those before is long. The
+ * queue is locked.
+ */
 static bool tasks_are_stuck(struct ww_seats *of)
 {
 	if (of == &of->pool->threads || !ww_patience())
@@ -786,8 +815,9 @@ int ww_class_cancel(struct ww_class *c)
 /* ---- classes ---- */
 
 /*
- * Where threads keep seats they come back to no other one.  Relaxed: a thread that gave a seat of a class which was freed
- * since may still read this (serve), and a waiter that it finds in the queue has seen this number, and then locked the queue.
+ * Where threads keep seats they come back to no other one.  Relaxed: a thread that gave a seat of a class which was
+ * freed since may still read this (serve), and a waiter that it finds in the queue has seen this number, and then
+ * locked the queue.
  */
 static void set_id(struct ww_pool *p, uint64_t id)
 {
@@ -801,8 +831,9 @@ static void before_fork(void) { pthread_mutex_lock(&opening); }
 static void in_parent(void) { pthread_mutex_unlock(&opening); }
 
 /*
- * Other threads were in the middle of their calls, and don't exist here: so no seat and no number of these classes is given any
- * more.  The memory of a freed class is used again, though a thread may have been about to leave its last context or mutex.
+ * Other threads were in the middle of their calls, and don't exist here: so no seat and no number of these classes is
+ * given any more.  The memory of a freed class is used again, though a thread may have been about to leave its last
+ * context or mutex.
  */
 static void in_child(void)
 {
@@ -833,8 +864,9 @@ static int prepare(void)
 }
 
 /*
- * Handlers that are registered first are called last before a fork, and first behind it.  So the lock `opening` isn't held while a
- * handler of the program runs, which may lock mutexes.  If that fails here, whoever opens a class first tries it again.
+ * Handlers that are registered first are called last before a fork, and first behind it.  So the lock `opening` isn't
+ * held while a handler of the program runs, which may lock mutexes.  If that fails here, whoever opens a class first
+ * tries it again.
  */
 __attribute__((constructor(101))) static void load(void)
 {
@@ -851,8 +883,8 @@ __attribute__((constructor(101))) static void load(void)
 }
 
 /*
- * When the library is closed (dlclose), threads that used it go on, and end without it.  At the end of the program they may go
- * on as well, and another key may get the number of this one.
+ * When the library is closed (dlclose), threads that used it go on, and end without it.  At the end of the program they
+ * may go on as well, and another key may get the number of this one.
  */
 __attribute__((destructor)) static void unprepare(void)
 {
@@ -1016,7 +1048,9 @@ COLD int ww_class_open_kept(struct ww_class *c, uint32_t kept)
 
 int ww_class_open(struct ww_class *c) { return ww_class_open_kept(c, kept_of(c)); }
 
-/* Other threads may lock it first too. One of them gives it its number; then `alone`, where the class was, is theirs. */
+/*
+ * Other threads may lock it first too. One of them gives it its number; then `alone`, where the class was, is theirs.
+ */
 COLD int ww_number_at_first(struct ww_mutex *m)
 {
 	int r = 0;

@@ -1,8 +1,9 @@
 /*
  * ww_pool.h - what an open class consists of, and what the library's sources share.  It isn't installed.
  *
- * The words that several threads write, whose each is, who writes it, and where two of its writers meet: a program of the search
- * of schedules (tests/interleave), or a test.  tests/memory_order.py holds this to the sources, with the order of each access.
+ * The words that several threads write, whose each is, who writes it, and where two of its writers meet: a program of
+ * the search of schedules (tests/interleave), or a test.  tests/memory_order.py holds this to the sources, with the
+ * order of each access.
  *
  *	word		of		written by						where they meet
  *	busy		seat		see ww_pool.c						kept-on
@@ -54,8 +55,8 @@
 #include <stdlib.h>
 
 /*
- * The probes for perf and bpftrace, if SystemTap's header is installed.  Each is an instruction that does nothing, at a place
- * where a call waits anyway.
+ * The probes for perf and bpftrace, if SystemTap's header is installed.  Each is an instruction that does nothing, at a
+ * place where a call waits anyway.
  */
 #if __has_include(<sys/sdt.h>)
 #include <sys/sdt.h>
@@ -82,7 +83,10 @@ struct ww_desk {
 	uint64_t marks[] __attribute__((aligned(64))); /* one for each number of the class */
 };
 enum { MANY_BITS = 64 };
-/* A bit of a mutex's `waiters`, beside their number: it is a desk's. A task counts for so many threads, of which no desk has as many. */
+/*
+ * A bit of a mutex's `waiters`, beside their number: it is a desk's. A task counts for so many threads, of which no
+ * desk has as many.
+ */
 #define IS_DESK ((uint32_t)1 << 30)
 #define A_TASK ((uint32_t)1 << 16)
 
@@ -123,8 +127,9 @@ struct ww_crowd {
 };
 
 /*
- * Seats, and the queue of those that found none of them free.  A class has two of these: `threads`, which are all of them, and
- * `tasks`, the last ones, for polls too.  If it says how many contexts it has, `tasks` is empty, and all are in the one queue.
+ * Seats, and the queue of those that found none of them free.  A class has two of these: `threads`, which are all of
+ * them, and `tasks`, the last ones, for polls too.  If it says how many contexts it has, `tasks` is empty, and all are
+ * in the one queue.
  */
 struct ww_seats {
 	struct ww_pool *pool;
@@ -166,14 +171,18 @@ struct ww_pool {
 	bool ends_waits;       /* all that something may end, for good */
 	bool is_reported, is_lock_reported; /* it was said that all contexts of threads have been in use for long; that a wait for a mutex is long */
 	/*
-	 * Of the numbers of `mutexes` mutexes the first `fresh` were given out at least once.  Those of them that are free again
-	 * are in a list: `free` is the first one plus one, and `below` has the next one of each, likewise.  The words of four
-	 * neighbours share a cache line.  So the first `lines` numbers are 0, 4, 8 and so on, the next ones 1, 5, 9, and two
-	 * mutexes share a line only if there are many.  The proved library has `locks` locks.
+	 * Of the numbers of `mutexes` mutexes the first `fresh` were given out at least once.  Those of them that are
+	 * free again are in a list: `free` is the first one plus one, and `below` has the next one of each, likewise.
+	 * The words of four neighbours share a cache line.  So the first `lines` numbers are 0, 4, 8 and so on, the
+	 * next ones 1, 5, 9, and two mutexes share a line only if there are many.  The proved library has `locks`
+	 * locks.
 	 */
 	pthread_mutex_t numbers __attribute__((aligned(64)));
 	uint32_t mutexes, lines, locks, fresh, free, taken, *below;
-	/* How many seats have a desk, and these by their bits, in lists that only grow: changed under the lock `numbers`. */
+	/*
+	 * How many seats have a desk, and these by their bits, in lists that only grow: changed under the lock
+	 * `numbers`.
+	 */
 	uint32_t made;
 	struct ww_desk *desks[MANY_BITS];
 	/* The thread that holds it looks by the seat after those of contexts. */
@@ -194,16 +203,16 @@ struct ww_pool {
 #define NO_ID UINT64_MAX
 
 /*
- * After how many seconds a wait is long.  In the search of schedules this is 0, and no wait is, since a wait with a time would
- * hide that a wake-up was lost.
+ * After how many seconds a wait is long.  In the search of schedules this is 0, and no wait is, since a wait with a
+ * time would hide that a wake-up was lost.
  */
 #ifndef WW_PATIENCE
 #define WW_PATIENCE 10
 #endif
 
 /*
- * The values of `served_` of one that seeks a seat: see ww_pool.c.  CALLED: it looks at `seat_` first; SERVED: it has that; without
- * one its wait ends.
+ * The values of `served_` of one that seeks a seat: see ww_pool.c.  CALLED: it looks at `seat_` first; SERVED: it has
+ * that; without one its wait ends.
  */
 enum { WAITS, CALLED, SERVED };
 
@@ -230,7 +239,10 @@ struct ww_mine {
 };
 WW_HIDDEN extern __thread struct ww_mine ww_mine __attribute__((tls_model("initial-exec")));
 
-/* Gives a number to a mutex that WW_MUTEX_INIT made, unless it has one. Returns 0, or an error of ww_mutex_init_checked. */
+/*
+ * Gives a number to a mutex that WW_MUTEX_INIT made, unless it has one. Returns 0, or an error of
+ * ww_mutex_init_checked.
+ */
 WW_HIDDEN int ww_number_at_first(struct ww_mutex *m);
 /* NULL if it isn't initialized. */
 WW_HIDDEN struct ww_class *ww_class_of(const struct ww_mutex *m);
@@ -247,14 +259,19 @@ WW_HIDDEN ww_seat *ww_seat_to_begin(struct ww_pool *p);
 WW_HIDDEN void ww_give_seat(ww_seat *s);
 /* The task that has this seat has waited for a lock. */
 WW_HIDDEN void ww_task_has_waited(const ww_seat *s);
-/* Waits for a seat, after all that wait already, until a time if that isn't NULL (-ETIMEDOUT), or until the class ends waits that
-   heed that (-EINTR); -EINVAL in a child. */
+/*
+ * Waits for a seat, after all that wait already, until a time if that isn't NULL (-ETIMEDOUT), or until the class ends
+ * waits that heed that (-EINTR); -EINVAL in a child.
+ */
 WW_HIDDEN int ww_seek_seat(struct ww_pool *p, const struct timespec *until, bool heeds, ww_seat **s);
 /* For polls: any seat that is free, unless it is another's turn; or NULL. */
 WW_HIDDEN ww_seat *ww_task_seat(struct ww_pool *p);
 /* Gets a seat immediately (true), or NULL if it is to end, or waits from now on, after all that wait already. */
 WW_HIDDEN bool ww_queue_up(struct ww_seek *me);
-/* For polls: whether it has got a seat, or NULL likewise.  One that was called looks for it; if there is none, this is its waker from now on. */
+/*
+ * For polls: whether it has got a seat, or NULL likewise.  One that was called looks for it; if there is none, this is
+ * its waker from now on.
+ */
 WW_HIDDEN bool ww_is_served(struct ww_seek *me, const struct ww_waker *otherwise);
 /* Stops waiting; false if it has got a seat. */
 WW_HIDDEN bool ww_leave_queue(struct ww_seek *me);
@@ -271,9 +288,9 @@ WW_HIDDEN uint32_t ww_patience(void);
 WW_HIDDEN uint32_t ww_processors(void);
 WW_HIDDEN void ww_crowd_open(struct ww_pool *p);
 /*
- * Called in a crowd before a context begins: waits for a permit, until a time if that isn't NULL, or until the class ends waits that
- * heed that (-EINTR).  Who stood in line counts as one that waits, so that nobody frees the class, until ww_has_begun is called, once
- * it has a seat, or gets none.
+ * Called in a crowd before a context begins: waits for a permit, until a time if that isn't NULL, or until the class
+ * ends waits that heed that (-EINTR).  Who stood in line counts as one that waits, so that nobody frees the class,
+ * until ww_has_begun is called, once it has a seat, or gets none.
  */
 WW_HIDDEN int ww_await_permit(struct ww_pool *p, const struct timespec *until, bool heeds, bool *stood);
 /* The class ends waits from now on: calls all that stand in line. */
@@ -281,8 +298,8 @@ WW_HIDDEN void ww_crowd_cancel(struct ww_pool *p);
 /* This thread has waited for a lock for so long. */
 WW_HIDDEN void ww_has_waited(struct ww_pool *p, uint64_t now, uint64_t took);
 /*
- * At first so many, later at least and at most so many, or no limit, from which `widest` is tried; more than the first are tried first if
- * that is wider, and else fewer.  They are counted until there are `many` or more.
+ * At first so many, later at least and at most so many, or no limit, from which `widest` is tried; more than the first
+ * are tried first if that is wider, and else fewer.  They are counted until there are `many` or more.
  */
 WW_HIDDEN void ww_gate_open(struct ww_gate *gate, uint32_t least, uint32_t first, uint32_t widest, uint32_t most, uint32_t many);
 /* By now so many contexts have begun; `waited` changes if somebody waits at the gate.  False once it is of no use. */
@@ -330,8 +347,9 @@ static inline struct ww_seats *of_tasks(struct ww_pool *p) { return p->tasks.cou
 static inline struct ww_pool *pool_at(const struct ww_mutex *m) { return __atomic_load_n(&m->pool, __ATOMIC_ACQUIRE); }
 
 /*
- * The context that holds it.  Only the mutex's holder writes `ctx` and `alone`, `ctx` relaxed: the lock orders one holder's accesses
- * before the next one's, and for all others what they read is a hint.  `alone` leads others into the seat.
+ * The context that holds it.  Only the mutex's holder writes `ctx` and `alone`, `ctx` relaxed: the lock orders one
+ * holder's accesses before the next one's, and for all others what they read is a hint.  `alone` leads others into the
+ * seat.
  */
 static inline struct ww_acquire_ctx *holder_of(const struct ww_mutex *m) { return __atomic_load_n(&m->ctx, __ATOMIC_RELAXED); }
 
@@ -352,14 +370,15 @@ static inline void enlist(struct ww_acquire_ctx *x, struct ww_mutex *m)
 }
 
 /*
- * This thread uses the seat: called when it comes to keep it, and by each lock without a context that takes another one.
- * Others read that only through a mutex that is held by the seat, so later.
+ * This thread uses the seat: called when it comes to keep it, and by each lock without a context that takes another
+ * one. Others read that only through a mutex that is held by the seat, so later.
  */
 static inline void is_user(ww_seat *s) { __atomic_store_n(&s->user, ww_mine.thread, __ATOMIC_RELAXED); }
 
 /*
- * The seat, which this thread keeps, or NULL if it is in use: a context that was begun here may go on in another thread,
- * which releases what it wrote in the seat by `busy` (ww_give_seat).  Nobody else sets `busy` then, so the store is relaxed.
+ * The seat, which this thread keeps, or NULL if it is in use: a context that was begun here may go on in another
+ * thread, which releases what it wrote in the seat by `busy` (ww_give_seat).  Nobody else sets `busy` then, so the
+ * store is relaxed.
  */
 static inline ww_seat *use_kept(ww_seat *s)
 {
@@ -417,14 +436,14 @@ static inline ww_seat *claim_last(const struct ww_seats *of, const struct ww_poo
 }
 
 /*
- * The age of a context is the timestamp of its seat in the proved library.  If a context retries by itself, and met nobody,
- * the proved library's context isn't ended with it: the seat *rests*, and its next context has the same age, unless that one
- * acquires by hand first.  So threads that don't collide don't meet at the class's timestamp either, except with every
- * 16th context.
+ * The age of a context is the timestamp of its seat in the proved library.  If a context retries by itself, and met
+ * nobody, the proved library's context isn't ended with it: the seat *rests*, and its next context has the same age,
+ * unless that one acquires by hand first.  So threads that don't collide don't meet at the class's timestamp either,
+ * except with every 16th context.
  *
- * `ages` is how many contexts may still have this age, the present one included, plus MET.  It is MET if the present one met
- * somebody; and 0 if that one acquires by hand, or neither the seat nor the proved library has a context.  Only its keeper lets
- * a seat rest, so one without a keeper never does.
+ * `ages` is how many contexts may still have this age, the present one included, plus MET.  It is MET if the present
+ * one met somebody; and 0 if that one acquires by hand, or neither the seat nor the proved library has a context.  Only
+ * its keeper lets a seat rest, so one without a keeper never does.
  */
 enum { MET = 1, SHARE_AGE = 16 };
 
@@ -453,8 +472,9 @@ static inline void may_be_older(struct ww_acquire_ctx *x)
 }
 
 /*
- * Releases a seat; until then nobody but its user may free the class.  The load of `keeper` is relaxed: it changes while
- * nobody uses the seat, except that a thread that stops keeping it says so first (let_go), which matters to no other.
+ * Releases a seat; until then nobody but its user may free the class.  The load of `keeper` is relaxed: it changes
+ * while nobody uses the seat, except that a thread that stops keeping it says so first (let_go), which matters to no
+ * other.
  */
 static inline void give_seat(ww_seat *s)
 {
@@ -467,7 +487,9 @@ static inline void give_seat(ww_seat *s)
 /* The pool of a context that has ended, or whose lock calls take the long way: no mutex has this pool. */
 #define NO_POOL ((struct ww_pool *)1)
 
-/* The bits of a context's state: the flags of ww_acquire_flags, what a loop has to do, and those of the debug library. */
+/*
+ * The bits of a context's state: the flags of ww_acquire_flags, what a loop has to do, and those of the debug library.
+ */
 enum {
 	FLAGS = WW_IGNORE_DUPLICATES | WW_INTERRUPTIBLE,
 	HAS_TO_BACK_OFF = WW_HAS_TO_BACK_OFF_,
@@ -480,7 +502,10 @@ enum {
 	IS_PRELOCKED = 256, /* the context has waited for `prelocked` before the body asked for that, as it has yet to do */
 };
 
-/* From the -EINPROGRESS of a lock call to its end: any other call returns -EBUSY, or ends the program, and changes nothing. */
+/*
+ * From the -EINPROGRESS of a lock call to its end: any other call returns -EBUSY, or ends the program, and changes
+ * nothing.
+ */
 static inline bool is_polled(const struct ww_acquire_ctx *x) { return UNLIKELY(x->state & IS_POLLED); }
 #define WAITS_BY_POLL "the context waits by a poll"
 
@@ -491,8 +516,8 @@ static inline bool is_let_go(const ww_seat *s, int r) { return r == -EBUSY && s-
 static inline bool is_loop(const struct ww_acquire_ctx *x) { return x->gives != x->own; }
 
 /*
- * The words of the proved library's locks, two for each.  As that library is compiled, a seat's memory begins with the address
- * of its table.  The table's second word is the address of an array, in which 16 words come before these.
+ * The words of the proved library's locks, two for each.  As that library is compiled, a seat's memory begins with the
+ * address of its table.  The table's second word is the address of an array, in which 16 words come before these.
  * tests/mutex_numbers.c tests that it is so.
  */
 static inline const uint64_t *words_of(const ww_seat *s) { return (const uint64_t *)(*(void **const *)s->handle.at)[1] + 16; }
@@ -518,8 +543,8 @@ WW_HIDDEN int ww_result_in_loop(struct ww_mutex *m, struct ww_acquire_ctx *x, in
 /* Locks each of a list, up to the first one that fails. */
 typedef int ww_locks_each(struct ww_acquire_ctx *x, const void *locks, size_t count);
 /*
- * Acquires all of a list, as in a loop, which ends here, and backs off unless the context held something before; r is what the
- * locks returned so far, or 0 if none was made.  `newest` is what they acquired so far.
+ * Acquires all of a list, as in a loop, which ends here, and backs off unless the context held something before; r is
+ * what the locks returned so far, or 0 if none was made.  `newest` is what they acquired so far.
  */
 WW_HIDDEN int ww_lock_list(struct ww_acquire_ctx *x, ww_locks_each *each, const void *locks, size_t count, int r);
 /* Whether a lock call of a mutex that its context holds already succeeds: see ww_loop.c. */
@@ -553,7 +578,10 @@ static inline void unlist(struct ww_acquire_ctx *x, const struct ww_mutex *m)
 #define ww_debug_lists() false
 #endif
 
-/* Writes a message, with the name of the class, if that isn't NULL.  A thread that waits, which others know, doesn't end meanwhile. */
+/*
+ * Writes a message, with the name of the class, if that isn't NULL.  A thread that waits, which others know, doesn't
+ * end meanwhile.
+ */
 __attribute__((cold)) static inline void say_of(const struct ww_class *c, const char *call, const char *why)
 {
 	int may_end;
