@@ -15,7 +15,7 @@
  * Whoever stores NOTHING looks at its lock next, so a token that comes just before is one that it needs no more.
  */
 #define _GNU_SOURCE
-#include "ww_pool.h"
+#include "ww_class.h"
 #include <errno.h>
 #include <linux/futex.h>
 #include <sched.h>

@@ -4,7 +4,7 @@
  */
 #define _GNU_SOURCE
 #define WW_NO_INLINE /* As ww_mutex.c. */
-#include "ww_pool.h"
+#include "ww_context.h"
 
 static const char *reason_at_begin(int r)
 {

@@ -19,7 +19,7 @@
  * late, costs only time.
  */
 #define _GNU_SOURCE
-#include "ww_pool.h"
+#include "ww_seat.h"
 #include <sched.h>
 #include <string.h>
 #include <unistd.h>
@@ -100,7 +100,8 @@ COLD static void begin_crowd(struct ww_pool *p)
 
 	pthread_mutex_lock(&crowd->lock);
 	if (!is_crowded(p)) {
-		ww_gate_open(&crowd->gate, said ? said : 1, said ? said : 1, said ? said : 1, said ? said : MANY_PERMITS, MANY_PERMITS);
+		ww_gate_open(&crowd->gate, said ? said : 1, said ? said : 1, said ? said : 1,
+			     said ? said : MANY_PERMITS, MANY_PERMITS);
 		set_crowded(p, true);
 	}
 	pthread_mutex_unlock(&crowd->lock);

@@ -1,6 +1,6 @@
 /* ww_debug.c - what libww_debug does in addition to each call of ww_mutex.h: it reports misuse, and warns. */
 #define _GNU_SOURCE
-#include "ww_pool.h"
+#include "ww_context.h"
 #ifdef WW_DEBUG /* a build may name all sources */
 #include <stdarg.h>
 #include <sys/syscall.h>

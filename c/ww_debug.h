@@ -1,6 +1,8 @@
-/* ww_debug.h - what the debug library does in addition to each call. No program includes it. */
+/* ww_debug.h - what the debug library does in addition to each call, and nothing in the other.  It isn't installed. */
 #ifndef WW_DEBUG_H
 #define WW_DEBUG_H
+#ifdef WW_DEBUG
+#define DEBUG(call) call
 WW_HIDDEN int ww_debug_open(struct ww_pool *p);
 WW_HIDDEN void ww_debug_free(struct ww_pool *p);
 WW_HIDDEN void ww_debug_begun(struct ww_acquire_ctx *x);
@@ -48,7 +50,7 @@ WW_HIDDEN int ww_debug_result(struct ww_mutex *m, struct ww_acquire_ctx *x, int 
 WW_HIDDEN bool ww_debug_injected(const struct ww_mutex *m, const struct ww_acquire_ctx *x);
 /* Of ww_shared.c: a line of what somebody reads by the mutex of this number, if it is a desk's. */
 WW_HIDDEN void ww_debug_reads(const struct ww_pool *p, uint32_t number, FILE *to);
-/* Of ww_pool.c: the pools of all classes, whose list is locked until the other is called. */
+/* Of ww_class.c: the pools of all classes, whose list is locked until the other is called. */
 WW_HIDDEN const struct ww_pool *ww_lock_pools(void);
 WW_HIDDEN void ww_unlock_pools(void);
 
@@ -56,4 +58,19 @@ WW_HIDDEN void ww_unlock_pools(void);
  * Whether each list of locks is kept exactly: it has to be, since making up an -EDEADLK releases a mutex immediately.
  */
 static inline bool ww_debug_lists(void) { return true; }
+
+#else
+#define DEBUG(call) ((void)0)
+#define ww_debug_open(p) 0
+#define ww_debug_leak(of, why) say_of((of)->pool->class_, "a wait for a context", why)
+#define ww_debug_left(p) NULL
+#define ww_debug_busy(left) ((void)(left))
+#define ww_debug_fault(c, call, why) ((void)(c), (void)(call), (void)(why))
+#define ww_debug_unheld(m) ((void)(m), false)
+#define ww_debug_refuses(call, m, x) false
+#define ww_debug_result(m, x, r, injects) (r)
+#define ww_debug_injected(m, x) false
+#define ww_debug_lists() false
+#endif
+
 #endif

@@ -8,10 +8,13 @@
  * So it is tried: the gate has a width, and contexts are counted, window by window.
  *
  *	width		a window began			then
- *	kept		any number			the same again; after some windows, half of it or twice as many is tried, by turns
- *			a half less, twice		the load isn't what it was: half of it is tried at once, and soon twice as many
+ *	kept		any number			the same again; after some windows, half of it or twice as many
+ *							is tried, by turns
+ *			a half less, twice		the load isn't what it was: half of it is tried at once, and
+ *							soon twice as many
  *	tried, fewer	an eighth more			kept, and half of it is tried
- *	tried, more	at most a sixteenth less	kept, and twice as many are tried; four times as many until a try was in vain
+ *	tried, more	at most a sixteenth less	kept, and twice as many are tried; four times as many until a
+ *							try was in vain
  *	either		at most a quarter less else	half of it, or twice as many, is tried, but it isn't kept
  *			less				back, and the next try comes later
  *	tried, fewer, and nobody waits at the gate	half of it is tried at once: that many are no limit
@@ -26,7 +29,7 @@
  * they began goes on for a while at the width before; so one window that is far worse isn't believed.
  */
 #define _GNU_SOURCE
-#include "ww_pool.h"
+#include "ww_gate.h"
 
 /* A window is so long that a preemption or two don't decide, in nanoseconds as all times here. */
 enum { WINDOW = 2000000 };
@@ -57,7 +60,8 @@ static uint32_t turn(const struct ww_gate *gate)
 void ww_gate_open(struct ww_gate *gate, uint32_t least, uint32_t first, uint32_t widest, uint32_t most, uint32_t many)
 {
 	*gate = (struct ww_gate){ .width = first, .kept = first, .least = least, .widest = widest, .most = most,
-				  .many = many, .holds = 1, .more = first >= widest, .climbs = true, .settles = true, .lease = LEASE };
+				  .many = many, .holds = 1, .more = first >= widest, .climbs = true, .settles = true,
+				  .lease = LEASE };
 }
 
 /* Half of its width, or twice as many; or the same, where there is no such width. */

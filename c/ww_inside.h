@@ -35,11 +35,11 @@ struct ww_pool;
 typedef struct ww_seat {
 	ww_handle handle;
 	uint32_t token;		/* one futex word: nothing, a token, or its waker is to be called */
-	uint32_t busy;		/* see ww_pool.c */
+	uint32_t busy;		/* see ww_seat.c */
 	struct ww_pool *pool;	/* the class that has it */
 	struct ww_seats *of;	/* the seats among which it is */
 	uint64_t keeper;	/* the number of the thread that keeps it, or NO_THREAD */
-	uint8_t ages;		/* see SHARE_AGE of ww_pool.h; only its user accesses it */
+	uint8_t ages;		/* see SHARE_AGE of ww_seat.h; only its user accesses it */
 	struct ww_desk *desk;	/* its user's: see ww_shared.c; or NULL */
 	uint64_t waits __attribute__((aligned(64))), back_offs; /* of its users, in all */
 	struct ww_waker waker;	/* of its wait; below, how many waits there were */

@@ -37,7 +37,7 @@
  * all of this.
  */
 #define _GNU_SOURCE
-#include "ww_pool.h"
+#include "ww_context.h"
 
 /*
  * In each state but EASE, and with WW_INTERRUPTIBLE, the context's lock calls take the long way (ww_lock_in_loop),

@@ -21,7 +21,7 @@
 #define _GNU_SOURCE
 /* Here are the functions that may be called in place of those that ww_mutex.h compiles into its callers. */
 #define WW_NO_INLINE
-#include "ww_pool.h"
+#include "ww_context.h"
 
 _Static_assert(sizeof(struct ww_mutex) == 32, "a mutex and 32 bytes of what it guards have room in one cache line");
 /* A call by an empty handle returns -EINVAL, and changes nothing. */

@@ -5,7 +5,7 @@
  * in the library does.
  */
 #define _GNU_SOURCE
-#include "ww_pool.h" /* before the next one: here no call reports its line */
+#include "ww_context.h" /* before the next one: here no call reports its line */
 /* Here are the functions that may be called in place of those that ww_number.h compiles into its callers. */
 #define WW_NO_INLINE
 #include "ww_number.h"

@@ -1,10 +1,10 @@
 /*
- * ww_poll.c - contexts that wait without a thread.  They wait as threads do (ww.c, ww_pool.c), with their own waker in
+ * ww_poll.c - contexts that wait without a thread.  They wait as threads do (ww.c, ww_queue.c), with their own waker in
  * place of one that wakes a thread.
  */
 #define _GNU_SOURCE
 #define WW_NO_INLINE /* As ww_mutex.c. */
-#include "ww_pool.h"
+#include "ww_context.h"
 #include <sys/syscall.h>
 #include <unistd.h>
 

@@ -36,7 +36,7 @@
  * reads end by one unlock, that of the desk.  Desks stay until the class is freed.
  */
 #define _GNU_SOURCE
-#include "ww_pool.h"
+#include "ww_context.h"
 #include "ww_shared.h"
 #include <string.h>
 
@@ -234,7 +234,8 @@ static bool is_read(struct ww_pool *p, const struct ww_shared_mutex *m)
 
 	pthread_mutex_lock(&p->spare);
 	for (uint64_t bits = __atomic_load_n(&m->readers_, __ATOMIC_SEQ_CST); bits && !is; bits &= bits - 1)
-		for (struct ww_desk *d = __atomic_load_n(&p->desks[__builtin_ctzll(bits)], __ATOMIC_SEQ_CST); d && !is; d = d->next)
+		for (struct ww_desk *d = __atomic_load_n(&p->desks[__builtin_ctzll(bits)], __ATOMIC_SEQ_CST); d && !is;
+	     d = d->next)
 			is = reads_it(p, d, m->mutex_.number);
 	pthread_mutex_unlock(&p->spare);
 	return is;
