@@ -1,6 +1,17 @@
 /*
  * ww_seat.c - seats: those that threads keep, and those that anybody may use.  Who finds none of them free waits in a
- * queue (ww_queue.c).
+ * queue (ww_queue.c).  Who asks for a seat, and where it looks, from left to right:
+ *
+ *	who asks			its own		its last one	any			waits
+ *	a begin				seat_at_hand	claim_last	any_seat		ww_seek_seat
+ *		in a crowd		use_kept	-		any_seat, by a permit	ww_seek_seat
+ *		that doesn't wait	as these						-
+ *	a lock without a context	seat_at_hand	claim_last	any_seat		ww_seek_seat
+ *	a trylock without one		seat_at_hand	claim_last	any_seat		-
+ *	a begin by a poll		-		claim_last	any_seat		ww_queue_up
+ *
+ * any_seat comes first to the seat of the class that the thread keeps, and to others only if no thread waits.  In a
+ * crowd no seat is at hand, so that each begin asks for a permit; then claim_last finds none either.
  *
  * A seat is its user's while it is BUSY, and a thread may keep it (IS_KEPT): then nobody else comes to use it, and its
  * keeper does so without a read-modify-write.  These are two bits of its `busy`, and what comes next:
