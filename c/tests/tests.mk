@@ -132,7 +132,7 @@ REFUSES = aligned_alloc calloc free pthread_key_create pthread_key_delete pthrea
 $(OUT)/mutex_refuse: tests/mutex_refuse.c tests/test.h $(INSIDE) $(OBJECTS) $(PROVED)
 	$(CC) $(AS_C) $< $(OBJECTS) $(PROVED) $(LDFLAGS) $(REFUSES:%=-Wl,--wrap=%) -pthread -o $@
 
-$(SANITIZED_OBJECTS) $(THREADED_OBJECTS) $(MUTEX_ALL:%=$(OUT)/%_sanitized): ww_pool.h
+$(SANITIZED_OBJECTS) $(THREADED_OBJECTS) $(MUTEX_ALL:%=$(OUT)/%_sanitized): $(WITHIN)
 
 $(OUT)/mutex_own $(OUT)/mutex_own_threads: ww_mutex.hpp
 $(OUT)/mutex_own_threads: tests/mutex_own.cpp $(HEADERS) $(THREADED_OBJECTS)
@@ -222,7 +222,7 @@ ENDS_THREADS = nanosleep|clock_nanosleep|usleep|sleep|pause|poll|ppoll|select|ps
 check-cancel: $(OBJECTS) $(DEBUG_OBJECTS)
 	! nm -u $^ | grep -wE '$(ENDS_THREADS)'
 
-$(DEBUG_TESTS:%=$(OUT)/%_sanitized): $(OUT)/%_sanitized: tests/%.c tests/mutex_test.h tests/test.h $(DEBUGGED) ww_debug.h ww_pool.h $(INSIDE) $(OUT)/ww_proved.o
+$(DEBUG_TESTS:%=$(OUT)/%_sanitized): $(OUT)/%_sanitized: tests/%.c tests/mutex_test.h tests/test.h $(DEBUGGED) $(WITHIN) $(INSIDE) $(OUT)/ww_proved.o
 	$(CC) $(AS_C) -DWW_DEBUG $(SANITIZERS) $< $(DEBUGGED) $(OUT)/ww_proved.o $(LDFLAGS) -pthread -o $@
 
 check: check-cancel check-closed check-line check-mutex check-number check-probes
@@ -308,7 +308,7 @@ list-plain:
 
 SHAKEN = mutex_any mutex_seats mutex_torture mutex_pool mutex_many mutex_moves shared_storm
 SHAKEN_OBJECTS = $(SOURCES:%.c=$(OUT)/%_shaken.o)
-$(OUT)/%_shaken.o: %.c ww_pool.h tests/shake.h $(INSIDE)
+$(OUT)/%_shaken.o: %.c $(WITHIN) tests/shake.h $(INSIDE)
 	@mkdir -p $(OUT)
 	$(CC) $(AS_C) -include tests/shake.h -c $< -o $@
 $(OUT)/%_shaken: tests/%.c tests/test.h tests/mutex_test.h tests/shake.c $(INSIDE) $(SHAKEN_OBJECTS) $(OUT)/ww_proved.o
@@ -331,7 +331,7 @@ SEARCH_OBJECTS = $(SOURCES:%.c=$(SEARCH)/%.o) $(SEARCH)/programs.o
 SEARCH_DEBUG_OBJECTS = $(DEBUGGED:%.c=$(SEARCH)/debug/%.o) $(SEARCH)/debug/programs.o
 # The programs of shared mutexes, and those of the library's other calls.
 SEARCH_SHARED_OBJECTS = $(SEARCH_OBJECTS:%/programs.o=%/shared.o)
-SEARCH_HEADERS = tests/interleave/interleave.h ww_pool.h ww_debug.h $(INSIDE)
+SEARCH_HEADERS = tests/interleave/interleave.h $(WITHIN) $(INSIDE)
 STEPS = lock_ lock_slow_ try_ unlock_ go_on_ look_ is_wounded_ cancel_ heed_ begin_ end_ is_free_ has_ next_wake_ close_
 SEARCH_WRAPS = malloc calloc aligned_alloc free abort syscall sched_yield clock_gettime pthread_mutex_lock \
 	pthread_mutex_trylock pthread_mutex_unlock pthread_key_create pthread_key_delete pthread_setspecific pthread_atfork \
