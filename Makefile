@@ -1,7 +1,7 @@
-# make: the program ww_run and the library for C, of the proved assembly in generated/ and c/generated, in seconds, with a
-# C compiler alone (gcc or clang). The program stands at out/ww_run, where ./run finds it, and the library in c/out.
+# make: the program ww_run and the library for C, of the proved assembly in program/core and c/core, in seconds, with
+# a C compiler alone (gcc or clang). The program stands at out/ww_run, where ./run finds it, and the library in c/out.
 #
-# make check: what was made gives what is stored for each input of cases/ and examples/, with its exit status, and passes
+# make check: what was made gives what is stored for each input of program/, with its exit status, and passes
 # each test and example in C and C++ that needs no sanitizer.  make install: the program, the library, the pages, below
 # PREFIX (and DESTDIR).  make clean: what was made goes.
 #
@@ -17,12 +17,12 @@ endif
 PROCESSOR := $(firstword $(subst -, ,$(shell $(CC) -dumpmachine)))
 OUT = out$(if $(CROSS),/$(PROCESSOR))
 PROGRAM = $(OUT)/ww_run
-ASSEMBLY = generated/$(PROCESSOR).s
+ASSEMBLY = program/core/$(PROCESSOR).s
 AS_C = -std=c11 -Wall -Wextra -Wpedantic $(CPPFLAGS) $(CFLAGS)
 PREFIX = /usr/local
 MANDIR = $(PREFIX)/share/man
 DOCDIR = $(PREFIX)/share/doc/ww
-PAGES = README.md docs/FORMATS.md docs/RULES.md docs/GLOSSARY.md docs/DESIGN.md c/REFERENCE.md c/PROMISES.md c/CHANGES.md
+PAGES = README.md program/FORMATS.md docs/RULES.md docs/GLOSSARY.md docs/DESIGN.md c/REFERENCE.md c/PROMISES.md c/CHANGES.md
 TOOLS = explain trace picture json
 TOOLSDIR = $(PREFIX)/share/ww/tools
 MAKES_C = $(MAKE) --no-print-directory -C c CROSS='$(CROSS)' RUN='$(RUN)' PREFIX='$(abspath $(PREFIX))'
@@ -32,7 +32,7 @@ all: $(PROGRAM) library
 library:
 	+@$(MAKES_C) all
 
-generated/%.s:
+program/core/%.s:
 	@echo 'there is no $@: the proved program is there for x86_64 and aarch64 alone' >&2 && false
 
 # The checksum of the sources of which this program is stands beside it, for ./run and ./test.
@@ -45,21 +45,20 @@ $(PROGRAM): $(ASSEMBLY) c/program.c c/ww_steps.h
 	@tools/is_of_sources $@ || true
 
 check: all
-	+@bench/check_made $(PROGRAM) '$(CROSS)' $(RUN)
+	+@checks/check_made $(PROGRAM) '$(CROSS)' $(RUN)
 
 # As programs of another processor are run.
 check-program: $(PROGRAM)
-	+@bench/check_made --program $(PROGRAM) '$(CROSS)' $(RUN)
+	+@checks/check_made --program $(PROGRAM) '$(CROSS)' $(RUN)
 
 install: all
 	install -d $(DESTDIR)$(PREFIX)/bin $(DESTDIR)$(MANDIR)/man1 $(DESTDIR)$(DOCDIR) $(DESTDIR)$(TOOLSDIR)
 	install -m 755 $(PROGRAM) $(DESTDIR)$(PREFIX)/bin
-	install -m 644 docs/ww_run.1 $(DESTDIR)$(MANDIR)/man1
+	install -m 644 program/ww_run.1 $(DESTDIR)$(MANDIR)/man1
 	install -m 644 $(PAGES) $(DESTDIR)$(DOCDIR)
 	install -m 644 c/README.md $(DESTDIR)$(DOCDIR)/C.md
 	install -m 755 $(TOOLS:%=tools/%) $(DESTDIR)$(TOOLSDIR)
-	install -m 644 tools/core.py tools/inputs.py tools/layout.py tools/options.py tools/printed.py tools/streams.py tools/versions.py \
-		$(DESTDIR)$(TOOLSDIR)
+	install -m 644 tools/command.py tools/core.py tools/inputs.py tools/printed.py $(DESTDIR)$(TOOLSDIR)
 	+$(MAKES_C) install
 	@[ -n '$(DESTDIR)' ] || echo 'Programs find libww.so after ldconfig, or with -Wl,-rpath,$(abspath $(PREFIX))/lib; pkg-config --static ww takes libww.a.'
 

@@ -1,8 +1,10 @@
 /*
- * heap.c - the heap of the proved library.  What the three functions have to do is written in the toolchain's libc (src/heap.rt).
+ * heap.c - the heap of the proved library.  What the three functions have to do is written in the toolchain's libc
+ * (src/heap.rt).
  *
- * A large block has pages of its own, and takes them back to the system: so what is done with these here is right whatever malloc
- * the program has.  All others are malloc's.  A pointer to its pages, or NULL, stands BEFORE each block.
+ * A large block has pages of its own, and takes them back to the system: so what is done with these here is right
+ * whatever malloc the program has.  All others are malloc's.  A pointer to its pages, or NULL, stands BEFORE each
+ * block.
  */
 #define _GNU_SOURCE
 #include <stdint.h>
@@ -46,8 +48,8 @@ static struct pages **pages_of(void *p) { return (struct pages **)(void *)((char
 static size_t asked_for(size_t size) { return size < LARGE_PAGE ? size : (size + LARGE_PAGE - 1) & -(size_t)LARGE_PAGE; }
 
 /*
- * The tables of a class's locks are written whole when the class opens: in large pages that takes half the time, and random
- * locks of a million miss fewer pages.  The kernel takes the request as a hint.
+ * The tables of a class's locks are written whole when the class opens: in large pages that takes half the time, and
+ * random locks of a million miss fewer pages.  The kernel takes the request as a hint.
  */
 static void *take_pages(size_t size)
 {
@@ -116,13 +118,13 @@ static bool is_zero(const char *page, size_t size) { return !*page && !memcmp(pa
 void ww_heap_opens(void) { taken = &no_pages; }
 
 /*
- * Most of what a world writes as it opens is zero: the words of its locks, and its wait lists, in which nobody stands (that
- * these are zeros is proved, IsZerosIfEmpty of ww_invariant; how the compiler lays them out isn't, so each page is looked at).
- * Pages of zeros go back to the system, and are zero when they are next accessed; so a lock that nobody uses takes no memory.
- * Where the system refuses, they stay.
+ * Most of what a world writes as it opens is zero: the words of its locks, and its wait lists, in which nobody stands
+ * (that these are zeros is proved, IsZerosIfEmpty of ww_invariant; how the compiler lays them out isn't, so each page
+ * is looked at). Pages of zeros go back to the system, and are zero when they are next accessed; so a lock that nobody
+ * uses takes no memory. Where the system refuses, they stay.
  *
- * The wait lists are the last large block, and lie in small pages from now on: a thread that waits for a lock makes one of them
- * resident, and would make 2 MiB.
+ * The wait lists are the last large block, and lie in small pages from now on: a thread that waits for a lock makes one
+ * of them resident, and would make 2 MiB.
  */
 void ww_heap_opened(void)
 {

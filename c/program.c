@@ -1,8 +1,8 @@
 /*
- * program.c - what the proved program, as `make` builds it, has of C: the error number of a call that failed; its heap, which is
- * malloc's; a start at which that gets large pages, since a quarter of a run on a long input were the faults of small ones; and what
- * it says to whoever gives it a word, since the proved program reads none.
- * What the functions have to do is written in the toolchain's os and libc.
+ * program.c - what the proved program, as `make` builds it, has of C: the error number of a call that failed; its heap,
+ * which is malloc's; a start at which that gets large pages, since a quarter of a run on a long input were the faults
+ * of small ones; and what it says to whoever gives it a word, since the proved program reads none. What the functions
+ * have to do is written in the toolchain's os and libc.
  */
 #define _DEFAULT_SOURCE
 #include "ww_steps.h"

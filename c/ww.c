@@ -1,6 +1,6 @@
 /*
- * ww.c - the waiting that the proved library leaves to its caller: it tries again while it is awake (ww_try_awake), makes the
- * further steps (ww_go_on), and sleeps.
+ * ww.c - the waiting that the proved library leaves to its caller: it tries again while it is awake (ww_try_awake),
+ * makes the further steps (ww_go_on), and sleeps.
  *
  * A seat sleeps on its `token`:
  *
@@ -11,11 +11,11 @@
  *			NOTHING: a poll takes its waker back, by an exchange (ww_disarm); a thread's time has come, by a store (park)
  *	TOKEN		NOTHING: its user goes on, or doesn't sleep after all, by a store (park, arm)
  *
- * So no wake-up is lost: who wakes and who goes to sleep exchange one word, and the second of the two sees the first.  Whoever
- * stores NOTHING looks at its lock next, so a token that comes just before is one that it needs no more.
+ * So no wake-up is lost: who wakes and who goes to sleep exchange one word, and the second of the two sees the first.
+ * Whoever stores NOTHING looks at its lock next, so a token that comes just before is one that it needs no more.
  */
 #define _GNU_SOURCE
-#include "ww_pool.h"
+#include "ww_class.h"
 #include <errno.h>
 #include <linux/futex.h>
 #include <sched.h>
@@ -26,9 +26,9 @@ _Static_assert(sizeof(ww_seat) == 128 && offsetof(ww_seat, waits) == 64, "a seat
 _Static_assert(offsetof(ww_seat, handle) == 0, "a seat begins with its handle");
 
 /*
- * How long a call stays awake.  Who waits for longer than a sleep and a wake-up take had better have slept, and who sleeps at once
- * pays at most twice: A_SLEEP is about that long, where processors don't sleep deeply, and SHORTEST the least part of it that
- * shows whether waits have become short again.  Times are in nanoseconds.
+ * How long a call stays awake.  Who waits for longer than a sleep and a wake-up take had better have slept, and who
+ * sleeps at once pays at most twice: A_SLEEP is about that long, where processors don't sleep deeply, and SHORTEST the
+ * least part of it that shows whether waits have become short again.  Times are in nanoseconds.
  */
 #ifndef WW_AWAKE
 #define WW_AWAKE 20000
@@ -38,15 +38,19 @@ enum { A_SLEEP = WW_AWAKE, SHORTEST = A_SLEEP / 4 };
 /* A wait that takes LONGER times as long as those before it is seldom over soon; these are the last 8 or so. */
 enum { LONGER = 16, REMEMBERS = 8 };
 /*
- * At most so many pauses come between two looks at a word, since each takes its cache line from who writes it; and with one of
- * WW_LOOKS looks comes one at the clock.  In the search of schedules a program says how many, and there is no time for more.
+ * At most so many pauses come between two looks at a word, since each takes its cache line from who writes it; and with
+ * one of WW_LOOKS looks comes one at the clock.  In the search of schedules a program says how many, and there is no
+ * time for more.
  */
 enum { APART = 8 };
 /* How many waits a cycle may have that is found at once. */
 enum { LONGEST_CYCLE = 8 };
 /* In what ww_look_ returns: 1 more than the number of the owner's seat. */
 enum { OWNER = WW_OLDER_ - 1 };
-/* A seat that is outside a guard for so long sleeps so long before each further try: the thread inside may need its processor. */
+/*
+ * A seat that is outside a guard for so long sleeps so long before each further try: the thread inside may need its
+ * processor.
+ */
 enum { SHORT_SLEEP = 50000 };
 
 /* On AArch64 `yield` is no pause where a core has one thread. */
@@ -134,7 +138,8 @@ static uint32_t armed(const ww_seat *s) { return ARMED | s->armed << 2; }
 
 /*
  * From now on whoever wakes the seat calls this waker; false if the seat was woken before, whose token is then gone.
- * Relaxed: a thread that reads the waker finds this token before and after that.  A driver's move `parks`, or else `rises`.
+ * Relaxed: a thread that reads the waker finds this token before and after that.  A driver's move `parks`, or else
+ * `rises`.
  */
 static bool arm(ww_seat *s, const struct ww_waker *waker)
 {
@@ -157,7 +162,10 @@ bool ww_disarm(ww_seat *s)
 	return __atomic_compare_exchange_n(&s->token, &was, NOTHING, false, __ATOMIC_SEQ_CST, __ATOMIC_SEQ_CST);
 }
 
-/* The waker of a thread that sleeps on its seat's token. The thread may have gone on by then, so only the address is used. */
+/*
+ * The waker of a thread that sleeps on its seat's token. The thread may have gone on by then, so only the address is
+ * used.
+ */
 static void wake_thread(void *nothing, void *token)
 {
 	(void)nothing;
@@ -184,9 +192,9 @@ static void park(ww_seat *s, const struct ww_wait *wait)
 }
 
 /*
- * The waker is read before the token is left: after that the seat may be another's, or wait again.  Each wait has a number of
- * its own in the word.  So if the exchange finds the word unchanged, the waker is that wait's, and what was read relaxed was
- * stored before.  The exchange is a driver's move `wakes`.
+ * The waker is read before the token is left: after that the seat may be another's, or wait again.  Each wait has a
+ * number of its own in the word.  So if the exchange finds the word unchanged, the waker is that wait's, and what was
+ * read relaxed was stored before.  The exchange is a driver's move `wakes`.
  */
 void ww_unpark(ww_seat *s)
 {
@@ -213,7 +221,10 @@ void ww_wake(ww_seat *s)
 
 /* ---- trying again, awake ---- */
 
-/* How long this thread stays awake in a wait, by how long its last ones took: those of which a sleep would have been longer. */
+/*
+ * How long this thread stays awake in a wait, by how long its last ones took: those of which a sleep would have been
+ * longer.
+ */
 static uint64_t patience(void)
 {
 	uint64_t enough = SHORTEST + LONGER * ww_mine.usual;
@@ -237,7 +248,9 @@ void ww_end_wait(ww_seat *s, const struct ww_wait *wait)
 
 static ww_seat *seat_in(const ww_seat *s, int32_t seen) { return &s->pool->seats[(seen & OWNER) - 1]; }
 
-/* Whether this seat waits for the one that was seen, which waits for another, and so on, and one of them for this seat. */
+/*
+ * Whether this seat waits for the one that was seen, which waits for another, and so on, and one of them for this seat.
+ */
 static bool is_in_cycle(ww_seat *s, int32_t seen)
 {
 	for (unsigned k = 0; k < LONGEST_CYCLE && seen & OWNER; k++) {
@@ -252,8 +265,8 @@ static bool is_in_cycle(ww_seat *s, int32_t seen)
 }
 
 /*
- * Whether it is of no use to try a lock further, of which this was seen: this context has to die, which it does in the list; or its
- * wait is one of a cycle, which it ends there, as it wounds the owner, or dies.
+ * Whether it is of no use to try a lock further, of which this was seen: this context has to die, which it does in the
+ * list; or its wait is one of a cycle, which it ends there, as it wounds the owner, or dies.
  */
 static bool has_to_queue(ww_seat *s, int32_t seen)
 {
@@ -292,8 +305,8 @@ static void stop_if_due(ww_seat *s, struct ww_wait *wait)
  * After WW_AGAIN the next step comes immediately, and nothing else: the seat may be inside a guard, where it holds up
  * everybody.  A cancel that comes meanwhile ends the sleep to which these steps lead.
  *
- * Whom to wake is asked after these steps, since nobody can be due while a call pauses between them: it wasn't inside a guard
- * before, and a seat that is shut out of one has learned nothing.
+ * Whom to wake is asked after these steps, since nobody can be due while a call pauses between them: it wasn't inside a
+ * guard before, and a seat that is shut out of one has learned nothing.
  */
 static int go_on_awake(ww_seat *s, struct ww_wait *wait)
 {

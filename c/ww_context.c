@@ -1,11 +1,20 @@
-/* ww_context.c - the contexts of ww_mutex.h: how they begin and end, how they are cancelled, and whether they hold a mutex. */
+/*
+ * ww_context.c - the contexts of ww_mutex.h: how they begin and end, how they are cancelled, and whether they hold a
+ * mutex.
+ */
 #define _GNU_SOURCE
 #define WW_NO_INLINE /* As ww_mutex.c. */
-#include "ww_pool.h"
+#include "ww_context.h"
 
-static const char *told_at_begin(int r) { return r == -ENOSPC ? "it has begun as many contexts as it may" : told(r); }
+static const char *reason_at_begin(int r)
+{
+	return r == -ENOSPC ? "it has begun as many contexts as it may" : reason_of(r);
+}
 
-/* Relaxed: a thread that cancels the context that was here before may read these, and nothing is ordered by what it reads. */
+/*
+ * Relaxed: a thread that cancels the context that was here before may read these, and nothing is ordered by what it
+ * reads.
+ */
 static inline void of_seat(struct ww_acquire_ctx *x, struct ww_pool *p, ww_seat *s)
 {
 	x->pool = p;
@@ -111,7 +120,7 @@ static __attribute__((noinline)) void init_else(struct ww_acquire_ctx *x, struct
 	if (LIKELY(s))
 		begin_for_certain(x, p, s);
 	else if ((r = begin(x, c, NULL, false)))
-		end_of(c, "ww_acquire_init", told_at_begin(r));
+		end_of(c, "ww_acquire_init", reason_at_begin(r));
 }
 
 void ww_acquire_init(struct ww_acquire_ctx *x, struct ww_class *c)
@@ -125,7 +134,9 @@ void ww_acquire_init(struct ww_acquire_ctx *x, struct ww_class *c)
 		init_else(x, c, p);
 }
 
-/* The proved library isn't called: as in the kernel, a lock after this is like any other; the debug library reports it. */
+/*
+ * The proved library isn't called: as in the kernel, a lock after this is like any other; the debug library reports it.
+ */
 int ww_acquire_done_checked(struct ww_acquire_ctx *x)
 {
 	if (UNLIKELY(!x->own || x->state & (IS_DONE | IS_POLLED)))
@@ -139,7 +150,8 @@ static const struct ww_class *class_of(const struct ww_acquire_ctx *x) { return 
 void ww_acquire_done(struct ww_acquire_ctx *x)
 {
 	if (UNLIKELY(ww_acquire_done_checked(x)))
-		end_of(class_of(x), "ww_acquire_done", x->own && is_polled(x) ? WAITS_BY_POLL : "the context is done, or has ended");
+		end_of(class_of(x), "ww_acquire_done",
+	       x->own && is_polled(x) ? WAITS_BY_POLL : "the context is done, or has ended");
 }
 
 int ww_acquire_fini_checked(struct ww_acquire_ctx *x)
@@ -157,7 +169,7 @@ int ww_acquire_fini_checked(struct ww_acquire_ctx *x)
 }
 
 /* Whether what it holds is what it reads by: see ww_shared.c. */
-static const char *told_of_held(const struct ww_acquire_ctx *x)
+static const char *reason_of_held(const struct ww_acquire_ctx *x)
 {
 	const struct ww_desk *d = x->own->desk;
 	bool reads = d && holder_of(&d->mutex) == x && x->acquired == 1;
@@ -171,7 +183,7 @@ COLD static void fini_else(struct ww_acquire_ctx *x)
 		return;
 	DEBUG(ww_debug_unended(x));
 	end_of(class_of(x), "ww_acquire_fini", !x->own ? "the context has ended" : is_polled(x) ? WAITS_BY_POLL :
-		x->acquired ? told_of_held(x) : told_at_begin(-ENOSPC));
+		x->acquired ? reason_of_held(x) : reason_at_begin(-ENOSPC));
 }
 
 void ww_acquire_fini(struct ww_acquire_ctx *x)

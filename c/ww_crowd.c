@@ -1,6 +1,6 @@
 /*
- * ww_crowd.c - crowds: while threads of a class often wait for its mutexes, and fewer of them at a time end more contexts, only
- * threads with a permit begin contexts of it.  The others wait for a permit in turn, holding nothing.
+ * ww_crowd.c - crowds: while threads of a class often wait for its mutexes, and fewer of them at a time end more
+ * contexts, only threads with a permit begin contexts of it.  The others wait for a permit in turn, holding nothing.
  *
  *	the class	what comes next, and by what
  *	no crowd	a crowd: a thread spent an eighth of its time in waits, unless the last one was of no use a moment ago
@@ -13,25 +13,37 @@
  *			stale: its lease has been over for GRACE, whatever its thread does, or it was free for as long
  *	stale		taken: by anybody in the line who looks, as the first one does in time
  *
- * With a permit a thread begins as many contexts as it likes, since each change costs a wake-up.  So threads get permits in the
- * order in which they came, and no wait is endless: who gets no processor, though it is first, or keeps its permit for long,
- * is passed.  All of this is a hint: no lock asks who has a permit, so coming without one, or too late, costs only time.
+ * With a permit a thread begins as many contexts as it likes, since each change costs a wake-up.  So threads get
+ * permits in the order in which they came, and no wait is endless: who gets no processor, though it is first, or keeps
+ * its permit for long, is passed.  All of this is a hint: no lock asks who has a permit, so coming without one, or too
+ * late, costs only time.
  */
 #define _GNU_SOURCE
-#include "ww_pool.h"
+#include "ww_seat.h"
 #include <sched.h>
 #include <string.h>
 #include <unistd.h>
 
 /* All times are in nanoseconds.  A meeting costs about so much more than the wait for it: cache lines. */
 enum { MEETING = 1000 };
-/* A thread sums up its waits till they come to this much; they are many if they are one part in MANY_WAITS of its time. */
+/*
+ * A thread sums up its waits till they come to this much; they are many if they are one part in MANY_WAITS of its time.
+ */
 enum { SAMPLE = 32000, MANY_WAITS = 8 };
-/* For so long there is no crowd after one that ended; each time twice as long, up to this, until a width is kept for WELL_KEPT windows. */
+/*
+ * For so long there is no crowd after one that ended; each time twice as long, up to this, until a width is kept for
+ * WELL_KEPT windows.
+ */
 enum { REST = 16000000, LONGEST_REST = 512000000, WELL_KEPT = 64 };
-/* With a permit a thread reads the clock with one context in AT_ONCE, if these are short: together a sixteenth of its lease. */
+/*
+ * With a permit a thread reads the clock with one context in AT_ONCE, if these are short: together a sixteenth of its
+ * lease.
+ */
 enum { AT_ONCE = 16 };
-/* As long as MANY_PERMITS threads take that wake one another in turn, in deep sleep: so those don't get ever more beside them. */
+/*
+ * As long as MANY_PERMITS threads take that wake one another in turn, in deep sleep: so those don't get ever more
+ * beside them.
+ */
 enum { GRACE = 4000000 };
 
 /* A thread that stands in the line, on its stack. */
@@ -46,7 +58,10 @@ static uint64_t nanoseconds(const struct timespec *at)
 	return at && at->tv_sec < (time_t)1 << 33 ? (uint64_t)at->tv_sec * 1000000000 + (uint64_t)at->tv_nsec : UINT64_MAX;
 }
 
-/* The set has room for as many as a kernel has; where that doesn't say which of them this thread may use, all that run count. */
+/*
+ * The set has room for as many as a kernel has; where that doesn't say which of them this thread may use, all that run
+ * count.
+ */
 uint32_t ww_processors(void)
 {
 	cpu_set_t set[8192 / CPU_SETSIZE];
@@ -73,7 +88,10 @@ void ww_crowd_open(struct ww_pool *p)
 /* ---- whether there is one ---- */
 
 /* Relaxed: a thread that sees it late begins one context more without a permit, or looks once more for one. */
-static void be(struct ww_pool *p, bool crowded) { __atomic_store_n(&p->at_hand, crowded ? CROWDED : p->id, __ATOMIC_RELAXED); }
+static void set_crowded(struct ww_pool *p, bool crowded)
+{
+	__atomic_store_n(&p->at_hand, crowded ? CROWDED : p->id, __ATOMIC_RELAXED);
+}
 
 COLD static void begin_crowd(struct ww_pool *p)
 {
@@ -82,8 +100,9 @@ COLD static void begin_crowd(struct ww_pool *p)
 
 	pthread_mutex_lock(&crowd->lock);
 	if (!is_crowded(p)) {
-		ww_gate_open(&crowd->gate, said ? said : 1, said ? said : 1, said ? said : 1, said ? said : MANY_PERMITS, MANY_PERMITS);
-		be(p, true);
+		ww_gate_open(&crowd->gate, said ? said : 1, said ? said : 1, said ? said : 1,
+			     said ? said : MANY_PERMITS, MANY_PERMITS);
+		set_crowded(p, true);
 	}
 	pthread_mutex_unlock(&crowd->lock);
 }
@@ -93,7 +112,8 @@ void ww_has_waited(struct ww_pool *p, uint64_t now, uint64_t took)
 	ww_mine.waited += took + MEETING;
 	if (LIKELY(ww_mine.waited < SAMPLE))
 		return;
-	if (now - ww_mine.counted < MANY_WAITS * ww_mine.waited && !p->gone && !is_crowded(p) && now >= __atomic_load_n(&p->crowd.rests, __ATOMIC_RELAXED))
+	if (now - ww_mine.counted < MANY_WAITS * ww_mine.waited && !p->gone && !is_crowded(p) &&
+	    now >= __atomic_load_n(&p->crowd.rests, __ATOMIC_RELAXED))
 		begin_crowd(p);
 	ww_mine.waited = 0;
 	ww_mine.counted = now;
@@ -122,21 +142,22 @@ void ww_crowd_cancel(struct ww_pool *p)
 }
 
 /* Looks at the gate, and ends a crowd that is of no use. The crowd is locked. */
-static void look(struct ww_pool *p, uint64_t now)
+static void look_at_crowd(struct ww_pool *p, uint64_t now)
 {
 	struct ww_crowd *crowd = &p->crowd;
 
 	if (!is_crowded(p))
 		return;
 	__atomic_store_n(&crowd->due, now + crowd->gate.lease / 4, __ATOMIC_RELAXED);
-	if (ww_gate_look(&crowd->gate, now, __atomic_load_n(&crowd->begun, __ATOMIC_RELAXED), crowd->first ? now : crowd->awaited)) {
+	if (ww_gate_look(&crowd->gate, now, __atomic_load_n(&crowd->begun, __ATOMIC_RELAXED),
+			 crowd->first ? now : crowd->awaited)) {
 		if (crowd->gate.holds >= WELL_KEPT)
 			crowd->rest = REST;
 		return;
 	}
 	__atomic_store_n(&crowd->rests, now + crowd->rest, __ATOMIC_RELAXED);
 	crowd->rest = crowd->rest < LONGEST_REST / 2 ? 2 * crowd->rest : LONGEST_REST;
-	be(p, false);
+	set_crowded(p, false);
 	call_all(crowd);
 }
 
@@ -182,7 +203,9 @@ static bool takes(struct ww_pool *p, uint64_t now, const struct ww_in_line *me)
 		it = find(crowd, is_stale, now);
 	if (!it && crowd->gate.width != NO_LIMIT)
 		return false;
-	ww_mine.permit = (struct ww_my_permit){ .id = p->id, .it = it, .ends = now + crowd->gate.lease, .seen = now, .brief = crowd->gate.lease / 16 };
+	ww_mine.permit = (struct ww_my_permit){
+		.id = p->id, .it = it, .ends = now + crowd->gate.lease, .seen = now, .brief = crowd->gate.lease / 16,
+	};
 	if (it)
 		*it = (struct ww_permit){ .ends = ww_mine.permit.ends, .seat = kept_seat(p) };
 	return true;
@@ -211,8 +234,9 @@ static void leave(struct ww_crowd *crowd, const struct ww_in_line *me)
 }
 
 /*
- * When to look for a permit, unless called.  The first in the line looks once one should have been put back, and once it is stale;
- * the others only once it should have been their turn, in case those before them get no processor.  The crowd is locked.
+ * When to look for a permit, unless called.  The first in the line looks once one should have been put back, and once
+ * it is stale; the others only once it should have been their turn, in case those before them get no processor.  The
+ * crowd is locked.
  */
 static uint64_t looks_at(const struct ww_pool *p, uint64_t now, const struct ww_in_line *me)
 {
@@ -220,7 +244,8 @@ static uint64_t looks_at(const struct ww_pool *p, uint64_t now, const struct ww_
 	uint64_t at = now + crowd->gate.lease * (permit_seekers(p) / crowd->gate.width + 1);
 
 	for (uint32_t k = 0; me == crowd->first && k < crowd->gate.width && k < MANY_PERMITS; k++) {
-		uint64_t ends = crowd->permits[k].ends, late = ends + crowd->gate.lease / 4, next = now < late ? late : ends + GRACE;
+		uint64_t ends = crowd->permits[k].ends, late = ends + crowd->gate.lease / 4;
+		uint64_t next = now < late ? late : ends + GRACE;
 
 		at = next < at ? next : at;
 	}
@@ -228,8 +253,9 @@ static uint64_t looks_at(const struct ww_pool *p, uint64_t now, const struct ww_
 }
 
 /*
- * Waits for a permit, but not longer than until this time; -EINTR if the class ended the wait, which heeds that.  It looks for that
- * under the lock, so who cancels the class finds it in the line, or was before it.  The crowd isn't locked while it sleeps.
+ * Waits for a permit, but not longer than until this time; -EINTR if the class ended the wait, which heeds that.  It
+ * looks for that under the lock, so who cancels the class finds it in the line, or was before it.  The crowd isn't
+ * locked while it sleeps.
  */
 static int stand_in_line(struct ww_pool *p, uint64_t now, uint64_t until, bool heeds)
 {
@@ -268,7 +294,7 @@ COLD static int find_permit(struct ww_pool *p, uint64_t now, uint64_t until, boo
 	if (ww_mine.permit.id == p->id && ww_mine.permit.it && ww_mine.permit.it->ends == ww_mine.permit.ends)
 		*ww_mine.permit.it = (struct ww_permit){ .ends = now };
 	ww_mine.permit = (struct ww_my_permit){ .id = p->id };
-	look(p, now);
+	look_at_crowd(p, now);
 	call_first(crowd, now);
 	*stood = is_crowded(p) && !takes(p, now, NULL);
 	if (*stood)
@@ -291,7 +317,7 @@ static void goes_on(struct ww_pool *p, uint64_t now)
 	ww_mine.permit.at_once = now - ww_mine.permit.seen < ww_mine.permit.brief ? AT_ONCE : 0;
 	ww_mine.permit.seen = now;
 	if (now >= __atomic_load_n(&crowd->due, __ATOMIC_RELAXED) && !pthread_mutex_trylock(&crowd->lock)) {
-		look(p, now);
+		look_at_crowd(p, now);
 		call_first(crowd, now);
 		pthread_mutex_unlock(&crowd->lock);
 	}

@@ -1,6 +1,6 @@
 /* ww_debug.c - what libww_debug does in addition to each call of ww_mutex.h: it reports misuse, and warns. */
 #define _GNU_SOURCE
-#include "ww_pool.h"
+#include "ww_context.h"
 #ifdef WW_DEBUG /* a build may name all sources */
 #include <stdarg.h>
 #include <sys/syscall.h>
@@ -25,8 +25,8 @@ struct place {
 };
 
 /*
- * Of a mutex, by its number: where it lies; and while it is held the number of the seat that holds it, plus one, and the thread
- * that acquired it.
+ * Of a mutex, by its number: where it lies; and while it is held the number of the seat that holds it, plus one, and
+ * the thread that acquired it.
  */
 struct holding {
 	const struct ww_mutex *lies_at;
@@ -35,11 +35,12 @@ struct holding {
 };
 
 /*
- * What is watched of a seat: its context; the index of that in the order in which contexts began (`stamp`; 0 without a context);
- * and how many mutexes it holds.  While a context or a lock with NULL uses it: where that began, and the thread that called by it
- * last, but not for a task, which may go on in any thread.  While it waits: the number of the mutex, plus one (`wants`); where;
- * its thread's number in the system; and the number of this wait among all without a time, or 0 (`endless`).  From -EDEADLK
- * until it acquires something: the mutex at which that came (`refused`), and where the program asked for it.
+ * What is watched of a seat: its context; the index of that in the order in which contexts began (`stamp`; 0 without a
+ * context); and how many mutexes it holds.  While a context or a lock with NULL uses it: where that began, and the
+ * thread that called by it last, but not for a task, which may go on in any thread.  While it waits: the number of the
+ * mutex, plus one (`wants`); where; its thread's number in the system; and the number of this wait among all without a
+ * time, or 0 (`endless`).  From -EDEADLK until it acquires something: the mutex at which that came (`refused`), and
+ * where the program asked for it.
  */
 struct watch {
 	const struct ww_acquire_ctx *context;
@@ -121,12 +122,13 @@ unsigned long ww_debug_warnings(void) { return __atomic_load_n(&warnings, __ATOM
 static bool is_new(uint64_t about)
 {
 	enum { PLACES = 4096 };
-	static uint64_t told_of[PLACES];
+	static uint64_t reported[PLACES];
 
 	for (unsigned k = 0; k < PLACES; k++) {
 		uint64_t is = 0;
 
-		if (__atomic_compare_exchange_n(&told_of[(about / PLACES + k) % PLACES], &is, about, false, __ATOMIC_RELAXED, __ATOMIC_RELAXED))
+		if (__atomic_compare_exchange_n(&reported[(about / PLACES + k) % PLACES], &is, about, false, __ATOMIC_RELAXED,
+						__ATOMIC_RELAXED))
 			return true;
 		if (is == about)
 			return false;
@@ -145,7 +147,10 @@ static bool is_new_here(const struct ww_class *c, const char *words)
 	return is_new(((key ^ (uintptr_t)words) * MIX ^ (uintptr_t)c) * MIX | 1);
 }
 
-/* Writes the calls of this thread, without those of the library, which come before the call that is near; and once how to name them. */
+/*
+ * Writes the calls of this thread, without those of the library, which come before the call that is near; and once how
+ * to name them.
+ */
 static void trace(void)
 {
 #ifdef HAS_BACKTRACE
@@ -164,11 +169,12 @@ static void trace(void)
 }
 
 /*
- * Writes a report, with the name of the class, if that isn't NULL.  After the words comes the place of what began earlier, if
- * that isn't NULL.  A warning, of a call that is right by itself, is reported once for each call of the program and class.
+ * Writes a report, with the name of the class, if that isn't NULL.  After the words comes the place of what began
+ * earlier, if that isn't NULL.  A warning, of a call that is right by itself, is reported once for each call of the
+ * program and class.
  *
- * Only standard error is locked meanwhile.  pthread_cancel doesn't end the thread during the message: otherwise standard error
- * would stay locked, and whatever the call had acquired.
+ * Only standard error is locked meanwhile.  pthread_cancel doesn't end the thread during the message: otherwise
+ * standard error would stay locked, and whatever the call had acquired.
  */
 __attribute__((format(printf, 5, 6))) static void tell(unsigned long *counted, const struct ww_class *c, const char *call,
 						       const struct place *earlier, const char *format, ...)
@@ -216,11 +222,17 @@ int ww_debug_open(struct ww_pool *p)
 
 void ww_debug_free(struct ww_pool *p) { free(p->debug); }
 
-/* No other thread has the same, nor had it, once this one has used a seat; before that it holds nothing, and waits for nothing. */
+/*
+ * No other thread has the same, nor had it, once this one has used a seat; before that it holds nothing, and waits for
+ * nothing.
+ */
 static const void *this_thread(void) { return ww_mine.thread ? (const void *)(uintptr_t)ww_mine.thread : &ww_here; }
 
 /* The thread that calls by it now; NULL for a task, which may go on in another thread at any time. */
-static const void *user_of(const struct watch *s) { return __atomic_load_n(&s->is_polled, __ATOMIC_RELAXED) ? NULL : this_thread(); }
+static const void *user_of(const struct watch *s)
+{
+	return __atomic_load_n(&s->is_polled, __ATOMIC_RELAXED) ? NULL : this_thread();
+}
 
 /* This thread makes a call by the seat. For a lock with NULL that is where it began. */
 static void use(struct watch *s)
@@ -244,20 +256,27 @@ static void unuse_if_free(struct watch *s)
 
 enum has { THIS_CONTEXT, REFUSED, ANYTHING, A_CONTEXT, A_MUTEX, A_WAIT };
 
-/* Whether its context is this one, or one of this thread that got -EDEADLK at this mutex; or whether this thread has such a thing. */
+/*
+ * Whether its context is this one, or one of this thread that got -EDEADLK at this mutex; or whether this thread has
+ * such a thing.
+ */
 static bool has(const struct watch *s, const void *it, enum has what)
 {
 	if (what == THIS_CONTEXT)
 		return __atomic_load_n(&s->context, __ATOMIC_RELAXED) == it;
 	if (what == REFUSED)
-		return __atomic_load_n(&s->refused, __ATOMIC_RELAXED) == it && __atomic_load_n(&s->thread, __ATOMIC_RELAXED) == this_thread();
+		return __atomic_load_n(&s->refused, __ATOMIC_RELAXED) == it &&
+			__atomic_load_n(&s->thread, __ATOMIC_RELAXED) == this_thread();
 	if (__atomic_load_n(&s->thread, __ATOMIC_RELAXED) != it)
 		return false;
 	return what == ANYTHING || (what == A_CONTEXT ? __atomic_load_n(&s->stamp, __ATOMIC_RELAXED) :
 		what == A_MUTEX ? __atomic_load_n(&s->held, __ATOMIC_RELAXED) : __atomic_load_n(&s->wants, __ATOMIC_RELAXED));
 }
 
-/* A seat of which that is so, in this class, or with `further` in any from it on in their list, which is locked then; or NULL. */
+/*
+ * A seat of which that is so, in this class, or with `further` in any from it on in their list, which is locked then;
+ * or NULL.
+ */
 static const ww_seat *seat_with(const struct ww_pool *p, bool further, const void *it, enum has what)
 {
 	for (; p; p = further ? p->next : NULL)
@@ -268,8 +287,8 @@ static const ww_seat *seat_with(const struct ww_pool *p, bool further, const voi
 }
 
 /*
- * Whether all calls of this thread come here.  Code that isn't compiled with WW_DEBUG has the quick calls compiled in, which
- * don't come here, and its calls don't say their lines.
+ * Whether all calls of this thread come here.  Code that isn't compiled with WW_DEBUG has the quick calls compiled in,
+ * which don't come here, and its calls don't say their lines.
  */
 static bool is_seen(void) { return ww_here.file; }
 
@@ -280,7 +299,8 @@ static void tell_if_unseen(void)
 
 	if (WW_PATIENCE > 0 && !is_seen() && !__atomic_exchange_n(&is_said, true, __ATOMIC_RELAXED))
 		tell(&warnings, NULL, "libww_debug", NULL,
-		     "the calls of this program weren't compiled with -DWW_DEBUG: reports have no lines, and some misuse isn't seen");
+		     "the calls of this program weren't compiled with -DWW_DEBUG: "
+		     "reports have no lines, and some misuse isn't seen");
 }
 
 void ww_debug_begun(struct ww_acquire_ctx *x)
@@ -293,10 +313,12 @@ void ww_debug_begun(struct ww_acquire_ctx *x)
 	__atomic_store_n(&s->is_polled, polls, __ATOMIC_RELAXED);
 	if (left) { /* and its memory is another's by now */
 		__atomic_store_n(&watch_of(left)->context, NULL, __ATOMIC_RELAXED);
-		tell(&faults, p->class_, "ww_acquire_init", &watch_of(left)->began, "the context that was here before was left without ww_acquire_fini; it began at");
+		tell(&faults, p->class_, "ww_acquire_init", &watch_of(left)->began,
+		     "the context that was here before was left without ww_acquire_fini; it began at");
 	}
 	if (first && !polls)
-		tell(&warnings, p->class_, "ww_acquire_init", &watch_of(first)->began, "two contexts of a thread can wait for each other forever; "
+		tell(&warnings, p->class_, "ww_acquire_init", &watch_of(first)->began,
+		     "two contexts of a thread can wait for each other forever; "
 		     "its other one, if it wasn't left without ww_acquire_fini, began at");
 	__atomic_store_n(&s->context, polls ? NULL : x, __ATOMIC_RELAXED); /* A task's may be moved, as Rust does. */
 	x->stamp = __atomic_add_fetch(&p->debug->stamps, 1, __ATOMIC_RELAXED);
@@ -349,7 +371,9 @@ void ww_debug_acquired(const struct ww_mutex *m, const struct ww_acquire_ctx *x,
 		acquired = m;
 }
 
-/* Whether a context of this thread got -EDEADLK at the mutex, which is reported here: the program didn't look at that. */
+/*
+ * Whether a context of this thread got -EDEADLK at the mutex, which is reported here: the program didn't look at that.
+ */
 static bool unlocks_refused(const struct ww_mutex *m)
 {
 	const ww_seat *s = seat_with(ww_lock_pools(), true, m, REFUSED);
@@ -363,9 +387,15 @@ static bool unlocks_refused(const struct ww_mutex *m)
 
 /* ---- mutexes ---- */
 
-void ww_debug_made(const struct ww_mutex *m) { __atomic_store_n(&m->pool->debug->mutexes[m->number].lies_at, m, __ATOMIC_RELAXED); }
+void ww_debug_made(const struct ww_mutex *m)
+{
+	__atomic_store_n(&m->pool->debug->mutexes[m->number].lies_at, m, __ATOMIC_RELAXED);
+}
 
-/* Why nobody holds a mutex that is unlocked here, though somebody seems to: it lies elsewhere, or was made anew; or NULL. */
+/*
+ * Why nobody holds a mutex that is unlocked here, though somebody seems to: it lies elsewhere, or was made anew; or
+ * NULL.
+ */
 static const char *why_unheld(const struct ww_pool *of, const struct ww_mutex *m)
 {
 	while (of && of != m->pool)
@@ -396,9 +426,11 @@ void ww_debug_released(const struct ww_mutex *m)
 {
 	struct holding *h = &m->pool->debug->mutexes[m->number];
 	uint32_t seat = __atomic_load_n(&h->seat, __ATOMIC_RELAXED);
-	struct watch *by = seat ? &m->pool->debug->seats[seat - 1] : NULL; /* NULL: that seat is in the middle of its own unlock */
+	/* NULL: that seat is in the middle of its own unlock */
+	struct watch *by = seat ? &m->pool->debug->seats[seat - 1] : NULL;
 
-	if (is_seen() && __atomic_load_n(&h->thread, __ATOMIC_RELAXED) != this_thread() && !(by && !user_of(by)) && !unlocks_refused(m))
+	if (is_seen() && __atomic_load_n(&h->thread, __ATOMIC_RELAXED) != this_thread() && !(by && !user_of(by)) &&
+	    !unlocks_refused(m))
 		ww_debug_fault(m->pool->class_, "ww_mutex_unlock", "another thread acquired the mutex");
 	if (!by)
 		return;
@@ -455,13 +487,16 @@ static void refuse(const struct ww_mutex *m, struct ww_acquire_ctx *x)
 {
 	struct watch *s = watch_of(x->own);
 
-	x->state |= WAS_TOLD;
+	x->state |= WAS_REFUSED;
 	use(s);
 	set_place(&s->asked);
 	__atomic_store_n(&s->refused, m, __ATOMIC_RELAXED);
 }
 
-/* Releases the mutex that was just acquired, and returns -EDEADLK; until the next time it takes three and a half times as long. */
+/*
+ * Releases the mutex that was just acquired, and returns -EDEADLK; until the next time it takes three and a half times
+ * as long.
+ */
 static int injected(struct ww_mutex *m, struct ww_acquire_ctx *x)
 {
 	unsigned interval = x->deadlock_inject_interval;
@@ -481,7 +516,7 @@ static int injected(struct ww_mutex *m, struct ww_acquire_ctx *x)
 	return -EDEADLK;
 }
 
-int ww_debug_told(struct ww_mutex *m, struct ww_acquire_ctx *x, int r, bool injects)
+int ww_debug_result(struct ww_mutex *m, struct ww_acquire_ctx *x, int r, bool injects)
 {
 	bool anew = acquired == m; /* What it held before stays held. */
 
@@ -493,15 +528,15 @@ int ww_debug_told(struct ww_mutex *m, struct ww_acquire_ctx *x, int r, bool inje
 	else if (r == -EINVAL && injects && watch_of(x->own)->refused)
 		tell_not_released("ww_mutex_lock", x->own);
 	else if (r == -EINVAL && injects)
-		ww_debug_fault(m->pool->class_, "ww_mutex_lock", told(r));
+		ww_debug_fault(m->pool->class_, "ww_mutex_lock", reason_of(r));
 	if (r)
 		return r;
 	if (anew && x->state & IS_DONE)
 		ww_debug_fault(m->pool->class_, "ww_mutex_lock", "the context is done");
-	if (x->state & WAS_TOLD && x->contending_lock != m)
+	if (x->state & WAS_REFUSED && x->contending_lock != m)
 		tell(&faults, m->pool->class_, "ww_mutex_lock", &watch_of(x->own)->asked,
 		     "after -EDEADLK another mutex comes first than that at which it came, at");
-	x->state &= ~(unsigned)(WAS_TOLD | WAS_INJECTED);
+	x->state &= ~(unsigned)(WAS_REFUSED | WAS_INJECTED);
 	__atomic_store_n(&watch_of(x->own)->refused, NULL, __ATOMIC_RELAXED);
 	return injects && anew && x->acquired > 1 ? injected(m, x) : 0;
 }
@@ -523,7 +558,10 @@ static struct timespec in_milliseconds(uint64_t count)
 	return (struct timespec){ at.tv_sec + (time_t)(of_second / 1000000000), (long)(of_second % 1000000000) };
 }
 
-/* A time that is years away, but no century, is one of another clock; and soon after the system began, but long ago, a duration. */
+/*
+ * A time that is years away, but no century, is one of another clock; and soon after the system began, but long ago, a
+ * duration.
+ */
 void ww_debug_time(const struct timespec *until)
 {
 	static const char words[] = "the time is %s: is it one of CLOCK_MONOTONIC, and no duration?";
@@ -546,7 +584,8 @@ void ww_debug_waits(ww_seat *s, const struct ww_mutex *m, const struct ww_wait *
 		mine.is_long = in_milliseconds(1000ull * ww_patience());
 		use(it);
 		set_place(&it->waits);
-		__atomic_store_n(&it->endless, wait->until ? 0 : __atomic_add_fetch(&endless_waits, 1, __ATOMIC_RELAXED), __ATOMIC_RELAXED);
+		__atomic_store_n(&it->endless, wait->until ? 0 : __atomic_add_fetch(&endless_waits, 1, __ATOMIC_RELAXED),
+				 __ATOMIC_RELAXED);
 	}
 	__atomic_store_n(&it->wants, m ? m->number + 1 : 0, __ATOMIC_RELAXED);
 	if (!m)
@@ -568,7 +607,10 @@ void ww_debug_seeks(const struct ww_pool *p, const struct timespec *until)
 
 void ww_debug_check_interval(unsigned milliseconds) { __atomic_store_n(&check_interval, milliseconds, __ATOMIC_RELAXED); }
 
-/* The seat by which the holder of what this seat waits for waits itself, in any class of the list, which is locked; or NULL. */
+/*
+ * The seat by which the holder of what this seat waits for waits itself, in any class of the list, which is locked; or
+ * NULL.
+ */
 static const ww_seat *next_wait(const struct ww_pool *of, const ww_seat *s)
 {
 	uint32_t wants = __atomic_load_n(&watch_of(s)->wants, __ATOMIC_RELAXED);
@@ -580,15 +622,17 @@ static const ww_seat *next_wait(const struct ww_pool *of, const ww_seat *s)
 /* Whether its thread sleeps, and nobody has woken it. */
 static bool is_parked(const ww_seat *s)
 {
-	return __atomic_load_n(&s->token, __ATOMIC_SEQ_CST) >= ARMED && !__atomic_load_n(&watch_of(s)->is_polled, __ATOMIC_RELAXED);
+	return __atomic_load_n(&s->token, __ATOMIC_SEQ_CST) >= ARMED &&
+		!__atomic_load_n(&watch_of(s)->is_polled, __ATOMIC_RELAXED);
 }
 
 /*
- * Follows this wait to that of the thread that holds the mutex, and so on.  If this comes back to the first wait, and each of
- * the threads sleeps without a time, it returns a number that identifies these waits, and how many there are; otherwise 0.
+ * Follows this wait to that of the thread that holds the mutex, and so on.  If this comes back to the first wait, and
+ * each of the threads sleeps without a time, it returns a number that identifies these waits, and how many there are;
+ * otherwise 0.
  *
- * If two checks give the same number, each thread was in its wait all the time between them, and holds what it held: so they
- * sleep forever.  A thread that has got something, an error or what it waited for, was woken, and isn't parked.
+ * If two checks give the same number, each thread was in its wait all the time between them, and holds what it held: so
+ * they sleep forever.  A thread that has got something, an error or what it waited for, was woken, and isn't parked.
  */
 static uint64_t deadlock(const struct ww_pool *of, unsigned *count)
 {
@@ -639,7 +683,10 @@ static char *text_of_deadlock(const struct ww_pool *of, unsigned count)
 	return to && !fclose(to) ? words : NULL;
 }
 
-/* The second check reports a deadlock, since one of the threads may be about to be woken; and only one of them reports it. */
+/*
+ * The second check reports a deadlock, since one of the threads may be about to be woken; and only one of them reports
+ * it.
+ */
 static void look_for_deadlock(void)
 {
 	const struct ww_pool *of = ww_lock_pools();
@@ -652,7 +699,8 @@ static void look_for_deadlock(void)
 	ww_unlock_pools();
 	mine.seen = seen;
 	if (text)
-		tell(&warnings, NULL, "a wait", NULL, "no class detects this deadlock of %u thread%s%s", count, count == 1 ? "" : "s", text);
+		tell(&warnings, NULL, "a wait", NULL, "no class detects this deadlock of %u thread%s%s", count,
+		     count == 1 ? "" : "s", text);
 	free(text);
 }
 
@@ -663,7 +711,10 @@ static bool has_ended(const struct watch *s)
 	       syscall(SYS_tgkill, getpid(), __atomic_load_n(&s->tid, __ATOMIC_RELAXED), 0) == -1 && errno == ESRCH;
 }
 
-/* What it waits for has been held for long: by a thread that does something else, or by a context that was left and never ends. */
+/*
+ * What it waits for has been held for long: by a thread that does something else, or by a context that was left and
+ * never ends.
+ */
 static void look_for_long_wait(void)
 {
 	const struct ww_pool *p = mine.seat->pool;
@@ -671,7 +722,8 @@ static void look_for_long_wait(void)
 	uint32_t holder = __atomic_load_n(&p->debug->mutexes[number].seat, __ATOMIC_RELAXED);
 
 	if (holder && !mine.seen && ww_patience() && ww_has_come(&mine.is_long))
-		tell(&warnings, p->class_, "a wait", &p->debug->seats[holder - 1].began, "it has lasted %u seconds; mutex %u is held by what %sbegan at",
+		tell(&warnings, p->class_, "a wait", &p->debug->seats[holder - 1].began,
+		     "it has lasted %u seconds; mutex %u is held by what %sbegan at",
 		     ww_patience(), number, has_ended(&p->debug->seats[holder - 1]) ? "a thread that has ended left; it " : "");
 }
 
@@ -706,10 +758,12 @@ void ww_debug_leak(const struct ww_seats *of, const char *why)
 	for (uint32_t k = 0; k < of->count; k++) {
 		const struct watch *s = watch_of(&of->seats[k]);
 
-		if (is_used(s) && (!first || __atomic_load_n(&s->stamp, __ATOMIC_RELAXED) - 1 < __atomic_load_n(&first->stamp, __ATOMIC_RELAXED) - 1))
+		if (is_used(s) && (!first || __atomic_load_n(&s->stamp, __ATOMIC_RELAXED) - 1 <
+				   __atomic_load_n(&first->stamp, __ATOMIC_RELAXED) - 1))
 			first = s;
 	}
-	tell(&warnings, of->pool->class_, "a wait for a context", first ? &first->began : NULL, "%s%s", why, first ? "; the oldest began at" : "");
+	tell(&warnings, of->pool->class_, "a wait for a context", first ? &first->began : NULL, "%s%s", why,
+	     first ? "; the oldest began at" : "");
 }
 
 /* ---- what is in use ---- */
@@ -744,7 +798,8 @@ char *ww_debug_seen(struct ww_pool *p)
 
 	if (!to)
 		return NULL;
-	fprintf(to, "class \"%s\": %u of %u mutexes and %u of %u contexts in use, waits for a context: %u", name_of(p), taken_numbers(p),
+	fprintf(to, "class \"%s\": %u of %u mutexes and %u of %u contexts in use, waits for a context: %u",
+		name_of(p), taken_numbers(p),
 		p->mutexes, used_seats(p), seats_of(p),
 		__atomic_load_n(&p->threads.seekers, __ATOMIC_RELAXED) + __atomic_load_n(&p->tasks.seekers, __ATOMIC_RELAXED));
 	pthread_mutex_lock(&p->crowd.lock);

@@ -1,31 +1,35 @@
 /*
- * ww_gate.c - how many contexts of a class run at a time, found by measuring: those of threads in a crowd, and those of tasks.
+ * ww_gate.c - how many contexts of a class run at a time, found by measuring: those of threads in a crowd, and those of
+ * tasks.
  *
- * Contexts that meet wait for one another, and each cache line that they share moves from processor to processor, which costs more
- * than a short context takes.  So more may end if fewer run; or if more do, where they wait for something else, as a timer.  How many
- * is best no measure of waiting shows, since most of what a meeting costs isn't waiting.  So it is tried: the gate has a width, and
- * contexts are counted, window by window.
+ * Contexts that meet wait for one another, and each cache line that they share moves from processor to processor, which
+ * costs more than a short context takes.  So more may end if fewer run; or if more do, where they wait for something
+ * else, as a timer.  How many is best no measure of waiting shows, since most of what a meeting costs isn't waiting.
+ * So it is tried: the gate has a width, and contexts are counted, window by window.
  *
  *	width		a window began			then
- *	kept		any number			the same again; after some windows, half of it or twice as many is tried, by turns
- *			a half less, twice		the load isn't what it was: half of it is tried at once, and soon twice as many
+ *	kept		any number			the same again; after some windows, half of it or twice as many
+ *							is tried, by turns
+ *			a half less, twice		the load isn't what it was: half of it is tried at once, and
+ *							soon twice as many
  *	tried, fewer	an eighth more			kept, and half of it is tried
- *	tried, more	at most a sixteenth less	kept, and twice as many are tried; four times as many until a try was in vain
+ *	tried, more	at most a sixteenth less	kept, and twice as many are tried; four times as many until a
+ *							try was in vain
  *	either		at most a quarter less else	half of it, or twice as many, is tried, but it isn't kept
  *			less				back, and the next try comes later
  *	tried, fewer, and nobody waits at the gate	half of it is tried at once: that many are no limit
  *	kept, and nobody waits at the gate		there is no use of a gate, unless a window began a half less
  *
- * Each is compared with the last window of the width that is kept: fewer have to pay, and more needn't.  Twice as many as there
- * may be are no limit; there is no use of a gate for threads once that is best, and for tasks fewer are tried from time to time.
- * The first width is kept for a window, whoever waits.
+ * Each is compared with the last window of the width that is kept: fewer have to pay, and more needn't.  Twice as many
+ * as there may be are no limit; there is no use of a gate for threads once that is best, and for tasks fewer are tried
+ * from time to time.  The first width is kept for a window, whoever waits.
  *
- * A crowd begins with one permit.  For the way from many to few leads through widths at which threads fall asleep one after
- * another and a window takes long, and the way up through those that run well.  Where more are far worse, what they began goes on
- * for a while at the width before; so one window that is far worse isn't believed.
+ * A crowd begins with one permit.  For the way from many to few leads through widths at which threads fall asleep one
+ * after another and a window takes long, and the way up through those that run well.  Where more are far worse, what
+ * they began goes on for a while at the width before; so one window that is far worse isn't believed.
  */
 #define _GNU_SOURCE
-#include "ww_pool.h"
+#include "ww_gate.h"
 
 /* A window is so long that a preemption or two don't decide, in nanoseconds as all times here. */
 enum { WINDOW = 2000000 };
@@ -41,7 +45,10 @@ static void set_width(struct ww_gate *gate, uint32_t width)
 	gate->width = width;
 }
 
-/* Of so many contexts each that runs has ended, also those of the width before; a window has twice as many, against chance. */
+/*
+ * Of so many contexts each that runs has ended, also those of the width before; a window has twice as many, against
+ * chance.
+ */
 static uint32_t turn(const struct ww_gate *gate)
 {
 	uint32_t width = gate->settles && gate->before > gate->width ? gate->before : gate->width;
@@ -53,7 +60,8 @@ static uint32_t turn(const struct ww_gate *gate)
 void ww_gate_open(struct ww_gate *gate, uint32_t least, uint32_t first, uint32_t widest, uint32_t most, uint32_t many)
 {
 	*gate = (struct ww_gate){ .width = first, .kept = first, .least = least, .widest = widest, .most = most,
-				  .many = many, .holds = 1, .more = first >= widest, .climbs = true, .settles = true, .lease = LEASE };
+				  .many = many, .holds = 1, .more = first >= widest, .climbs = true, .settles = true,
+				  .lease = LEASE };
 }
 
 /* Half of its width, or twice as many; or the same, where there is no such width. */
@@ -129,7 +137,10 @@ static void decide(struct ww_gate *gate, uint64_t rate, bool is_no_limit)
 	try_on(gate);
 }
 
-/* So many turns of contexts have begun, or would have at the rate that is kept: a width that is far worse is soon known. */
+/*
+ * So many turns of contexts have begun, or would have at the rate that is kept: a width that is far worse is soon
+ * known.
+ */
 static bool is_enough(const struct ww_gate *gate, uint64_t took, uint64_t count, uint64_t turns)
 {
 	uint64_t enough = turns * turn(gate);
@@ -143,7 +154,8 @@ bool ww_gate_look(struct ww_gate *gate, uint64_t now, uint64_t begun, uint64_t w
 	uint64_t took = now < gate->since ? 0 : now - gate->since, count = begun - gate->begun;
 	bool is_no_limit = gate->width != NO_LIMIT && waited == gate->waited;
 
-	if (gate->since && (took < gate->lease || !is_enough(gate, took, count, 1))) /* those of the width before may have yet to end */
+	/* those of the width before may have yet to end */
+	if (gate->since && (took < gate->lease || !is_enough(gate, took, count, 1)))
 		return true;
 	if (gate->settles || !gate->since)
 		gate->settles = false;

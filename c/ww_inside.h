@@ -29,17 +29,17 @@ static inline void __tsan_release(void *at) { (void)at; }
 struct ww_pool;
 
 /*
- * A seat has two cache lines of its own; a context that meets nobody leaves the second one alone.  It begins with its handle, as
- * ww_mutex.h assumes.
+ * A seat has two cache lines of its own; a context that meets nobody leaves the second one alone.  It begins with its
+ * handle, as ww_mutex.h assumes.
  */
 typedef struct ww_seat {
 	ww_handle handle;
 	uint32_t token;		/* one futex word: nothing, a token, or its waker is to be called */
-	uint32_t busy;		/* see ww_pool.c */
+	uint32_t busy;		/* see ww_seat.c */
 	struct ww_pool *pool;	/* the class that has it */
 	struct ww_seats *of;	/* the seats among which it is */
 	uint64_t keeper;	/* the number of the thread that keeps it, or NO_THREAD */
-	uint8_t ages;		/* see SHARE_AGE of ww_pool.h; only its user accesses it */
+	uint8_t ages;		/* see SHARE_AGE of ww_seat.h; only its user accesses it */
 	struct ww_desk *desk;	/* its user's: see ww_shared.c; or NULL */
 	uint64_t waits __attribute__((aligned(64))), back_offs; /* of its users, in all */
 	struct ww_waker waker;	/* of its wait; below, how many waits there were */
@@ -49,7 +49,10 @@ typedef struct ww_seat {
 	uint64_t user;		/* the number of the thread that last locked by it without a context */
 } __attribute__((aligned(64))) ww_seat;
 
-/* How a lock call waits. It ends early if its seat comes to heed the cancel of its own that is pending: see ww_may_stop. */
+/*
+ * How a lock call waits. It ends early if its seat comes to heed the cancel of its own that is pending: see
+ * ww_may_stop.
+ */
 struct ww_wait {
 	bool slowly;			/* it is the first lock after -EDEADLK */
 	bool heeds;			/* a cancel or a time may end it, */
@@ -61,7 +64,10 @@ struct ww_wait {
 	const struct ww_waker *waker;
 };
 
-/* The values of a seat's token.  From ARMED on it sleeps: its waker is to be called, and the higher bits are the number of its wait. */
+/*
+ * The values of a seat's token.  From ARMED on it sleeps: its waker is to be called, and the higher bits are the number
+ * of its wait.
+ */
 enum { NOTHING, TOKEN, ARMED };
 
 #define WW_HIDDEN __attribute__((visibility("hidden")))
@@ -69,28 +75,31 @@ enum { NOTHING, TOKEN, ARMED };
 WW_HIDDEN void ww_heap_opens(void);
 WW_HIDDEN void ww_heap_opened(void);
 /*
- * Makes all steps of a call after the first one.  A poll that would have to sleep leaves its waker, and returns -EINPROGRESS;
- * then `sleeps` says that it goes on from there, once it was woken.
+ * Makes all steps of a call after the first one.  A poll that would have to sleep leaves its waker, and returns
+ * -EINPROGRESS; then `sleeps` says that it goes on from there, once it was woken.
  */
 WW_HIDDEN int ww_go_on(ww_seat *s, struct ww_wait *wait, bool sleeps);
 /* A wait for a lock begins, and has ended. */
 WW_HIDDEN void ww_begin_wait(struct ww_wait *wait);
 WW_HIDDEN void ww_end_wait(ww_seat *s, const struct ww_wait *wait);
-/* Tries a lock again, awake, after a try in vain, and goes into its list once it is time for that; returns what the last step did. */
+/*
+ * Tries a lock again, awake, after a try in vain, and goes into its list once it is time for that; returns what the
+ * last step did.
+ */
 WW_HIDDEN int ww_try_awake(ww_seat *s, uint32_t lock, const struct ww_wait *wait);
 /* The waker that the seat's user left isn't called: false if it was, or is about to be. */
 WW_HIDDEN bool ww_disarm(ww_seat *s);
 WW_HIDDEN void ww_pause(unsigned count);
 /*
- * Pauses before a further try to go inside a guard, or to get what somebody has for a moment; zeros at first.  Nobody waits for
- * this seat meanwhile: it has woken all that it had to.
+ * Pauses before a further try to go inside a guard, or to get what somebody has for a moment; zeros at first.  Nobody
+ * waits for this seat meanwhile: it has woken all that it had to.
  */
 WW_HIDDEN void ww_await_guard(unsigned *looks, uint64_t *until);
 /* Wakes the seats that the proved library names. */
 WW_HIDDEN void ww_wake(ww_seat *s);
 /*
- * The seat's own cancel is pending from now on.  So it always is between two calls, while no call heeds it, until ww_heed_ lets a
- * wait heed it, which that ends.
+ * The seat's own cancel is pending from now on.  So it always is between two calls, while no call heeds it, until
+ * ww_heed_ lets a wait heed it, which that ends.
  */
 WW_HIDDEN void ww_may_stop(ww_seat *s);
 /* Whether each wait of the class that something may end is to end. */
@@ -109,12 +118,17 @@ WW_HIDDEN void ww_futex_wake(uint32_t *word);
 WW_HIDDEN uint64_t ww_now(void);
 WW_HIDDEN bool ww_has_come(const struct timespec *until);
 #ifdef WW_DEBUG
-/* Called before this thread sleeps until a time, or NULL: checks its wait, and returns until when it may sleep at most. */
+/*
+ * Called before this thread sleeps until a time, or NULL: checks its wait, and returns until when it may sleep at most.
+ */
 WW_HIDDEN const struct timespec *ww_debug_sleeps(const struct timespec *until);
 #define ww_says_if_long(p, until, next) ((void)(next), (until))
 #else
 static inline const struct timespec *ww_debug_sleeps(const struct timespec *until) { return until; }
-/* The same for a wait for a mutex of the class: if it has become long, that is said, once a class.  `next` is zeros at first. */
+/*
+ * The same for a wait for a mutex of the class: if it has become long, that is said, once a class.  `next` is zeros at
+ * first.
+ */
 WW_HIDDEN const struct timespec *ww_says_if_long(struct ww_pool *p, const struct timespec *until, struct timespec *next);
 #endif
 

@@ -33,14 +33,15 @@
  *	EASE, holding nothing: after FIRST a slow lock of it returns 0, having waited for it
  *	any		ww_mutex_lock_all		-EINVAL			as it was
  *
- * HAS_TO_BACK_OFF is TOLD, WAITS_FIRST is FIRST, and IS_PRELOCKED that it OWES `prelocked`.  tests/mutex_loop.c tests all of this.
+ * HAS_TO_BACK_OFF is TOLD, WAITS_FIRST is FIRST, and IS_PRELOCKED that it OWES `prelocked`.  tests/mutex_loop.c tests
+ * all of this.
  */
 #define _GNU_SOURCE
-#include "ww_pool.h"
+#include "ww_context.h"
 
 /*
- * In each state but EASE, and with WW_INTERRUPTIBLE, the context's lock calls take the long way (ww_lock_in_loop), since no
- * mutex has its pool.
+ * In each state but EASE, and with WW_INTERRUPTIBLE, the context's lock calls take the long way (ww_lock_in_loop),
+ * since no mutex has its pool.
  */
 static void close_or_open(struct ww_acquire_ctx *x)
 {
@@ -117,20 +118,24 @@ void ww_acquire_unlock_all(struct ww_acquire_ctx *x)
 {
 	if (LIKELY(is_loop(x))) {
 		release_all(x);
-		/* It doesn't wait for the contended mutex any more, since that may have been destroyed; and it owes none. */
+		/*
+		 * It doesn't wait for the contended mutex any more, since that may have been destroyed; and it owes
+		 * none.
+		 */
 		if (UNLIKELY(x->state & (WAITS_FIRST | IS_PRELOCKED)))
 			become(x, WAITS_FIRST | IS_PRELOCKED, 0);
 	} else if (x->acquired) {
-		ww_debug_fault(x->own->pool->class_, "ww_acquire_unlock_all", "outside ww_until_all_locked this call releases nothing");
+		ww_debug_fault(x->own->pool->class_, "ww_acquire_unlock_all",
+			       "outside ww_until_all_locked this call releases nothing");
 	}
 }
 
 /* ---- its locks ---- */
 
 /*
- * Only here does a lock call succeed without a step by which the proved library took the lock, so that is asked whether the
- * context has it.  Either the context waited for the mutex before the body asked for it, as it does now: then that is the newest
- * now, and is owed no more; or the body may ask for it twice.
+ * Only here does a lock call succeed without a step by which the proved library took the lock, so that is asked whether
+ * the context has it.  Either the context waited for the mutex before the body asked for it, as it does now: then that
+ * is the newest now, and is owed no more; or the body may ask for it twice.
  */
 bool ww_has_for(struct ww_acquire_ctx *x, struct ww_mutex *m, bool twice)
 {
@@ -144,23 +149,26 @@ bool ww_has_for(struct ww_acquire_ctx *x, struct ww_mutex *m, bool twice)
 	return true;
 }
 
-int ww_looped(struct ww_mutex *m, struct ww_acquire_ctx *x, int r)
+int ww_result_in_loop(struct ww_mutex *m, struct ww_acquire_ctx *x, int r)
 {
-	if (r == 0)
-		become(x, owes_it(x, m) ? TRIES | IS_PRELOCKED : TRIES, 0); /* What was owed may have been released meanwhile. */
+	if (r == 0) /* What was owed may have been released meanwhile. */
+		become(x, owes_it(x, m) ? TRIES | IS_PRELOCKED : TRIES, 0);
 	if (r == -EDEADLK)
 		become(x, 0, HAS_TO_BACK_OFF);
 	return r == -EALREADY && ww_has_for(x, m, x->state & WW_IGNORE_DUPLICATES) ? 0 : r;
 }
 
-/* Before anything else, waits for the mutex at which the context got -EDEADLK.  A desk isn't kept: the body never asks for it. */
+/*
+ * Before anything else, waits for the mutex at which the context got -EDEADLK.  A desk isn't kept: the body never asks
+ * for it.
+ */
 static int wait_first(struct ww_acquire_ctx *x, const struct ww_wait *how)
 {
 	struct ww_mutex *m = x->contending_lock;
 	bool is_desk = __atomic_load_n(&m->waiters, __ATOMIC_RELAXED) & IS_DESK;
 	int r = ww_lock_by(m, x, x->own, how);
 
-	if (!ww_debug_told(m, x, r, false)) {
+	if (!ww_debug_result(m, x, r, false)) {
 		x->prelocked = m;
 		become(x, TRIES, is_desk ? 0 : IS_PRELOCKED);
 		if (is_desk)
@@ -180,7 +188,7 @@ int ww_lock_in_loop(struct ww_mutex *m, struct ww_acquire_ctx *x, const struct w
 		if (r || ww_has_for(x, m, false))
 			return r;
 	}
-	return ww_looped(m, x, ww_lock_by(m, x, x->own, &how));
+	return ww_result_in_loop(m, x, ww_lock_by(m, x, x->own, &how));
 }
 
 /* ---- loops ---- */
@@ -224,9 +232,9 @@ void ww_back_off_(struct ww_acquire_ctx *x)
 }
 
 /*
- * Fetches the words of all locks but the first into the cache together; otherwise each would come after the step of the lock
- * before.  For a mutex that has no number yet, or is of another class, what is fetched is of no use.  (The loads are atomic,
- * since gcc would leave out plain ones that only serve a fetch.)
+ * Fetches the words of all locks but the first into the cache together; otherwise each would come after the step of the
+ * lock before.  For a mutex that has no number yet, or is of another class, what is fetched is of no use.  (The loads
+ * are atomic, since gcc would leave out plain ones that only serve a fetch.)
  */
 static inline void fetch_ahead(const ww_seat *s, struct ww_mutex *const *locks, size_t count)
 {

@@ -15,12 +15,13 @@
  *	  |                  \-- other ---> _further_: steps and sleeps until the call can return (lock_on, ww_go_on)
  *	  \-- with NULL ---> _alone_: by the seat at hand, or any, or once there is one
  *
- * So `_else_` is what the quick way doesn't do; `_further_` (and `_on`, inside) is all after the first step; `_alone` is for
- * locks without a context; and `_checked` returns an error where the other call would end the program.
+ * So `_else_` is what the quick way doesn't do; `_further_` (and `_on`, inside) is all after the first step; `_alone`
+ * is for locks without a context; and `_checked` returns an error where the other call would end the program.
  */
 #define _GNU_SOURCE
-#define WW_NO_INLINE /* Here are the functions that may be called in place of those that ww_mutex.h compiles into its callers. */
-#include "ww_pool.h"
+/* Here are the functions that may be called in place of those that ww_mutex.h compiles into its callers. */
+#define WW_NO_INLINE
+#include "ww_context.h"
 
 _Static_assert(sizeof(struct ww_mutex) == 32, "a mutex and 32 bytes of what it guards have room in one cache line");
 /* A call by an empty handle returns -EINVAL, and changes nothing. */
@@ -48,16 +49,17 @@ void ww_mutex_init(struct ww_mutex *m, struct ww_class *c)
 	int r = ww_mutex_init_checked(m, c);
 
 	if (UNLIKELY(r))
-		end_of(c, "ww_mutex_init", told(r));
+		end_of(c, "ww_mutex_init", reason_of(r));
 }
 
 bool ww_mutex_is_locked(struct ww_mutex *m) { return holder_of(m) || seat_of(m); }
 
 /*
- * Makes all steps of a call after the first one.  In a forked child, a call by a seat from before the fork would wait for
- * threads that don't exist; so it makes no step.  That call never ends, and any other by the seat changes nothing: -EBUSY.
+ * Makes all steps of a call after the first one.  In a forked child, a call by a seat from before the fork would wait
+ * for threads that don't exist; so it makes no step.  That call never ends, and any other by the seat changes nothing:
+ * -EBUSY.
  */
-COLD static int go_on(ww_seat *s, struct ww_wait *wait, bool sleeps)
+COLD static int go_on_here(ww_seat *s, struct ww_wait *wait, bool sleeps)
 {
 	return LIKELY(!s->pool->gone) ? ww_go_on(s, wait, sleeps) : -EBUSY;
 }
@@ -67,14 +69,14 @@ COLD int ww_release_on(ww_seat *s, int r)
 {
 	has_met(s);
 	if (r > 0)
-		r = go_on(s, &(struct ww_wait){ 0 }, false);
+		r = go_on_here(s, &(struct ww_wait){ 0 }, false);
 	return is_let_go(s, r) ? 0 : r;
 }
 
 /*
- * Whether the lock of a mutex is free, by a look of the spare seat, which no context has: so it can be made even if all contexts
- * are in use.  An unlock's last access to the mutex comes before the step that releases its lock; so all former holders are
- * through with it, and what they wrote is seen here.
+ * Whether the lock of a mutex is free, by a look of the spare seat, which no context has: so it can be made even if all
+ * contexts are in use.  An unlock's last access to the mutex comes before the step that releases its lock; so all
+ * former holders are through with it, and what they wrote is seen here.
  */
 bool ww_is_released(struct ww_pool *p, struct ww_mutex *m)
 {
@@ -88,7 +90,8 @@ bool ww_is_released(struct ww_pool *p, struct ww_mutex *m)
 }
 
 /*
- * A thread that sees no waiter sees the holder that a waiter became; one that sees neither comes after an unlock's last access:
+ * A thread that sees no waiter sees the holder that a waiter became; one that sees neither comes after an unlock's last
+ * access:
  *
  *	one that waited (lock_on)	one that releases it		one that destroys it
  *	ctx or alone = its own		ctx or alone = NULL		waiters?
@@ -207,7 +210,7 @@ COLD int ww_lock_on(struct ww_mutex *m, struct ww_acquire_ctx *x, ww_seat *s, in
 	if (is_busy)
 		r = ww_try_awake(s, m->number, &wait);
 	while (sleeps || r > 0) {
-		r = go_on(s, &wait, sleeps);
+		r = go_on_here(s, &wait, sleeps);
 		sleeps = false;
 		if (r == -EINTR)
 			ww_may_stop(s);
@@ -232,22 +235,26 @@ int ww_lock_by(struct ww_mutex *m, struct ww_acquire_ctx *x, ww_seat *s, const s
 static const char not_due[] = "no -EDEADLK of this mutex came before, or the context still holds a mutex";
 
 /* Why the first lock of a mutex gave it no number, or its class no seat. */
-static const char *told_of(const struct ww_mutex *m, int r) { return ww_class_of(m) ? told(r) : "the mutex isn't initialized"; }
+static const char *reason_of_first(const struct ww_mutex *m, int r)
+{
+	return ww_class_of(m) ? reason_of(r) : "the mutex isn't initialized";
+}
 
 /*
- * For a mutex and a context that don't fit: 0 once they do, or the error, and why.  A mutex that WW_MUTEX_INIT made gets its
- * number here, before its first lock.
+ * For a mutex and a context that don't fit: 0 once they do, or the error, and why.  A mutex that WW_MUTEX_INIT made
+ * gets its number here, before its first lock.
  */
 COLD static int fit(struct ww_mutex *m, const struct ww_acquire_ctx *x, const char **why)
 {
 	int r = pool_at(m) ? 0 : ww_number_at_first(m);
 
-	*why = r ? told_of(m, r) : !x || x->own ? "the mutex is of another class, or isn't initialized" : "the context has ended";
+	*why = r ? reason_of_first(m, r) : x && !x->own ? "the context has ended" :
+		"the mutex is of another class, or isn't initialized";
 	return r ? r : fits(m, x) ? 0 : -EINVAL;
 }
 
 /* The same, and reports it. */
-COLD static int fit_or_told(const char *call, struct ww_mutex *m, const struct ww_acquire_ctx *x)
+COLD static int fit_or_report(const char *call, struct ww_mutex *m, const struct ww_acquire_ctx *x)
 {
 	const char *why;
 	int r = fit(m, x, &why);
@@ -258,10 +265,10 @@ COLD static int fit_or_told(const char *call, struct ww_mutex *m, const struct w
 }
 
 /*
- * This context acquires by hand first: if its seat rested, it draws an age of its own now, unless it already holds a mutex, or
- * has met somebody, by the quick call of ww_number.h.
+ * This context acquires by hand first: if its seat rested, it draws an age of its own now, unless it already holds a
+ * mutex, or has met somebody, by the quick call of ww_number.h.
  */
-static void goes_by_hand(struct ww_acquire_ctx *x)
+static void draw_age_by_hand(struct ww_acquire_ctx *x)
 {
 	ww_seat *s = x->own;
 
@@ -276,10 +283,10 @@ static void goes_by_hand(struct ww_acquire_ctx *x)
 
 int ww_may_lock(const char *call, struct ww_mutex *m, struct ww_acquire_ctx *x)
 {
-	int r = ww_debug_refuses(call, m, x) ? -EINVAL : LIKELY(fits(m, x)) ? 0 : fit_or_told(call, m, x);
+	int r = ww_debug_refuses(call, m, x) ? -EINVAL : LIKELY(fits(m, x)) ? 0 : fit_or_report(call, m, x);
 
 	if (!r)
-		goes_by_hand(x);
+		draw_age_by_hand(x);
 	return r;
 }
 
@@ -292,7 +299,7 @@ static int lock(struct ww_mutex *m, struct ww_acquire_ctx *x, const struct ww_wa
 	if (r)
 		return r;
 	r = is_loop(x) ? ww_lock_in_loop(m, x, how) : ww_lock_by(m, x, x->own, how);
-	return ww_debug_told(m, x, r, true);
+	return ww_debug_result(m, x, r, true);
 }
 
 int ww_mutex_lock_else_(struct ww_mutex *m, struct ww_acquire_ctx *x)
@@ -303,12 +310,12 @@ int ww_mutex_lock_else_(struct ww_mutex *m, struct ww_acquire_ctx *x)
 int ww_mutex_lock_further_(struct ww_mutex *m, struct ww_acquire_ctx *x, int r)
 {
 	r = ww_lock_on(m, x, x->own, r, x->state & WW_INTERRUPTIBLE ? &heeds : &stays);
-	return ww_debug_told(m, x, is_loop(x) ? ww_looped(m, x, r) : r, true);
+	return ww_debug_result(m, x, is_loop(x) ? ww_result_in_loop(m, x, r) : r, true);
 }
 
 /*
- * In a loop this is the wait that the loop would begin with, or isn't due.  The proved library doesn't know of an -EDEADLK
- * that the debug library made up.
+ * In a loop this is the wait that the loop would begin with, or isn't due.  The proved library doesn't know of an
+ * -EDEADLK that the debug library made up.
  */
 static int lock_slowly(struct ww_mutex *m, struct ww_acquire_ctx *x, bool heeds, const struct timespec *until)
 {
@@ -317,7 +324,7 @@ static int lock_slowly(struct ww_mutex *m, struct ww_acquire_ctx *x, bool heeds,
 	if (!x || !fits(m, x))
 		return -EINVAL;
 	r = ww_lock_by(m, x, x->own, &(struct ww_wait){ .slowly = !ww_debug_injected(m, x), .heeds = heeds, .until = until });
-	return ww_debug_told(m, x, is_loop(x) ? ww_looped(m, x, r) : r, false);
+	return ww_debug_result(m, x, is_loop(x) ? ww_result_in_loop(m, x, r) : r, false);
 }
 
 int ww_mutex_lock_slow_checked(struct ww_mutex *m, struct ww_acquire_ctx *x) { return lock_slowly(m, x, false, NULL); }
@@ -340,7 +347,10 @@ int ww_mutex_lock_slow_until(struct ww_mutex *m, struct ww_acquire_ctx *x, const
 	return r;
 }
 
-int ww_mutex_lock_slow_interruptible(struct ww_mutex *m, struct ww_acquire_ctx *x) { return ww_mutex_lock_slow_until(m, x, NULL); }
+int ww_mutex_lock_slow_interruptible(struct ww_mutex *m, struct ww_acquire_ctx *x)
+{
+	return ww_mutex_lock_slow_until(m, x, NULL);
+}
 
 /* ---- locks without one: by a seat of its own, for which it may have to wait ---- */
 
@@ -398,7 +408,7 @@ int ww_mutex_lock_alone_(struct ww_mutex *m)
 	int r = lock_alone(m, &stays);
 
 	if (UNLIKELY(r))
-		end_of(ww_class_of(m), "ww_mutex_lock", told_of(m, r));
+		end_of(ww_class_of(m), "ww_mutex_lock", reason_of_first(m, r));
 	return 0;
 }
 
@@ -442,13 +452,13 @@ int ww_try_by(struct ww_mutex *m, struct ww_acquire_ctx *x)
 {
 	int r;
 
-	goes_by_hand(x);
+	draw_age_by_hand(x);
 	r = ww_try_(&x->own->handle, m->number);
 	if (r)
 		return r == -EALREADY && ww_has_for(x, m, false) ? 0 : r;
 	own(m, x, NULL);
-	(void)ww_debug_told(m, x, 0, false);
-	return is_loop(x) ? ww_looped(m, x, 0) : 0;
+	(void)ww_debug_result(m, x, 0, false);
+	return is_loop(x) ? ww_result_in_loop(m, x, 0) : 0;
 }
 
 int ww_mutex_trylock_else_(struct ww_mutex *m, struct ww_acquire_ctx *x)
@@ -464,7 +474,7 @@ int ww_mutex_trylock(struct ww_mutex *m, struct ww_acquire_ctx *x) { return ww_m
 
 int ww_mutex_trylock_checked(struct ww_mutex *m, struct ww_acquire_ctx *x)
 {
-	int r = fit_or_told("ww_mutex_trylock", m, x);
+	int r = fit_or_report("ww_mutex_trylock", m, x);
 
 	return r ? r : x ? !ww_try_by(m, x) : try_alone(m);
 }
@@ -472,8 +482,8 @@ int ww_mutex_trylock_checked(struct ww_mutex *m, struct ww_acquire_ctx *x)
 /* ---- unlocks ---- */
 
 /*
- * After the step that releases the lock, another thread may own the mutex, destroy it and free its memory.  Until then nobody
- * does, since ww_mutex_destroy takes the lock.
+ * After the step that releases the lock, another thread may own the mutex, destroy it and free its memory.  Until then
+ * nobody does, since ww_mutex_destroy takes the lock.
  */
 static inline int unlock_by(struct ww_mutex *m, struct ww_acquire_ctx *x)
 {
@@ -530,7 +540,8 @@ int ww_mutex_unlock_checked(struct ww_mutex *m)
 COLD static void end_unheld(const struct ww_mutex *m, int r)
 {
 	(void)ww_debug_unheld(m);
-	end("ww_mutex_unlock", r == -EBUSY ? "the context that holds the mutex is in another call" : "nobody holds the mutex");
+	end("ww_mutex_unlock",
+	    r == -EBUSY ? "the context that holds the mutex is in another call" : "nobody holds the mutex");
 }
 
 void ww_mutex_unlock(struct ww_mutex *m)

@@ -54,7 +54,7 @@ void ww_debug_at_(const char *file, int line);
 
 /* As in the kernel: a context with deadlock_inject_countdown ~0u gets no -EDEADLK without need. */
 #define CONFIG_DEBUG_WW_MUTEX_SLOWPATH 1
-#ifndef WW_POOL_H
+#ifndef WW_CLASS_H
 #define WW_HERE_ ww_debug_at_(__FILE__, __LINE__)
 #define ww_mutex_init(...) (WW_HERE_, ww_mutex_init(__VA_ARGS__))
 #define ww_mutex_destroy(...) (WW_HERE_, ww_mutex_destroy(__VA_ARGS__))

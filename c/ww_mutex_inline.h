@@ -135,7 +135,7 @@ WW_INLINE_ bool ww_is_contended(const struct ww_acquire_ctx *ctx)
 #endif
 
 /* See ww_mutex_lock. */
-#if (defined(WW_DEBUG) || defined(WW_CHECK_LOCKS)) && !defined(WW_POOL_H)
+#if (defined(WW_DEBUG) || defined(WW_CHECK_LOCKS)) && !defined(WW_CLASS_H)
 WW_MUST_CHECK static inline int ww_mutex_lock_by_context_(struct ww_mutex *lock, struct ww_acquire_ctx *ctx)
 {
 	return (ww_mutex_lock)(lock, ctx);

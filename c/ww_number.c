@@ -1,11 +1,13 @@
 /*
- * ww_number.c - mutexes by their numbers.  The library has a struct ww_mutex for each number that was ever taken.  A call
- * that isn't quick makes the call of ww_mutex.h on that mutex: so it waits, backs off and is listed like any other.  A quick
- * call uses only the number.  Therefore, outside loops, that mutex doesn't say who holds it: its lock in the library does.
+ * ww_number.c - mutexes by their numbers.  The library has a struct ww_mutex for each number that was ever taken.  A
+ * call that isn't quick makes the call of ww_mutex.h on that mutex: so it waits, backs off and is listed like any
+ * other.  A quick call uses only the number.  Therefore, outside loops, that mutex doesn't say who holds it: its lock
+ * in the library does.
  */
 #define _GNU_SOURCE
-#include "ww_pool.h" /* before the next one: here no call reports its line */
-#define WW_NO_INLINE /* Here are the functions that may be called in place of those that ww_number.h compiles into its callers. */
+#include "ww_context.h" /* before the next one: here no call reports its line */
+/* Here are the functions that may be called in place of those that ww_number.h compiles into its callers. */
+#define WW_NO_INLINE
 #include "ww_number.h"
 
 static const char no_such[] = "the class has no mutex of this number";
@@ -68,8 +70,8 @@ int ww_number_take(uint32_t *number, struct ww_class *c)
 }
 
 /*
- * A waiter counts itself first, and becomes the holder before it stops counting as a waiter.  Of several threads that put
- * the number back only one does.  In a forked child nobody uses it any more, and it isn't given.
+ * A waiter counts itself first, and becomes the holder before it stops counting as a waiter.  Of several threads that
+ * put the number back only one does.  In a forked child nobody uses it any more, and it isn't given.
  */
 int ww_number_put(uint32_t number, struct ww_class *c)
 {
@@ -98,7 +100,10 @@ bool ww_number_is_locked(uint32_t number, struct ww_class *c)
 
 /* ---- by a context ---- */
 
-/* The mutex of a number in the context's class.  If the first step wasn't enough it can't be undone, so the program ends. */
+/*
+ * The mutex of a number in the context's class.  If the first step wasn't enough it can't be undone, so the program
+ * ends.
+ */
 struct ww_mutex *ww_number_asked(const char *call, uint32_t number, const struct ww_acquire_ctx *x, int r)
 {
 	struct ww_mutex *m = x->own ? mutex_at(x->own->pool, number) : NULL;
@@ -111,7 +116,7 @@ struct ww_mutex *ww_number_asked(const char *call, uint32_t number, const struct
 }
 
 /* What a lock call returned; only in a loop the mutex goes on saying who holds it. */
-int ww_number_told(struct ww_mutex *m, const struct ww_acquire_ctx *x, int r)
+int ww_number_result(struct ww_mutex *m, const struct ww_acquire_ctx *x, int r)
 {
 	if (!is_loop(x) && __atomic_load_n(&m->ctx, __ATOMIC_RELAXED) == x)
 		__atomic_store_n(&m->ctx, NULL, __ATOMIC_RELAXED);
@@ -125,7 +130,7 @@ int ww_number_lock_further_(uint32_t number, struct ww_acquire_ctx *x, int r)
 
 	if (!m)
 		return -EINVAL;
-	return ww_number_told(m, x, r == -EINVAL ? ww_mutex_lock(m, x) : ww_mutex_lock_further_(m, x, r));
+	return ww_number_result(m, x, r == -EINVAL ? ww_mutex_lock(m, x) : ww_mutex_lock_further_(m, x, r));
 }
 
 int ww_number_lock(uint32_t number, struct ww_acquire_ctx *x) { return ww_number_lock_further_(number, x, -EINVAL); }
@@ -134,14 +139,14 @@ int ww_number_lock_until(uint32_t number, struct ww_acquire_ctx *x, const struct
 {
 	struct ww_mutex *m = ww_number_asked("ww_number_lock_until", number, x, 0);
 
-	return m ? ww_number_told(m, x, ww_mutex_lock_until(m, x, until)) : -EINVAL;
+	return m ? ww_number_result(m, x, ww_mutex_lock_until(m, x, until)) : -EINVAL;
 }
 
 int ww_number_trylock(uint32_t number, struct ww_acquire_ctx *x)
 {
 	struct ww_mutex *m = ww_number_asked("ww_number_trylock", number, x, 0);
 
-	return m ? ww_number_told(m, x, ww_mutex_trylock(m, x)) : 0;
+	return m ? ww_number_result(m, x, ww_mutex_trylock(m, x)) : 0;
 }
 
 int ww_number_trylock_else_(uint32_t number, struct ww_acquire_ctx *x) { return ww_number_trylock(number, x); }

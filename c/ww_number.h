@@ -57,7 +57,7 @@ WW_MUST_CHECK int ww_number_trylock_alone(uint32_t number, struct ww_class *ww_c
 /* Releases it; called by the thread that acquired it so. The program ends with a message if it isn't held so. */
 void ww_number_unlock_alone(uint32_t number, struct ww_seat *by);
 
-#if defined(WW_DEBUG) && !defined(WW_POOL_H)
+#if defined(WW_DEBUG) && !defined(WW_CLASS_H)
 #define ww_number_take(...) (WW_HERE_, ww_number_take(__VA_ARGS__))
 #define ww_number_put(...) (WW_HERE_, ww_number_put(__VA_ARGS__))
 #define ww_number_lock(...) (WW_HERE_, ww_number_lock(__VA_ARGS__))

@@ -1,10 +1,10 @@
 /*
- * ww_poll.c - contexts that wait without a thread.  They wait as threads do (ww.c, ww_pool.c), with their own waker in place of
- * one that wakes a thread.
+ * ww_poll.c - contexts that wait without a thread.  They wait as threads do (ww.c, ww_queue.c), with their own waker in
+ * place of one that wakes a thread.
  */
 #define _GNU_SOURCE
 #define WW_NO_INLINE /* As ww_mutex.c. */
-#include "ww_pool.h"
+#include "ww_context.h"
 #include <sys/syscall.h>
 #include <unistd.h>
 
@@ -26,7 +26,7 @@ static int poll_on(struct ww_mutex *m, struct ww_acquire_ctx *x, const struct ww
 	if (r == -EINPROGRESS)
 		return r;
 	x->state &= ~(unsigned)IS_POLLED;
-	return ww_debug_told(m, x, r, true);
+	return ww_debug_result(m, x, r, true);
 }
 
 static int first_poll(struct ww_mutex *m, struct ww_acquire_ctx *x, const struct ww_waker *waker)
@@ -52,28 +52,31 @@ int ww_mutex_lock_poll(struct ww_mutex *m, struct ww_acquire_ctx *x, const struc
 }
 
 /* If it waits, another thread may already use the context. */
-static int told_of_number(struct ww_mutex *m, struct ww_acquire_ctx *x, int r)
+static int result_of_number(struct ww_mutex *m, struct ww_acquire_ctx *x, int r)
 {
-	return r == -EINPROGRESS ? r : ww_number_told(m, x, r);
+	return r == -EINPROGRESS ? r : ww_number_result(m, x, r);
 }
 
 int ww_number_lock_poll(uint32_t number, struct ww_acquire_ctx *x, const struct ww_waker *waker)
 {
 	struct ww_mutex *m = ww_number_asked("ww_number_lock_poll", number, x, 0);
 
-	return m ? told_of_number(m, x, ww_mutex_lock_poll(m, x, waker)) : -EINVAL;
+	return m ? result_of_number(m, x, ww_mutex_lock_poll(m, x, waker)) : -EINVAL;
 }
 
 int ww_number_lock_poll_further_(uint32_t number, struct ww_acquire_ctx *x, const struct ww_waker *waker, int r)
 {
 	struct ww_mutex *m = ww_number_asked("ww_number_lock_poll", number, x, r);
 
-	return m ? told_of_number(m, x, poll_on(m, x, waker, r)) : -EINVAL;
+	return m ? result_of_number(m, x, poll_on(m, x, waker, r)) : -EINVAL;
 }
 
 /* ---- contexts ---- */
 
-/* Takes its waker back; false if another thread has taken it, to call it. In a forked child nobody does, nor has the lock. */
+/*
+ * Takes its waker back; false if another thread has taken it, to call it. In a forked child nobody does, nor has the
+ * lock.
+ */
 static bool takes_back(struct ww_seek *me)
 {
 	struct ww_pool *p = me->of_->pool;
@@ -170,8 +173,8 @@ bool ww_poll_take_back(struct ww_acquire_ctx *x, struct ww_seek *seek)
 /* ---- loops that watch a descriptor ---- */
 
 /*
- * What a task wrote before is released with the list.  If the list isn't empty, the thread that filled it first writes to the
- * descriptor.  It does so by syscall, since in write(2) pthread_cancel could end a thread during its unlock.
+ * What a task wrote before is released with the list.  If the list isn't empty, the thread that filled it first writes
+ * to the descriptor.  It does so by syscall, since in write(2) pthread_cancel could end a thread during its unlock.
  */
 void ww_event_wake(void *event, void *woken)
 {

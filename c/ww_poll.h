@@ -85,7 +85,7 @@ struct ww_event {
 void ww_event_wake(void *event, void *woken);
 struct ww_woken *ww_event_take(struct ww_event *event);
 
-#if defined(WW_DEBUG) && !defined(WW_POOL_H)
+#if defined(WW_DEBUG) && !defined(WW_CLASS_H)
 #define ww_acquire_init_poll(...) (WW_HERE_, ww_acquire_init_poll(__VA_ARGS__))
 #define ww_mutex_lock_poll(...) (WW_HERE_, ww_mutex_lock_poll(__VA_ARGS__))
 #define ww_number_lock_poll(...) (WW_HERE_, ww_number_lock_poll(__VA_ARGS__))

@@ -1,9 +1,10 @@
 /*
  * ww_shared.c - shared mutexes, over the calls of exclusive ones.
  *
- * A shared mutex is a struct ww_mutex, which a writer holds, and a word of bits.  The core sees a reader by a mutex of the reader's
- * own, its desk: each seat has one, from its first read on, and its context holds that as long as it reads anything.  In the desk it
- * marks what it reads, a mark for each mutex of the class; and in the mutex it sets the bit of its desk, one of 64.
+ * A shared mutex is a struct ww_mutex, which a writer holds, and a word of bits.  The core sees a reader by a mutex of
+ * the reader's own, its desk: each seat has one, from its first read on, and its context holds that as long as it reads
+ * anything.  In the desk it marks what it reads, a mark for each mutex of the class; and in the mutex it sets the bit
+ * of its desk, one of 64.
  *
  *	a reader (reads_at_once)		a writer (await_readers)
  *	desk: its context's, before		mutex: acquired
@@ -14,27 +15,28 @@
  *	3. mutex: free?
  *	then it reads; else the mark is taken back
  *
- * That is Dekker's argument twice.  Each line is sequentially consistent, as the core's are.  A writer that has the mutex after 1.
- * finds the mark, and clears no bit of this desk before the read has ended; those before have released the mutex by then.  So once
- * 2. finds the bit, it stays; but a writer in between may have found none, if another desk with that bit has set it again.  If 3.
- * finds the mutex free, that writer is through, and all that come find bit and mark.  So a writer waits for each reader, as it
- * waits for any holder of a mutex: ages, cycles, cancels and times are the core's.  It may wait for who reads others, too: who
- * comes to a desk after it has found a mark there, and before it has the desk.
+ * That is Dekker's argument twice.  Each line is sequentially consistent, as the core's are.  A writer that has the
+ * mutex after 1.  finds the mark, and clears no bit of this desk before the read has ended; those before have released
+ * the mutex by then.  So once 2. finds the bit, it stays; but a writer in between may have found none, if another desk
+ * with that bit has set it again.  If 3.  finds the mutex free, that writer is through, and all that come find bit and
+ * mark.  So a writer waits for each reader, as it waits for any holder of a mutex: ages, cycles, cancels and times are
+ * the core's.  It may wait for who reads others, too: who comes to a desk after it has found a mark there, and before
+ * it has the desk.
  *
- * A reader that finds the mutex taken acquires it, as a writer would, sets bit and mark under it, and releases it (reads_in_turn).
- * Meanwhile it has no mark of it, or a writer on its way from desk to desk would wait for that wait.  An upgrade is a writer that
- * passes its own desk.  A downgrade sets bit and mark, and releases the mutex.
+ * A reader that finds the mutex taken acquires it, as a writer would, sets bit and mark under it, and releases it
+ * (reads_in_turn).  Meanwhile it has no mark of it, or a writer on its way from desk to desk would wait for that wait.
+ * An upgrade is a writer that passes its own desk.  A downgrade sets bit and mark, and releases the mutex.
  *
  *	a word		who writes it
  *	bit		any reader sets it; it is cleared by who has the mutex, once no desk with it has the mark
  *	mark, dirty	who has the desk: its reader sets it and takes it back; whoever acquires the desk next wipes it
  *	reads		the seat's user: 0 before it acquires the desk; then how many reads are to be ended
  *
- * Bits stay after the reads, and so do marks.  So who reads a mutex again writes nothing but its own desk, and all its reads end by
- * one unlock, that of the desk.  Desks stay until the class is freed.
+ * Bits stay after the reads, and so do marks.  So who reads a mutex again writes nothing but its own desk, and all its
+ * reads end by one unlock, that of the desk.  Desks stay until the class is freed.
  */
 #define _GNU_SOURCE
-#include "ww_pool.h"
+#include "ww_context.h"
 #include "ww_shared.h"
 #include <string.h>
 
@@ -98,7 +100,8 @@ static inline void wipe(struct ww_desk *d)
 
 static struct ww_desk *memory_of_desk(const struct ww_pool *p)
 {
-	size_t words = (p->locks + WORD - 1) / WORD, size = sizeof(struct ww_desk) + words * (sizeof(uint64_t) + sizeof(uint32_t));
+	size_t words = (p->locks + WORD - 1) / WORD;
+	size_t size = sizeof(struct ww_desk) + words * (sizeof(uint64_t) + sizeof(uint32_t));
 	struct ww_desk *d;
 
 	size = (size + _Alignof(struct ww_desk) - 1) / _Alignof(struct ww_desk) * _Alignof(struct ww_desk);
@@ -111,8 +114,8 @@ static struct ww_desk *memory_of_desk(const struct ww_pool *p)
 }
 
 /*
- * The seat gets its desk, with a mutex of its class, for which nobody is asked when that is freed.  It is there for all before its
- * first mark, sequentially consistent, since another desk may have set its bit.
+ * The seat gets its desk, with a mutex of its class, for which nobody is asked when that is freed.  It is there for all
+ * before its first mark, sequentially consistent, since another desk may have set its bit.
  */
 COLD static int make_desk(ww_seat *s)
 {
@@ -159,12 +162,15 @@ static inline int sit(struct ww_acquire_ctx *x, struct limit limit)
 }
 
 /* Whether a task waits for it, which may be one that this thread has to run. */
-static bool is_awaited_by_task(const struct ww_desk *d) { return (__atomic_load_n(&d->mutex.waiters, __ATOMIC_RELAXED) & ~IS_DESK) >= A_TASK; }
+static bool is_awaited_by_task(const struct ww_desk *d)
+{
+	return (__atomic_load_n(&d->mutex.waiters, __ATOMIC_RELAXED) & ~IS_DESK) >= A_TASK;
+}
 
 /*
- * The same for a downgrade, which doesn't fail: whoever has the desk is a writer that found a mark from before, and has it for a
- * moment alone; and after the first of these there are no marks.  But a task that waits for it comes only when it is polled.  False
- * if there is one, or if the context may acquire nothing, as it was told.
+ * The same for a downgrade, which doesn't fail: whoever has the desk is a writer that found a mark from before, and has
+ * it for a moment alone; and after the first of these there are no marks.  But a task that waits for it comes only when
+ * it is polled.  False if there is one, or if the context may acquire nothing, as it was told.
  */
 COLD static bool sit_for_certain(struct ww_acquire_ctx *x, struct ww_desk *d)
 {
@@ -208,9 +214,9 @@ void ww_shared_mutex_init(struct ww_shared_mutex *m, struct ww_class *c)
 }
 
 /*
- * Whether a context reads it, by this desk: its seat has the desk, and there is a read, since the desk is the seat's, and so the
- * mark is from there.  A writer that has the desk for a moment may find marks from before.  What this sees of the desk's word
- * comes after all that was read by it before.
+ * Whether a context reads it, by this desk: its seat has the desk, and there is a read, since the desk is the seat's,
+ * and so the mark is from there.  A writer that has the desk for a moment may find marks from before.  What this sees
+ * of the desk's word comes after all that was read by it before.
  */
 static bool reads_it(const struct ww_pool *p, struct ww_desk *d, uint32_t number)
 {
@@ -228,7 +234,8 @@ static bool is_read(struct ww_pool *p, const struct ww_shared_mutex *m)
 
 	pthread_mutex_lock(&p->spare);
 	for (uint64_t bits = __atomic_load_n(&m->readers_, __ATOMIC_SEQ_CST); bits && !is; bits &= bits - 1)
-		for (struct ww_desk *d = __atomic_load_n(&p->desks[__builtin_ctzll(bits)], __ATOMIC_SEQ_CST); d && !is; d = d->next)
+		for (struct ww_desk *d = __atomic_load_n(&p->desks[__builtin_ctzll(bits)], __ATOMIC_SEQ_CST); d && !is;
+	     d = d->next)
 			is = reads_it(p, d, m->mutex_.number);
 	pthread_mutex_unlock(&p->spare);
 	return is;
@@ -280,8 +287,8 @@ COLD static int may_read(struct ww_mutex *m, struct ww_acquire_ctx *x)
 }
 
 /*
- * The lines of a reader, above; it looks first whether somebody seems to have the mutex, which is a hint.  What it reads comes after
- * what the last writer wrote.
+ * The lines of a reader, above; it looks first whether somebody seems to have the mutex, which is a hint.  What it
+ * reads comes after what the last writer wrote.
  */
 static inline bool reads_at_once(struct ww_mutex *m, uint64_t *readers, struct ww_acquire_ctx *x, struct ww_desk *d)
 {
@@ -315,7 +322,8 @@ static void read_held(struct ww_mutex *m, uint64_t *readers, struct ww_desk *d)
 }
 
 /* It couldn't be read at once; maybe this context has the mutex, which then goes on having it. */
-COLD static int reads_in_turn(struct ww_mutex *m, uint64_t *readers, struct ww_acquire_ctx *x, struct ww_desk *d, struct limit limit)
+COLD static int reads_in_turn(struct ww_mutex *m, uint64_t *readers, struct ww_acquire_ctx *x, struct ww_desk *d,
+			      struct limit limit)
 {
 	bool writes = has(x, m);
 	int r = writes ? 0 : acquire(m, x, limit);
@@ -328,7 +336,8 @@ COLD static int reads_in_turn(struct ww_mutex *m, uint64_t *readers, struct ww_a
 	return 0;
 }
 
-static __attribute__((noinline)) int read_by(struct ww_mutex *m, uint64_t *readers, struct ww_acquire_ctx *x, struct limit limit)
+static __attribute__((noinline)) int read_by(struct ww_mutex *m, uint64_t *readers, struct ww_acquire_ctx *x,
+					     struct limit limit)
 {
 	int r = LIKELY(x) && LIKELY(pool_at(m) == x->pool) ? 0 : may_read(m, x);
 	struct ww_desk *d;
@@ -431,21 +440,28 @@ static inline int write_by(struct ww_mutex *m, uint64_t *readers, struct ww_acqu
 	return r;
 }
 
-int ww_shared_mutex_lock(struct ww_shared_mutex *m, struct ww_acquire_ctx *x) { return write_by(&m->mutex_, &m->readers_, x, (struct limit){ 0 }); }
+int ww_shared_mutex_lock(struct ww_shared_mutex *m, struct ww_acquire_ctx *x)
+{
+	return write_by(&m->mutex_, &m->readers_, x, (struct limit){ 0 });
+}
 
 int ww_shared_mutex_lock_until(struct ww_shared_mutex *m, struct ww_acquire_ctx *x, const struct timespec *until)
 {
 	return write_by(&m->mutex_, &m->readers_, x, (struct limit){ ENDS, { until } });
 }
 
-int ww_shared_mutex_trylock(struct ww_shared_mutex *m, struct ww_acquire_ctx *x) { return !write_by(&m->mutex_, &m->readers_, x, (struct limit){ TRIES_ONCE, { NULL } }); }
+int ww_shared_mutex_trylock(struct ww_shared_mutex *m, struct ww_acquire_ctx *x)
+{
+	return !write_by(&m->mutex_, &m->readers_, x, (struct limit){ TRIES_ONCE, { NULL } });
+}
 
 void ww_shared_mutex_downgrade(struct ww_shared_mutex *m, struct ww_acquire_ctx *x)
 {
 	struct ww_desk *d;
 
 	if (UNLIKELY(!x || !x->own || is_polled(x) || !has(x, &m->mutex_)))
-		end("ww_shared_mutex_downgrade", x && x->own && is_polled(x) ? WAITS_BY_POLL : "the context doesn't write the mutex");
+		end("ww_shared_mutex_downgrade",
+	    x && x->own && is_polled(x) ? WAITS_BY_POLL : "the context doesn't write the mutex");
 	if (!x->own->desk && make_desk(x->own))
 		return;
 	d = x->own->desk;
@@ -470,7 +486,10 @@ int ww_shared_mutex_unlock(struct ww_shared_mutex *m, struct ww_acquire_ctx *x)
 	return 0;
 }
 
-/* A context that goes by numbers may have moved since it came to its desk: from now on that says where it is. Amid no wait. */
+/*
+ * A context that goes by numbers may have moved since it came to its desk: from now on that says where it is. Amid no
+ * wait.
+ */
 static void comes_along(struct ww_acquire_ctx *x)
 {
 	struct ww_desk *d = x->own && !is_polled(x) ? x->own->desk : NULL;
@@ -508,7 +527,10 @@ static const struct ww_desk *desk_at(const struct ww_pool *p, uint32_t number)
 	return NULL;
 }
 
-/* What is seen here may be out of date. A mark may be from a read that has ended, as long as another one of its context hasn't. */
+/*
+ * What is seen here may be out of date. A mark may be from a read that has ended, as long as another one of its context
+ * hasn't.
+ */
 void ww_debug_reads(const struct ww_pool *p, uint32_t number, FILE *to)
 {
 	const struct ww_desk *d = desk_at(p, number);
@@ -550,7 +572,8 @@ int ww_shared_mutex_lock_all(struct ww_acquire_ctx *x, const struct ww_shared_it
 	int r;
 
 	if (UNLIKELY(!x || !x->own || is_loop(x))) {
-		ww_debug_fault(NULL, "ww_shared_mutex_lock_all", "the context has ended, or is in or behind ww_until_all_locked");
+		ww_debug_fault(NULL, "ww_shared_mutex_lock_all",
+			       "the context has ended, or is in or behind ww_until_all_locked");
 		return -EINVAL;
 	}
 	if (is_polled(x))
@@ -568,9 +591,10 @@ int ww_shared_mutex_lock_all(struct ww_acquire_ctx *x, const struct ww_shared_it
 /*
  * ---- by polls ----
  *
- * Each lock on the way is a poll of its own, and a further call goes on at the lock for which the context waits (`polled`): its own
- * desk, the mutex, or for a write somebody else's desk, while it has the mutex.  Once such a lock is acquired it goes on as a call
- * that begins there.  -EINPROGRESS leaves all as it is, since from then on another thread may go on with the context.
+ * Each lock on the way is a poll of its own, and a further call goes on at the lock for which the context waits
+ * (`polled`): its own desk, the mutex, or for a write somebody else's desk, while it has the mutex.  Once such a lock
+ * is acquired it goes on as a call that begins there.  -EINPROGRESS leaves all as it is, since from then on another
+ * thread may go on with the context.
  */
 
 /* What `poller` is: of a write the mutex, of a read an odd address, and NULL of one that awaits another context. */
@@ -604,8 +628,8 @@ static int read_poll(struct ww_mutex *m, uint64_t *readers, struct ww_acquire_ct
 }
 
 /*
- * It waits for whoever has this desk, and then for the other readers.  The context may have moved since it got the mutex; and of a
- * number, any other call by it that was refused has taken away that it holds this.
+ * It waits for whoever has this desk, and then for the other readers.  The context may have moved since it got the
+ * mutex; and of a number, any other call by it that was refused has taken away that it holds this.
  */
 static int await_polled(struct ww_mutex *m, uint64_t *readers, struct ww_acquire_ctx *x, struct limit limit)
 {
@@ -670,7 +694,7 @@ int ww_number_lock_exclusive(uint32_t number, uint64_t *readers, struct ww_acqui
 {
 	struct ww_mutex *m = ww_number_asked("ww_number_lock_exclusive", number, x, 0);
 
-	return m ? ww_number_told(m, x, write_by(m, readers, x, (struct limit){ ENDS, { until } })) : -EINVAL;
+	return m ? ww_number_result(m, x, write_by(m, readers, x, (struct limit){ ENDS, { until } })) : -EINVAL;
 }
 
 int ww_number_lock_shared_poll(uint32_t number, uint64_t *readers, struct ww_acquire_ctx *x, const struct ww_waker *waker)
@@ -686,7 +710,7 @@ int ww_number_lock_exclusive_poll(uint32_t number, uint64_t *readers, struct ww_
 	struct ww_mutex *m = ww_number_asked("ww_number_lock_exclusive_poll", number, x, 0);
 	int r = m ? write_poll(m, readers, x, waker) : -EINVAL;
 
-	return m && r != -EINPROGRESS ? ww_number_told(m, x, r) : r;
+	return m && r != -EINPROGRESS ? ww_number_result(m, x, r) : r;
 }
 
 bool ww_number_is_read(uint32_t number, const struct ww_acquire_ctx *x)

@@ -130,7 +130,7 @@ int ww_shared_mutex_end_(struct ww_shared_mutex *lock);
 /* The size of the structure in this library, for languages that don't read this header. */
 size_t ww_shared_mutex_size(void);
 
-#if defined(WW_DEBUG) && !defined(WW_POOL_H)
+#if defined(WW_DEBUG) && !defined(WW_CLASS_H)
 #define ww_shared_mutex_init(...) (WW_HERE_, ww_shared_mutex_init(__VA_ARGS__))
 #define ww_shared_mutex_destroy(...) (WW_HERE_, ww_shared_mutex_destroy(__VA_ARGS__))
 #define ww_shared_mutex_end_(...) (WW_HERE_, ww_shared_mutex_end_(__VA_ARGS__))

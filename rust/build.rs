@@ -84,7 +84,7 @@ fn ask_pkg_config(name: &str) -> Answer<PathBuf> {
 fn build(is_debug: bool, name: &str) -> Answer<()> {
     let (os, processor) = (cargo("CARGO_CFG_TARGET_OS"), cargo("CARGO_CFG_TARGET_ARCH"));
     let sources = sources();
-    let core = sources.join(format!("generated/{processor}.s"));
+    let core = sources.join(format!("core/{processor}.s"));
     if os != "linux" || !core.is_file() {
         return Err(format!("libww isn't there for {os} on {processor}"));
     }

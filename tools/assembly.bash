@@ -8,7 +8,7 @@ processors=(x86_64 aarch64)
 assembled=(ww_c ww_run)
 
 # Where the assembly of such a crate is kept, and the command that writes it.
-kept_in() { [ "$1" = ww_c ] && echo c/generated || echo generated; }
+kept_in() { [ "$1" = ww_c ] && echo c/core || echo program/core; }
 written_by() { [ "$1" = ww_c ] && echo './build c --assembly' || echo './build --assembly'; }
 
 # make_assembly CRATE PROCESSOR MADE TEXT [WORD..]: proves the crate, and writes what the compiler makes of it, which is an

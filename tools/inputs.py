@@ -1,11 +1,10 @@
-"""The input, read as docs/FORMATS.md says, with its first fault: written from that page, and not from the program."""
+"""The input, read as program/FORMATS.md says, with its first fault: written from that page, not from the program."""
 import collections
 import json
 import math
 import re
 
 from core import Core
-from versions import PORTS
 
 LONGEST = 1_048_576
 DEEPEST = 127
@@ -28,6 +27,8 @@ FAULTS = {
 }
 
 KINDS = ("wound-wait", "wait-die")
+# The versions, and how many ports a node has in each.
+PORTS = {1: 4, 2: 8}
 
 # The members that each word asks for, by what they are. `by` and the lists are read by the functions of these names.
 TRANSACTIONS = {
@@ -58,7 +59,7 @@ class Fault(Exception):
         super().__init__(f"refused {number} {FAULTS[number]}", f"{spot}: {why}" if spot else why)
 
 
-# ---- JSON, as docs/FORMATS.md says it is read
+# ---- JSON, as program/FORMATS.md says it is read
 
 
 class Number:

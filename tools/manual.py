@@ -137,7 +137,7 @@ def program(formats, version):
     status = re.search(r"^## The exit status\n\n(.*?)\n\n(.*?)\n\n## ", formats, re.DOTALL | re.MULTILINE)
     rows = [[cell.strip() for cell in row.strip("|").split("|")] for row in status[1].splitlines()[2:]]
     made = [f'.TH WW_RUN 1 "" "libww {version}" "Wound/wait locks"']
-    made += ['.\\" Written by tools/pages from docs/FORMATS.md, which says more: change that, not this page.', ".nh"]
+    made += ['.\\" Written by tools/pages from program/FORMATS.md, which says more: change that, not this page.', ".nh"]
     made += [".SH NAME", r"ww_run \- run transactions under wound/wait locks, or replay a schedule of lock events"]
     made += [".SH SYNOPSIS", r"\fBww_run\fP < \fIINPUT\fP", ".SH DESCRIPTION", prose(head), ".PP", prose(reads)]
     made += [".PP", r"FORMATS.md in \fIshare/doc/ww\fP says what an input may have, and what is printed. Of the tools in"]

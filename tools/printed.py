@@ -1,8 +1,8 @@
 """What the program printed, as the tools read it on standard input."""
 import sys
 
+from command import read_bytes, refuse
 from inputs import FAULTS
-from streams import read_bytes, refuse
 
 REFUSALS = {f"refused {number} {words}" for number, words in FAULTS.items()}
 

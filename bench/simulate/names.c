@@ -1,6 +1,6 @@
-/* names.c - what of a class lies where, for the table of transfers. See `words_of` of ww_pool.h for the proved library's part. */
+/* names.c - what of a class lies where, for the table of transfers. See `words_of` of ww_context.h for the proved library's part. */
 #include "simulate.h"
-#include "ww_pool.h"
+#include "ww_context.h"
 
 void name_pool(const struct ww_pool *pool)
 {

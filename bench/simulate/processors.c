@@ -3,7 +3,7 @@
  * clock is larger than another's.
  */
 #include "simulate.h"
-#include "ww_pool.h"
+#include "ww_class.h"
 
 struct processor *processors;
 unsigned processor_count, current;
@@ -13,7 +13,7 @@ int64_t counts_from, ends_at, next_clock;
 /* A tree of the smaller clocks, its leaves from MOST_PROCESSORS on; that of the current processor is NEVER_COMES. */
 static int64_t smallest[2 * MOST_PROCESSORS];
 static void *outside;
-/* What the library has for each thread (ww_pool.h), while that doesn't run. */
+/* What the library has for each thread (ww_class.h), while that doesn't run. */
 static struct ww_mine kept[MOST_PROCESSORS];
 
 /* Saves what the caller relies on, and all vector registers, since a thread may be left before any instruction. */

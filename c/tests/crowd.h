@@ -2,7 +2,7 @@
 #ifndef CROWD_H
 #define CROWD_H
 #include "mutex_test.h"
-#include "../ww_pool.h"
+#include "../ww_class.h"
 
 /* From now on the class has so many permits, each as long as this, in nanoseconds; that is kept for ever. */
 static inline void crowds(struct ww_class *of, uint32_t permits, uint64_t lease)

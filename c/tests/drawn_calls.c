@@ -6,7 +6,7 @@
  */
 #include "mutex_test.h"
 #include "../ww_number.h"
-#include "../ww_pool.h"
+#include "../ww_seat.h"
 #include <signal.h>
 
 enum { WORLDS = 2, TASKS = 7, OBJECTS = 4, LOCKS = 6, SAID = 64, LATEST = 24 };
@@ -20,7 +20,7 @@ struct task {
 	enum { NOT_LENT, LENT, WAS_CALLED, TAKEN } waker; /* TAKEN: back, so nobody calls it */
 	bool is_ended;	  /* what is in x may be used, and is refused; else it has never begun */
 	bool of_tasks;	  /* its context is one of those that tasks have for themselves */
-	unsigned place;	  /* WAITS, CALLED or SERVED: where it stands, while it seeks: see ww_pool.c */
+	unsigned place;	  /* WAITS, CALLED or SERVED: where it stands, while it seeks: see ww_seat.c */
 	int looks;	  /* how often it has looked since it was called */
 	const void *seat; /* which it got */
 	int polled;	  /* the lock for which it waits, or NOBODY */

@@ -3,7 +3,7 @@
  * a time.  Time passes by hand, so each machine ends up where it does whatever else runs here.
  */
 #include "test.h"
-#include "../ww_pool.h"
+#include "../ww_class.h"
 
 enum { STEP = 50000, MILLISECOND = 1000000, LONG = 4000 }; /* of time; and milliseconds */
 

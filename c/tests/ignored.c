@@ -1,4 +1,4 @@
-/* The compiler warns of one of these calls, where WW_CHECK_LOCKS or WW_DEBUG is defined; the Makefile counts its warnings. */
+/* The compiler warns of one of these calls, where WW_CHECK_LOCKS or WW_DEBUG is defined; tests.mk counts its warnings. */
 #include "../ww_mutex.h"
 
 int looks_and_ignores(struct ww_mutex *lock, struct ww_acquire_ctx *ctx);

@@ -4,7 +4,7 @@
 It reads each access by __atomic_* in the sources of FOLDER, c/ by itself, and holds it against the table below, which has
 them by field and function: so an order can't change unseen, nor an access come or go, nor two change places. A second table
 says what covers the plain accesses of what threads share: a lock, or that one thread alone writes. Who changes a table changes
-the programs that have the field. And the table at the head of ww_pool.h has each field that several threads write, and names for
+the programs that have the field. And the table at the head of ww_class.h has each field that several threads write, and names for
 it a program of the search, or a test, that there is. Then it draws all executions of small programs (which write each read reads, in which order
 the writes of each place come), and asks of each whether a memory model allows it: C's, as RC11 repairs it, with the release
 sequences of C++20, which tells data races too; and AArch64's, the axiomatic one, over the code that gcc and clang make, with
@@ -270,8 +270,8 @@ def arm_model(events, sb, rf, mo, lse):
 
 # ---- the sources ----
 
-SOURCES = ["ww.c", "ww_pool.h", "ww_pool.c", "ww_crowd.c", "ww_context.c", "ww_mutex_inline.h", "ww_mutex.c", "ww_loop.c", "ww_number.h", "ww_number.c",
-           "ww_inside.h", "ww_poll.c", "ww_shared.c", "ww_debug.h", "ww_debug.c"]
+SOURCES = ["ww.c", "ww_gate.h", "ww_crowd.h", "ww_class.h", "ww_seat.h", "ww_context.h", "ww_class.c", "ww_numbers.c", "ww_seat.c", "ww_queue.c",
+           "ww_crowd.c", "ww_context.c", "ww_mutex_inline.h", "ww_mutex.c", "ww_loop.c", "ww_number.h", "ww_number.c", "ww_inside.h", "ww_poll.c", "ww_shared.c", "ww_debug.h", "ww_debug.c"]
 SHORT = {"RELAXED": "rlx", "ACQUIRE": "acq", "RELEASE": "rel", "ACQ_REL": "ar", "SEQ_CST": "sc"}
 
 # Of each field, in each function that has it, in the order of the text: its accesses, and what orders them. Of a
@@ -298,13 +298,13 @@ TABLE = {
         "comes_along": "store rlx", "await_polled": "store rlx", "read_poll": "store rlx",
         "ww_mutex_is_held_by": "load rlx", "WW_HOLDS_": "store rlx", "WW_HOLDS_NO_MORE_": "store rlx",
         "ww_mutex_unlock": "load rlx", "holder_of": "load rlx", "own": "store rlx", "release_all": "store rlx",
-        "ww_mutex_unlock_checked": "store rlx", "ww_number_told": "load rlx, store rlx", "ww_number_unlock": "store rlx",
+        "ww_mutex_unlock_checked": "store rlx", "ww_number_result": "load rlx, store rlx", "ww_number_unlock": "store rlx",
     },
     # By it others look who uses the seat, which was said before.
     "alone": {"seat_of": "load acq", "own": "store rel", "unlock_alone": "store rlx"},
     # By what lies there before, the words that a list fetches ahead are of no use, and nothing else.
     "number": {"ww_number_at_first": "store rlx", "fetch_ahead": "load rlx"},
-    "is_large": {"make_pool": "store rlx", "ww_take_number": "store rlx", "begin_list": "load rlx"},
+    "is_large": {"ww_open_numbers": "store rlx", "ww_take_number": "store rlx", "begin_list": "load rlx"},
     # It lies in the place of that, and others see that it is even.
     "older": {"WW_HOLDS_": "store rlx", "enlist": "store rlx"},
     "link": {"unlist": "store rlx"},
@@ -352,17 +352,17 @@ TABLE = {
         "use_kept": "load acq, store rlx", "give_seat": "store rel",
         "let_go": "compare_exchange ar/acq, store sc", "keep": "store sc", "claim": "load sc, compare_exchange sc/sc",
         "give_kept": "compare_exchange sc/sc", "ww_give_seat": "load rlx, fetch_add sc", "is_idle": "load acq", "is_used": "load rlx",
-        "give_shared": "fetch_add sc", "hands_over": "fetch_add sc", "given": "load rlx", "ww_class_stats": "load rlx",
+        "give_shared": "fetch_add sc", "ww_hands_over": "fetch_add sc", "given": "load rlx", "ww_class_stats": "load rlx",
     },
     # Who was called says first that nobody is, and then looks for a seat; whoever gives one looks the other way round.
-    "called": {"call_first": "store sc", "give_shared": "load sc", "look": "store sc"},
+    "called": {"call_first": "store sc", "give_shared": "load sc", "look_for_seat": "store sc"},
     # Written under the lock of the queue. Who claims a seat by an older limit does what it might have done before.
-    "limit": {"look_at_gate": "store sc", "open_seats": "load sc", "claim_from": "load sc"},
+    "limit": {"look_at_gate": "store sc", "open_seats": "load sc", "ww_claim_from": "load sc"},
     # Hints: whoever sees them late waits for a permit without need, for a while, or begins without one.
     "at_hand": {
-        "seat_at_hand": "load rlx", "ww_other_seat": "load rlx", "is_crowded": "load rlx", "be": "store rlx", "set_id": "store rlx",
+        "seat_at_hand": "load rlx", "ww_other_seat": "load rlx", "is_crowded": "load rlx", "set_crowded": "store rlx", "set_id": "store rlx",
     },
-    "rests": {"ww_crowd_open": "store rlx", "ww_has_waited": "load rlx", "look": "store rlx"},
+    "rests": {"ww_crowd_open": "store rlx", "ww_has_waited": "load rlx", "look_at_crowd": "store rlx"},
     # Hints for who stays awake, for a while at most.
     "awaits": {
         "begin_wait": "store rlx", "end_wait": "store rlx", "is_in_cycle": "load rlx",
@@ -370,22 +370,22 @@ TABLE = {
     # Written under the crowd's lock, and a word for the futex to look at.
     "is_called": {"call": "store rlx", "stand_in_line": "store rlx"},
     # A count for the gate.
-    "begun": {"ww_await_permit": "fetch_add rlx", "look": "load rlx"},
+    "begun": {"ww_await_permit": "fetch_add rlx", "look_at_crowd": "load rlx"},
     "awaited": {"ww_crowd_open": "store rlx", "ww_class_stats": "load rlx"},
     # Whoever frees a class at 0 sees the seats, in use, of those that stood in the line.
     "waiting": {"join": "add_fetch rlx", "ww_has_begun": "sub_fetch rel", "permit_seekers": "load acq"},
     # To all threads but the one that it names, or named, it is the same. Who may be the next keeper is a glance before the lock.
     "keeper": {"give_seat": "load rlx", "let_go": "store rlx", "keep": "store rlx"},
     # How many seats are kept, a hint; whoever sees that it didn't change between two passes saw in both that the same were.
-    "kept": {"keeps_more": "store rlx", "any_seat": "load rlx", "tell_leak": "load rlx"},
-    "changed": {"keeps_more": "fetch_add sc", "claim_from": "load sc"},
+    "kept": {"keeps_more": "store rlx", "any_seat": "load rlx", "report_leak": "load rlx"},
+    "changed": {"keeps_more": "fetch_add sc", "ww_claim_from": "load sc"},
     # Written before others see the class; whoever serves late finds nobody in the queue, or somebody who saw that.
-    "id": {"set_id": "store rlx", "serve": "load rlx"},
+    "id": {"set_id": "store rlx", "ww_serve": "load rlx"},
     # Whoever gives a seat looks for seekers then; a seeker has said so before it looks for a seat.
     "seekers": {"has_seekers": "load sc", "take_out": "fetch_sub sc", "ww_queue_up": "fetch_add sc", "ww_debug_seen": "load rlx, load rlx", "ww_class_stats": "load rlx, load rlx"},
     # When to look at a gate next, which is asked again under its lock.
     "due": {
-        "ww_crowd_open": "store rlx", "look": "store rlx", "goes_on": "load rlx", "open_seats_of": "store rlx", "look_at_gate": "store rlx",
+        "ww_crowd_open": "store rlx", "look_at_crowd": "store rlx", "goes_on": "load rlx", "open_seats_of": "store rlx", "look_at_gate": "store rlx",
         "look_if_due": "load rlx",
     },
     # Changed under the lock of numbers; whoever frees a class at 0 sees all that those wrote who had one.
@@ -399,8 +399,8 @@ TABLE = {
     # Said before a waiter is woken, which looks at it after it took its token away, or was taken out of the queue under its lock; or
     # before those in the line for a permit are called, which look at it under its lock.
     "ends_waits": {"make_pool": "store sc", "ww_ends_waits": "load sc", "ww_class_cancel": "store sc"},
-    "is_told": {"make_pool": "store rlx", "is_stuck": "exchange rlx"},
-    "is_told_of_lock": {"make_pool": "store rlx", "ww_says_if_long": "exchange rlx"},
+    "is_reported": {"make_pool": "store rlx", "is_stuck": "exchange rlx"},
+    "is_lock_reported": {"make_pool": "store rlx", "ww_says_if_long": "exchange rlx"},
     "patience": {"ww_report_long_waits": "store rlx", "ww_patience": "load rlx"},
     "served": {"is_stuck": "load rlx"},
     "counted": {"count": "store rlx, load rlx", "tell": "fetch_add rlx"},
@@ -411,12 +411,12 @@ TABLE = {
     },
     "is_said": {"tell_if_unseen": "exchange rlx", "trace": "exchange rlx"},
     "lies_at": {"ww_debug_made": "store rlx", "is_copy": "load rlx", "why_unheld": "load rlx, load rlx"},
-    "told_of": {"is_new": "compare_exchange rlx/rlx"},
+    "reported": {"is_new": "compare_exchange rlx/rlx"},
     "check_interval": {"ww_debug_check_interval": "store rlx", "ww_debug_waits": "load rlx", "ww_debug_sleeps": "load rlx"},
     "stamps": {"ww_debug_begun": "add_fetch rlx"},
     "endless_waits": {"ww_debug_waits": "add_fetch rlx"},
     "context": {"has": "load rlx", "ww_debug_begun": "store rlx, store rlx", "ww_debug_ended": "store rlx"},
-    "refused": {"has": "load rlx", "refuse": "store rlx", "ww_debug_told": "store rlx", "ww_debug_ended": "store rlx"},
+    "refused": {"has": "load rlx", "refuse": "store rlx", "ww_debug_result": "store rlx", "ww_debug_ended": "store rlx"},
     "stamp": {
         "use": "load rlx", "unuse_if_free": "load rlx", "has": "load rlx", "ww_debug_begun": "store rlx", "ww_debug_ended": "store rlx",
         "is_used": "load rlx", "ww_debug_leak": "load rlx, load rlx", "print_seat": "load rlx",
@@ -448,7 +448,7 @@ TABLE = {
 # lock: whoever reaches it takes that, or says above that it is taken, or stands behind the colon. Or these functions
 # alone write it, for the reason given, and others read what was written before.
 LOCKS = {
-    "opening": ("pthread_mutex_lock(&opening)", "pening is locked"),
+    "opening": ("pthread_mutex_lock(&ww_opening)", "pening is locked"),
     "queue": ("pthread_mutex_lock(&p->queue)", "queue is locked"),
     "numbers": ("pthread_mutex_lock(&p->numbers)", "numbers are locked"),
     "crowd": ("pthread_mutex_lock(&crowd->lock)", "rowd is locked"),
@@ -483,7 +483,7 @@ PLAIN = {
     "tasks->sum": "by: open_seats_of",
     "tasks->called": "by: open_seats_of",
     # By the user of a seat, or under the lock by who hands it over.
-    "s->lent": "by: hands_over",
+    "s->lent": "by: ww_hands_over",
     "it->waker_": "queue: ",
     "waker_->wake": "queue: ",
     # Before others see the class; and a seek's before it is in the queue.
@@ -528,7 +528,7 @@ PLAIN = {
     "p->may_keep": "by: make_pool",
     "s->keeper": "by: fill_seats",
     "s->busy": "by: fill_seats",
-    "p->mutexes": "by: make_pool",
+    "p->mutexes": "by: ww_open_numbers",
     "p->gone": "by: in_child",
     "p->numbered": "by: free_pool",
     # By whoever holds the mutex, which its lock orders, or makes or destroys it.
@@ -556,11 +556,11 @@ PLAIN = {
     "s->desk": "by: make_desk",
     "x->own": "by: ",
     # By the context's own thread, and of a class before others see it, or in a forked child.
-    "x->pool": "by: begin_core close_or_open goes_by_hand may_be_older no_more of_seat",
+    "x->pool": "by: begin_core close_or_open draw_age_by_hand may_be_older no_more of_seat",
     # By the user of a seat, and by its keeper, or whoever frees the class, once nobody uses it: all that goes with `busy`.
     "s->ages": "by: has_met may_be_older stop_rest unlock_alone_on ww_acquire_fini ww_acquire_fini_checked",
-    "p->fresh": "numbers: make_pool",
-    "p->free": "numbers: make_pool",
+    "p->fresh": "numbers: ww_open_numbers",
+    "p->free": "numbers: ww_open_numbers",
     "p->below": "numbers: keep_memory make_pool",
 }
 # What a thread has for itself, under names of fields that others share; and names under which others stand for the same.
@@ -676,8 +676,8 @@ def shared_words(folder):
 
 
 def untold(folder):
-    """Of the table at the head of ww_pool.h: what it lacks, has besides, or names that isn't there."""
-    with open(os.path.join(folder, "ww_pool.h"), encoding="utf-8") as file:
+    """Of the table at the head of ww_class.h: what it lacks, has besides, or names that isn't there."""
+    with open(os.path.join(folder, "ww_class.h"), encoding="utf-8") as file:
         rows = [re.split(r"\t+", line[3:].rstrip()) for line in file.read().partition("*/")[0].split("\n") if line.startswith(" *\t")]
     programs = set()
     for name in ("programs", "shared"):
@@ -685,10 +685,10 @@ def untold(folder):
             programs |= set(re.findall(r'^\t\{ "([\w-]+)", \{', file.read(), re.MULTILINE))
     due, told = shared_words(folder), {word for row in rows[1:] for word in row[0].split()}
     for word in sorted(due ^ told):
-        yield f"{word} is {'not' if word in due else 'without need'} in the table of ww_pool.h"
+        yield f"{word} is {'not' if word in due else 'without need'} in the table of ww_class.h"
     for row in rows[1:]:
         if len(row) != 4 or row[3] not in programs and not os.path.exists(os.path.join(folder, "tests", f"{row[3]}.c")):
-            yield f"the table of ww_pool.h names no program for {row[0]}"
+            yield f"the table of ww_class.h names no program for {row[0]}"
 
 
 # ---- questions ----

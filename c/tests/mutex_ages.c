@@ -584,7 +584,7 @@ static void *of_few_behind_it(void *other)
 	x_is_younger(other);
 	return NULL;
 }
-int ww_class_open_kept(struct ww_class *c, uint32_t kept); /* ww_pool.h */
+int ww_class_open_kept(struct ww_class *c, uint32_t kept); /* ww_class.h */
 static void no_age_is_left_behind(void)
 {
 	struct ww_mutex other;

@@ -27,7 +27,7 @@ static void in_many(void *(*work)(void *))
 	pthread_barrier_destroy(&meet);
 }
 
-/* Each context waits until all others have begun, the first of its thread, and a later one: see `kept` of ww_pool.c. */
+/* Each context waits until all others have begun, the first of its thread, and a later one: see `kept` of struct ww_pool. */
 static void *begins_together(void *arg)
 {
 	for (unsigned k = 0; k < 3; k++) {

@@ -4,7 +4,7 @@
  * that the table says.
  */
 #include "mutex_test.h"
-#include "../ww_pool.h"
+#include "../ww_context.h"
 
 enum state { EASE, OWES, TOLD, TOLD_OWES, TOLD_BARE, FIRST, EASE_BARE };
 enum call { LOCK, HEED, UNTIL, SLOW, TRY, UNLOCK, UNLOCK_ALL, BACK_OFF, ALL, AGAIN, TWICE };

@@ -4,7 +4,7 @@
  * one holder, and no seat is lost.  mutex_moves TIMES.
  */
 #include "mutex_test.h"
-#include "../ww_pool.h"
+#include "../ww_class.h"
 
 enum { MUTEXES = 3, LEFT = 32, ROUNDS = 12, MANY = 1000 };
 

@@ -3,7 +3,7 @@
  * threads first use at the same time is opened once; and a fork at any moment leaves a child that works.
  */
 #include "mutex_test.h"
-#include "../ww_pool.h"
+#include "../ww_context.h"
 #include <sys/wait.h>
 
 /* So many numbers are enough for all threads, and with so few each takes what others put back. */

@@ -4,7 +4,7 @@
  * wrapper (ld --wrap), which refuses a set that has no room for those of the machine, as the kernel does.
  */
 #include "mutex_test.h"
-#include "../ww_pool.h"
+#include "../ww_class.h"
 
 enum { MOST_CONTEXTS = 128 };
 

@@ -4,7 +4,7 @@
  */
 #include "mutex_test.h"
 #include "../ww_number.h"
-#include "../ww_pool.h"
+#include "../ww_class.h"
 #include <sys/mman.h>
 
 /* Of so many mutexes so many are used, whose words lie all over the class; and of these one in so many is waited for. */

@@ -5,7 +5,7 @@
  * hold one mutex, and no call is refused.  The first word is how many loops each thread makes.
  */
 #include "mutex_test.h"
-#include "../ww_pool.h"
+#include "../ww_context.h"
 
 enum { THREADS = 8, MUTEXES = 6, LIST = 3 };
 

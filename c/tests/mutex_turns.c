@@ -5,7 +5,7 @@
  * What the library locks comes by wrappers (ld --wrap).
  */
 #include "mutex_test.h"
-#include "../ww_pool.h"
+#include "../ww_seat.h"
 #include <semaphore.h>
 #include <sys/wait.h>
 

@@ -4,7 +4,7 @@
  */
 #include "mutex_test.h"
 #include "../ww_number.h"
-#include "../ww_pool.h"
+#include "../ww_seat.h"
 #include "../ww_steps.h"
 #include <sys/wait.h>
 

@@ -1,5 +1,5 @@
 #!/usr/bin/env python3
-"""All that tasks may do by the tables at the head of ww_pool.c, where they wait for contexts: seats.py.
+"""All that tasks may do by the tables at the head of ww_seat.c, where they wait for contexts: seats.py.
 
 A model of give_shared, ww_queue_up, ww_is_served and ww_leave_queue, of few tasks, threads and seats: each access of a seat's `busy`,
 of `seekers`, `called` or `limit` is a step, and what changes under the lock `queue` alone is one with the step that it belongs to.  From

@@ -477,7 +477,7 @@ static void step(const char *op, const void *pc)
 }
 
 /*
- * Where steps are looked into: before each atomic access of the generated assembly (the Makefile puts a call there, amid
+ * Where steps are looked into: before each atomic access of the core, in assembly (tests.mk puts a call there, amid
  * whatever it has in registers).
  */
 void il_inside(const void *pc)

@@ -82,7 +82,7 @@ extern struct il {
 	char memory[ARENA + IL_THREADS * STACK] __attribute__((aligned(4096)));
 } il;
 
-/* The data of the library and of the programs: a section that the Makefile names so. */
+/* The data of the library and of the programs: a section that tests.mk names so. */
 extern char __start_il_data[], __stop_il_data[];
 
 #define PC __builtin_return_address(0)

@@ -14,7 +14,7 @@
  * seat goes to another user, nobody is left to name, and no token owed.
  */
 #include "inside.h"
-#include "ww_pool.h"
+#include "ww_seat.h"
 
 enum { SEATS = 32 };
 static ww_seat *seats; /* of the class that was called last in this run; and how many */

@@ -30,7 +30,7 @@
  */
 #define _GNU_SOURCE
 #include "interleave.h"
-#include "ww_pool.h"
+#include "ww_seat.h"
 #include "ww_number.h"
 #include "ww_poll.h"
 #include <ctype.h>

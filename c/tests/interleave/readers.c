@@ -19,7 +19,7 @@
  * it leaves its desk.  What holds of all reached halls is asked again where a call ends, so that this file isn't taken at its word.
  */
 #include "inside.h"
-#include "ww_pool.h"
+#include "ww_context.h"
 #include "ww_shared.h"
 
 enum { SEATS = 32, MUTEXES = 2, WORD = 64, WORDS = 2 };

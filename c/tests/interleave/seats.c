@@ -3,12 +3,12 @@
  * threads never use one seat, and none is lost.
  *
  * Each access of a `busy` has to be one of these steps, by what was there, what is, and whose it is; the tables at the head of
- * ww_pool.c have all of them.  Who uses a seat, and who keeps it, is what these steps made of it, and no library's word; a step
+ * ww_seat.c have all of them.  Who uses a seat, and who keeps it, is what these steps made of it, and no library's word; a step
  * of the proved library by a seat is its user's.  That another goes on with what one began (goes_over) is no access: whoever
  * gives a seat, or makes a step by it, is its user.
  */
 #include "inside.h"
-#include "ww_pool.h"
+#include "ww_seat.h"
 
 enum { SEATS = 32 };
 static uint64_t class_id; /* of the class that was open last; and of which run it was */

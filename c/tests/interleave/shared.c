@@ -18,7 +18,7 @@
  */
 #define _GNU_SOURCE
 #include "interleave.h"
-#include "ww_pool.h"
+#include "ww_context.h"
 #include "ww_shared.h"
 #include <ctype.h>
 #include <string.h>

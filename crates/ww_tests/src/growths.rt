@@ -1,6 +1,6 @@
 //! The calls that may want memory, each of them where a growth is refused: what came back is looked at, and the same
 //! call, made once more, gives its answer. With all the memory that they want these tests show that the calls succeed;
-//! `bench/refuse_library_growths` refuses each growth of each of them in turn.
+//! `checks/refuse_library_growths` refuses each growth of each of them in turn.
 
 ghost use Rattle.std.specs.Prelude.{◌≡◌, IfOk};
 ghost use Rattle.ww_lock.specs.Holding.{IsAtHome, AreAtHome};

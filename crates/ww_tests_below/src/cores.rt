@@ -19,7 +19,7 @@ fn a_core_refuses_a_seat_that_it_has_not(rt: HostRuntime) -> Result<(), Fail> {
     Ok(())
 }
 
-/// Two contexts that each hold a lock and join the wait list of the other's, as in `examples/ring.json`.
+/// Two contexts that each hold a lock and join the wait list of the other's, as in `program/examples/ring.json`.
 pub(crate) const RING: [Event; 11] = [
     Event::Begin(0),
     Event::Begin(1),

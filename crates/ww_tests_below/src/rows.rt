@@ -234,7 +234,7 @@ fn both_seats<R: Abort>(
     Ok(seats)
 }
 
-/// `bench/refuse_library_growths` refuses each growth of it in turn: of making, of reserving and of closing too.
+/// `checks/refuse_library_growths` refuses each growth of it in turn: of making, of reserving and of closing too.
 #[test]
 fn two_seats_take_turns_at_two_nodes(rt: HostRuntime) -> Result<(), Fail> {
     let alloc = rt.alloc();

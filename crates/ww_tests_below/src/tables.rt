@@ -80,7 +80,7 @@ fn at_once<R: Abort>(
     closed(rt, board, seats)
 }
 
-/// `bench/refuse_library_growths` refuses each growth of making and closing in turn: all comes back then.
+/// `checks/refuse_library_growths` refuses each growth of making and closing in turn: all comes back then.
 #[test]
 fn makes_and_closes_at_once(rt: HostRuntime) -> Result<(), Fail> {
     for kind in [Kind::WoundWait, Kind::WaitDie] {

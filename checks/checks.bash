@@ -1,0 +1,178 @@
+# What the checks share. To be sourced, at the top of the repository.
+# shellcheck shell=bash disable=SC2034,SC2154
+
+name=$(basename "$0")
+
+say() {
+    echo "$name: $*"
+}
+
+fail() {
+    echo "$name: $*" >&2
+    exit 1
+}
+
+# The program that a check is given, as its only word, into `program`. The check was called in the folder before this.
+find_program() {
+    [ $# = 1 ] || fail "usage: checks/$name PROGRAM"
+    program=$(cd "$OLDPWD" && readlink -m -- "$1")
+    { [ -f "$program" ] && [ -x "$program" ]; } || fail "$1 is no program"
+}
+
+# Short inputs that are refused, one a row; and those that are accepted, one a block.
+rows=program/cases/refused.rows
+blocks=program/cases/accepted.blocks
+
+# The inputs of program/, into the array `inputs`, those in the blocks as files of this new folder. Each has a file beside
+# it with what it prints, so a file that belongs to no input, or an input to which none belongs, is a slip that would
+# leave something untried.
+find_inputs() {
+    local file
+    mkdir "$1"
+    awk -v folder="$1" '
+        /^(#|$)/ { next }
+        /^== / { close(file); file = folder "/" $2; next }
+        /^--$/ { close(file); file = file ".stdout"; next }
+        { print >file }' "$blocks"
+    [ "$(find "$1" -name '*.stdout' | wc -l)" = "$(grep -c '^== ' "$blocks")" ] || fail "$blocks: a name is there twice"
+    inputs=()
+    for file in "$1"/* program/cases/* program/examples/*; do
+        case $file in
+        "$rows" | "$blocks") ;;
+        *.stdout | *.status)
+            [ -f "${file%.*}" ] || fail "$file belongs to no input"
+            ;;
+        *)
+            [ -f "$file.stdout" ] || fail "$file has no $file.stdout"
+            inputs+=("$file")
+            ;;
+        esac
+    done
+    [ "${#inputs[@]}" -ge 50 ] || fail "only ${#inputs[@]} inputs were found"
+}
+
+# An input that is refused, from standard input into this file, with the line that it prints and its status beside it as in
+# program/cases; and into the array `inputs`.
+add_refused() {
+    cat >"$1"
+    echo "$2" >"$1.stdout"
+    echo 1 >"$1.status"
+    inputs+=("$1")
+}
+
+# The inputs in the rows, each into a file of this folder that is named by its line; and two that are too large for a row.
+spread_rows() {
+    local folder=$1 row frame='' line text number=0 count=0
+    while IFS= read -r row || [ -n "$row" ]; do
+        number=$((number + 1))
+        case $row in
+        '#'*) ;;
+        '') frame='' ;;
+        'in  '*@*) frame=${row#in  } ;;
+        'refused '*'  '*)
+            [ -n "$frame" ] || fail "$rows: line $number stands in no group"
+            line=${row%%  *}
+            text=${row#"$line"}
+            text=${text#"${text%%[! ]*}"}
+            add_refused "$folder/refused_rows_line_$number" "$line" < <(printf '%s%s%s' "${frame%%@*}" "$text" "${frame#*@}")
+            count=$((count + 1))
+            ;;
+        *) fail "$rows: line $number is no row" ;;
+        esac
+    done <"$rows"
+    [ "$count" -ge 150 ] || fail "$rows: only $count rows were found"
+    add_refused "$folder/one_byte_too_long" 'refused 17 input too long' < <(printf '%1048577s' '')
+    add_refused "$folder/schedule_of_too_many_events" 'refused 12 number out of range' < <(
+        printf '{"version":1,"kind":"wound-wait","locks":1,"seats":1,"events":['
+        printf '["begin",0],%.0s' {1..10000}
+        printf '["begin",0]]}'
+    )
+}
+
+# Of what `spread_rows` made in this folder, the first and the last input with each line that is printed, into the array
+# `samples`: what is refused for the same reason early and late. (Not the large schedule, which takes memory 100,000 times.)
+find_samples() {
+    local input line
+    local -A first=() last=()
+    while IFS= read -r input; do
+        line=$(cat "$input.stdout")
+        [ -n "${first[$line]-}" ] || first[$line]=$input
+        last[$line]=$input
+    done < <(printf '%s\n' "$1"/{one_byte_too_long,refused_rows_line_*}.status | sed 's/\.status$//' | sort -V)
+    mapfile -t samples < <(printf '%s\n' "${first[@]}" "${last[@]}" | sort -u)
+    [ "${#samples[@]}" -ge 10 ] || fail "only ${#samples[@]} samples of refused inputs were found"
+}
+
+# The exit status that a run on this input must have.
+status_for() {
+    if [ -e "$1.status" ]; then
+        cat "$1.status"
+    else
+        echo 0
+    fi
+}
+
+# Runs a command under a time limit, and leaves its exit status in `status`: 124 if it took too long.
+observe() {
+    status=0
+    timeout 300 "$@" || status=$?
+}
+
+# The same, with its output into the file `output` of the folder `work`, and its errors into `errors`.
+observe_apart() {
+    observe "$@" >"$work/output" 2>"$work/errors"
+}
+
+# Runs a program on an input, and leaves in `differs` how it ended otherwise than is stored, or nothing: its status, what it
+# printed, and that standard error is empty.
+try_input() {
+    local input=$1
+    shift
+    differs=''
+    observe_apart "$@" <"$input"
+    if [ "$status" != "$(status_for "$input")" ]; then
+        differs="the status is $status and not $(status_for "$input")"
+    elif ! cmp -s "$work/output" "$input.stdout"; then
+        differs="standard output is another: $(diff "$input.stdout" "$work/output" | head -n 4 || true)"
+    elif [ -s "$work/errors" ]; then
+        differs="standard error isn't empty: $(head -c 300 "$work/errors")"
+    fi
+}
+
+# What must have come of it: the status, the standard output, and words that stand on standard error, or nothing.
+checks=0
+must_end() {
+    local wanted=$1 text=$2 words=$3
+    checks=$((checks + 1))
+    [ "$status" = "$wanted" ] || fail "the status is $status and not $wanted: $(cat "$work/errors")"
+    cmp "$work/output" "$text" >&2 || fail "standard output is another"
+    if [ -n "$words" ]; then
+        grep -q -F -e "$words" "$work/errors" || fail "'$words' isn't told: $(cat "$work/errors")"
+    else
+        cmp "$work/errors" /dev/null >&2 || fail "standard error isn't empty"
+    fi
+}
+
+# Starts a command in the background, once fewer run than `most`, or than there are processors. How it ended it has to
+# leave in a file.
+running=0
+start() {
+    if [ "$running" -ge "${most-$(nproc)}" ]; then
+        wait -n || true
+        running=$((running - 1))
+    fi
+    "$@" &
+    running=$((running + 1))
+}
+
+# Compiles a source of checks/ that is to be preloaded into a file. The kit's compiler comes without headers and
+# start-up code, and these sources need neither.
+make_library() {
+    local kit how=(-shared -fPIC -nostdlib -O1 -o "$2" "$1")
+    if command -v cc >/dev/null; then
+        cc "${how[@]}"
+    else
+        kit=$(dirname "$(rt doc)")/toolchain/bin
+        "$kit/clang" --ld-path="$kit/ld.lld" "${how[@]}"
+    fi || fail "$1 can't be compiled"
+}

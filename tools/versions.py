@@ -1,3 +1,0 @@
-"""The versions of the input, and how many ports a node has in each: `docs/FORMATS.md`, "Scripts"."""
-
-PORTS = {1: 4, 2: 8}
