@@ -60,7 +60,7 @@
  * first was called: who drops a call has looked at all, and who leaves passes it on.  tests/seats.py tries all that
  * tasks may do by these tables, and the search of schedules asks that of the sources.
  *
- * crates/ww_seating proves that two never use one seat, and that none is lost, of such steps in any order, by the names
+ * crates/ww_protocols proves that two never use one seat, and that none is lost, of such steps in any order, by the names
  * in brackets; in the search each access of a `busy` has to be one of them (tests/interleave/seats.c).
  *
  * The next user sees what a user wrote in the seat.  Kept: the store or exchange for IS_KEPT releases; the keeper's
