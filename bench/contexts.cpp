@@ -14,7 +14,7 @@
 #include <ww_number.h>
 #include <ww_steps.h>
 #if __has_include(<peer.h>)
-#include <peer.h>
+#include <peer.h> // the kernel's code, as bench/kernel_peer compiles it for user space
 #define HAS_PEER
 #endif
 

@@ -279,6 +279,7 @@ static void in_a_child(void (*what)(void))
 	MUST(!status);
 }
 
+/* The child of a fork that comes while other threads open classes opens one, too. */
 static void opens_its_own(void)
 {
 	struct ww_class it;

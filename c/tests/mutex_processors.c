@@ -24,20 +24,20 @@ int __wrap_sched_getaffinity(pid_t pid, size_t size, cpu_set_t *set)
 	return 0;
 }
 
-static struct ww_class c;
+static struct ww_class sized; /* by how many processors there are */
 static struct ww_acquire_ctx all[MOST_CONTEXTS + 1];
 static struct ww_seek seeks[MOST_CONTEXTS];
 static int called[MOST_CONTEXTS];
 
 static void calls(void *loop, void *task)
 {
-	MUST(loop == &c);
+	MUST(loop == &sized);
 	++*(int *)task;
 }
 
 static int begins(unsigned k, struct ww_acquire_ctx *x)
 {
-	return ww_acquire_init_poll(x, &c, &seeks[k], &(struct ww_waker){ calls, &c, &called[k] });
+	return ww_acquire_init_poll(x, &sized, &seeks[k], &(struct ww_waker){ calls, &sized, &called[k] });
 }
 
 /* As many tasks wait; of those contexts that end, each is somebody's. */
@@ -76,17 +76,17 @@ static void has(size_t its, size_t processors, unsigned contexts)
 	of_machine = processors;
 	usable = its;
 	memset(all, 0, sizeof all);
-	ww_class_init(&c, 0, "sized");
-	MUST(!ww_class_limit(&c, 4, 0) && !ww_class_open(&c));
-	c.pool->tasks.due = UINT64_MAX; /* nobody measures */
-	while (count <= MOST_CONTEXTS && !ww_acquire_init_poll(&all[count], &c, NULL, NULL))
+	ww_class_init(&sized, 0, "sized");
+	MUST(!ww_class_limit(&sized, 4, 0) && !ww_class_open(&sized));
+	sized.pool->tasks.due = UINT64_MAX; /* nobody measures */
+	while (count <= MOST_CONTEXTS && !ww_acquire_init_poll(&all[count], &sized, NULL, NULL))
 		count++;
 	MUST(count == contexts);
 	none_is_lost(count);
 	none_is_lost(count);
 	while (count)
 		ww_acquire_fini(&all[--count]);
-	MUST(!ww_class_free(&c));
+	MUST(!ww_class_free(&sized));
 }
 
 int main(void)

@@ -12,12 +12,18 @@ struct tried {
 	void *p;
 };
 
-static long made, live, keys, refused; /* as the program is loaded, the first */
+/*
+ * How many allocations were asked for, how many of these are live, keys apart; and which one is refused: the first, as the
+ * program is loaded.
+ */
+static long made, live, keys, refused;
 static char nothing[16];
 
+/* How the proved library is told of an allocation: whether it has the memory, and an address in any case. */
 static struct tried told(void *p) { return (struct tried){ p != NULL, p ? p : nothing }; }
 
-static void *asked(void *p)
+/* Counts what came. */
+static void *counted(void *p)
 {
 	live += p != NULL;
 	return p;
@@ -41,7 +47,7 @@ int __wrap_pthread_atfork(void (*before)(void), void (*parent)(void), void (*chi
 
 struct tried rattle_alloc(size_t size, size_t align)
 {
-	return told(asked(made++ == refused ? NULL : malloc(size ? size : align)));
+	return told(counted(made++ == refused ? NULL : malloc(size ? size : align)));
 }
 
 struct tried rattle_realloc(void *p, size_t kept, size_t size, size_t align)
@@ -58,10 +64,10 @@ void ww_heap_opened(void) { }
 
 void *__wrap_aligned_alloc(size_t align, size_t size)
 {
-	return asked(made++ == refused ? NULL : __real_aligned_alloc(align, size));
+	return counted(made++ == refused ? NULL : __real_aligned_alloc(align, size));
 }
 
-void *__wrap_calloc(size_t count, size_t size) { return asked(made++ == refused ? NULL : __real_calloc(count, size)); }
+void *__wrap_calloc(size_t count, size_t size) { return counted(made++ == refused ? NULL : __real_calloc(count, size)); }
 
 int __wrap_pthread_key_create(pthread_key_t *key, void (*end)(void *))
 {

@@ -377,7 +377,7 @@ static void of_another_clock(void)
 }
 static void for_a_context(void) { waits_for_what_was_left(true); }
 
-/* Each of two threads waits for a context, and has one: no cycle of mutexes, so only its time shows it. */
+/* Each of two threads waits for a context, and has one: no cycle of mutexes, so only its time shows it, eleven seconds by this clock. */
 static void no_context_left(void)
 {
 	__atomic_store_n(&ahead, -11, __ATOMIC_RELAXED);

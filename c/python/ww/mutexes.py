@@ -256,8 +256,9 @@ class Context:
         self._class, self._library, self._timeout = of, of._library, timeout
         self._thread = self._of_task = None
         self._begun = None  # If another thread begins it, the event that it has.
-        # The mutexes that the library may still read, and those that the context holds. An interrupt may come between
-        # two lines: so a mutex is in the first set before it can be held, and leaves the second before it is released.
+        # The mutexes, each by its `_its_end`, that the library may still read, and those that the context holds. An
+        # interrupt may come between two lines: so a mutex is in the first set before it can be held, and leaves the
+        # second before it is released.
         self._near, self._held = set(), set()
         self._read = set()  # Those of them that it reads, also where it holds them besides.
 
@@ -385,6 +386,7 @@ class Context:
         try:
             for mutex in mutexes:
                 if mutex not in self:
+                    # Before it can be held, wherever an interrupt comes: what isn't in here has no read to end.
                     self._read.add(mutex._its_end)
                     told(self._asks(mutex, lambda: self._answer(mutex, until, mutex._call("lock_shared_until"))))
                     acquired.append(mutex)
