@@ -22,7 +22,7 @@ AS_C = -std=c11 -Wall -Wextra -Wpedantic $(CPPFLAGS) $(CFLAGS)
 PREFIX = /usr/local
 MANDIR = $(PREFIX)/share/man
 DOCDIR = $(PREFIX)/share/doc/ww
-PAGES = README.md docs/FORMATS.md docs/RULES.md docs/GLOSSARY.md docs/DESIGN.md c/REFERENCE.md
+PAGES = README.md program/FORMATS.md docs/RULES.md docs/GLOSSARY.md docs/DESIGN.md c/REFERENCE.md
 TOOLS = explain trace picture json
 TOOLSDIR = $(PREFIX)/share/ww/tools
 MAKES_C = $(MAKE) --no-print-directory -C c CROSS='$(CROSS)' RUN='$(RUN)' PREFIX='$(abspath $(PREFIX))'
