@@ -68,6 +68,22 @@ static void set_id(struct ww_pool *p, uint64_t id)
 	p->tasks.id = ~id;
 }
 
+/*
+ * The lock of the queue is held for a few instructions at a time, by whoever comes or goes while others wait: who meets it tries
+ * again before it sleeps, where the C library has such a lock.
+ */
+#ifdef PTHREAD_ADAPTIVE_MUTEX_INITIALIZER_NP
+#define MET_OFTEN PTHREAD_ADAPTIVE_MUTEX_INITIALIZER_NP
+#else
+#define MET_OFTEN PTHREAD_MUTEX_INITIALIZER
+#endif
+
+static void make_locks(struct ww_pool *p)
+{
+	p->numbers = p->spare = p->crowd.lock = (pthread_mutex_t)PTHREAD_MUTEX_INITIALIZER;
+	p->queue = (pthread_mutex_t)MET_OFTEN;
+}
+
 static void before_fork(void) { pthread_mutex_lock(&ww_opening); }
 static void in_parent(void) { pthread_mutex_unlock(&ww_opening); }
 
@@ -83,7 +99,7 @@ static void in_child(void)
 		set_id(p, of_this_copy(++last_id)); /* so no thread has a seat of it at hand */
 	}
 	for (struct ww_pool *p = freed; p; p = p->next) {
-		p->queue = p->numbers = p->spare = p->crowd.lock = (pthread_mutex_t)PTHREAD_MUTEX_INITIALIZER;
+		make_locks(p);
 		p->crowd.waiting = 0;
 	}
 	pthread_mutex_unlock(&ww_opening);
@@ -154,7 +170,7 @@ static struct ww_pool *memory_of_pool(void)
 	if (!p)
 		return NULL;
 	memset(p, 0, sizeof *p);
-	p->queue = p->numbers = p->spare = p->crowd.lock = (pthread_mutex_t)PTHREAD_MUTEX_INITIALIZER;
+	make_locks(p);
 	p->threads.end = &p->threads.first;
 	p->tasks.end = &p->tasks.first;
 	p->threads.pool = p->tasks.pool = p;

@@ -221,6 +221,9 @@ bool ww_is_served(struct ww_seek *me, const struct ww_waker *otherwise)
 	struct ww_waker waker = { 0 };
 	bool served;
 
+	/* Then it isn't in the queue any more, and nobody writes it. */
+	if (__atomic_load_n(&me->served_, __ATOMIC_ACQUIRE) == SERVED)
+		return true;
 	pthread_mutex_lock(&p->queue);
 	me->waker_ = (struct ww_waker){ 0 };
 	if (me->served_ == CALLED)

@@ -2,17 +2,21 @@
 //! mutex for all, under tokio's executor; and threads that block.
 //!
 //!     time SECONDS ROUNDS THREADS     thousands of transactions a second: medians, and attempts a commit
+//!     timers SECONDS ROUNDS THREADS   the same without one mutex for all, where tasks hold their locks across a timer, of
+//!                                     4,096 objects too
 //!     attempts SECONDS THREADS        attempts a commit, by how many contexts the class has
 //!     alone ENGINE LOCKS TIMES        one task alone, for who counts instructions: own, sorted, one, thread, none
 use std::cell::UnsafeCell;
 use std::future::Future;
 use std::pin::pin;
-use std::sync::atomic::{AtomicBool, AtomicU64, Ordering::Relaxed};
+use std::sync::atomic::{AtomicU64, Ordering::Relaxed};
 use std::sync::Arc;
 use std::task::{Context, Poll, Waker};
 use std::thread;
 use std::time::{Duration, Instant};
 use ww_mutex::{class, transaction, Class, Mutex};
+
+mod wheel;
 
 class! {
     struct Wound: WoundWait;
@@ -32,6 +36,7 @@ class! {
     struct Die4094: WaitDie, contexts = 4094;
 }
 
+/// If no other number is named.
 const OBJECTS: usize = 64;
 
 static ATTEMPTS: AtomicU64 = AtomicU64::new(0);
@@ -50,30 +55,30 @@ struct Objects<C: Class> {
 // SAFETY: `bare` is reached under `one` alone.
 unsafe impl<C: Class> Sync for Objects<C> {}
 
-fn each<T>(make: impl Fn() -> T) -> Vec<Line<T>> {
-    (0..OBJECTS).map(|_| Line(make())).collect()
+fn each<T>(many: usize, make: impl Fn() -> T) -> Vec<Line<T>> {
+    (0..many).map(|_| Line(make())).collect()
 }
 
 impl<C: Class> Objects<C> {
-    fn new() -> Self {
+    fn new(many: usize) -> Self {
         Objects {
-            own: each(|| Mutex::try_new(0).unwrap()),
-            tokio: each(|| tokio::sync::Mutex::new(0)),
+            own: each(many, || Mutex::try_new(0).unwrap()),
+            tokio: each(many, || tokio::sync::Mutex::new(0)),
             one: Line(tokio::sync::Mutex::new(())),
-            bare: each(|| UnsafeCell::new(0)),
+            bare: each(many, || UnsafeCell::new(0)),
         }
     }
 }
 
 /// Different ones.
-fn draw<const N: usize>(x: &mut u64) -> [usize; N] {
+fn draw<const N: usize>(x: &mut u64, of: usize) -> [usize; N] {
     let mut list = [usize::MAX; N];
     let mut count = 0;
     while count < N {
         *x = x
             .wrapping_mul(6_364_136_223_846_793_005)
             .wrapping_add(1_442_695_040_888_963_407);
-        let it = usize::try_from(*x >> 33).unwrap() % OBJECTS;
+        let it = usize::try_from(*x >> 33).unwrap() % of;
         if !list[..count].contains(&it) {
             list[count] = it;
             count += 1;
@@ -103,6 +108,7 @@ enum Under {
     Work,
     /// Others run.
     Await,
+    Timer(Duration),
 }
 
 impl Under {
@@ -115,6 +121,7 @@ impl Under {
                 }
             }
             Under::Await => yield_now().await,
+            Under::Timer(time) => wheel::sleep(time).await,
         }
     }
 }
@@ -181,39 +188,43 @@ enum Engine {
     One,
 }
 
-/// Thousands of transactions a second, by so many tasks.
-fn run<C: Class, const N: usize>(
-    engine: Engine,
+/// What is timed, but for who locks how many.
+#[derive(Clone, Copy)]
+struct Load {
+    objects: usize,
     tasks: usize,
+    under: Under,
     threads: usize,
     time: Duration,
-    under: Under,
-) -> f64 {
+}
+
+/// Thousands of transactions a second.
+fn run<C: Class, const N: usize>(engine: Engine, load: Load) -> f64 {
     let runtime = tokio::runtime::Builder::new_multi_thread()
-        .worker_threads(threads)
+        .worker_threads(load.threads)
         .build()
         .unwrap();
-    let (stop, done) = (
-        Arc::new(AtomicBool::new(false)),
-        Arc::new(AtomicU64::new(0)),
-    );
-    let objects = Arc::new(Objects::<C>::new());
+    let done = Arc::new(AtomicU64::new(0));
+    let objects = Arc::new(Objects::<C>::new(load.objects));
     let begun = Instant::now();
-    let all: Vec<_> = (0..tasks)
+    let all: Vec<_> = (0..load.tasks)
         .map(|me| {
-            let (objects, stop, done) = (objects.clone(), stop.clone(), done.clone());
+            let (objects, done) = (objects.clone(), done.clone());
             runtime.spawn(async move {
                 let (mut x, mut made) = (99 * me as u64 + 7, 0);
-                while !stop.load(Relaxed) {
-                    let list = draw::<N>(&mut x);
+                loop {
+                    let list = draw::<N>(&mut x, load.objects);
                     match engine {
                         Engine::Own => {
-                            let attempts = own(&objects, &list, under).await;
+                            let attempts = own(&objects, &list, load.under).await;
                             ATTEMPTS.fetch_add(u64::from(attempts), Relaxed);
                             COMMITS.fetch_add(1, Relaxed);
                         }
-                        Engine::Sorted => sorted(&objects, &list, under).await,
-                        Engine::One => one(&objects, &list, under).await,
+                        Engine::Sorted => sorted(&objects, &list, load.under).await,
+                        Engine::One => one(&objects, &list, load.under).await,
+                    }
+                    if wheel::STOPS.load(Relaxed) {
+                        break;
                     }
                     made += 1;
                     if made % 8 == 0 {
@@ -224,14 +235,16 @@ fn run<C: Class, const N: usize>(
             })
         })
         .collect();
-    thread::sleep(time);
-    stop.store(true, Relaxed);
+    thread::sleep(load.time);
+    wheel::STOPS.store(true, Relaxed);
+    let took = begun.elapsed();
     runtime.block_on(async {
         for it in all {
             it.await.unwrap();
         }
     });
-    done.load(Relaxed) as f64 / begun.elapsed().as_secs_f64() / 1e3
+    wheel::STOPS.store(false, Relaxed);
+    done.load(Relaxed) as f64 / took.as_secs_f64() / 1e3
 }
 
 /// Of those since this was asked last.
@@ -244,14 +257,7 @@ fn median(list: &mut [f64]) -> f64 {
     list[list.len() / 2]
 }
 
-fn row<C: Class, const N: usize>(
-    kind: &str,
-    tasks: usize,
-    threads: usize,
-    time: Duration,
-    rounds: usize,
-    under: Under,
-) {
+fn row<C: Class, const N: usize>(kind: &str, rounds: usize, load: Load) {
     let mut seen = [const { Vec::new() }; 3];
     attempts_a_commit();
     for _ in 0..rounds {
@@ -259,17 +265,19 @@ fn row<C: Class, const N: usize>(
             .iter_mut()
             .zip([Engine::Own, Engine::Sorted, Engine::One])
         {
-            of.push(run::<C, N>(engine, tasks, threads, time, under));
+            of.push(run::<C, N>(engine, load));
         }
     }
     let [own, sorted, one] = seen.each_mut().map(|list| median(list));
-    let under = match under {
+    let under = match load.under {
         Under::Nothing => "nothing",
         Under::Work => "work",
         Under::Await => "an await",
+        Under::Timer(_) => "a timer",
     };
     println!(
-        "| {kind} | {N} of {OBJECTS} | {tasks} | {under} | {own:.0} | {sorted:.0} | {one:.0} | {:.2} | {:.2} |",
+        "| {kind} | {N} of {OBJECTS} | {} | {under} | {own:.0} | {sorted:.0} | {one:.0} | {:.2} | {:.2} |",
+        load.tasks,
         own / sorted,
         attempts_a_commit()
     );
@@ -280,10 +288,53 @@ fn time(time: Duration, rounds: usize, threads: usize) {
     println!("|---|---|---|---|---|---|---|---|---|");
     for under in [Under::Nothing, Under::Work, Under::Await] {
         for tasks in [64, 4096] {
-            row::<Wound, 2>("Wound-Wait", tasks, threads, time, rounds, under);
-            row::<Die, 2>("Wait-Die", tasks, threads, time, rounds, under);
-            row::<Wound, 8>("Wound-Wait", tasks, threads, time, rounds, under);
-            row::<Die, 8>("Wait-Die", tasks, threads, time, rounds, under);
+            let load = Load {
+                objects: OBJECTS,
+                tasks,
+                under,
+                threads,
+                time,
+            };
+            row::<Wound, 2>("Wound-Wait", rounds, load);
+            row::<Die, 2>("Wait-Die", rounds, load);
+            row::<Wound, 8>("Wound-Wait", rounds, load);
+            row::<Die, 8>("Wait-Die", rounds, load);
+        }
+    }
+}
+
+fn timers(time: Duration, rounds: usize, threads: usize) {
+    fn row<const N: usize>(timer: Duration, rounds: usize, load: Load) {
+        let mut seen = [const { Vec::new() }; 3];
+        for _ in 0..rounds {
+            seen[0].push(run::<Wound, N>(Engine::Own, load));
+            seen[1].push(run::<Die, N>(Engine::Own, load));
+            seen[2].push(run::<Wound, N>(Engine::Sorted, load));
+        }
+        let [wound, die, sorted] = seen.each_mut().map(|list| median(list));
+        println!(
+            "| {N} of {} | {timer:?} | {} | {wound:.1} | {die:.1} | {sorted:.1} | {:.2} | {:.2} |",
+            load.objects,
+            load.tasks,
+            wound / sorted,
+            die / sorted
+        );
+    }
+    println!("| locks | timer | tasks | Wound-Wait | Wait-Die | tokio, sorted | to sorted | |");
+    println!("|---|---|---|---|---|---|---|---|");
+    wheel::turn();
+    for timer in [100, 1000, 10_000].map(Duration::from_micros) {
+        for tasks in [64, 1024, 10_000] {
+            let load = |objects| Load {
+                objects,
+                tasks,
+                under: Under::Timer(timer),
+                threads,
+                time: time.max(100 * timer),
+            };
+            row::<2>(timer, rounds, load(OBJECTS));
+            row::<8>(timer, rounds, load(OBJECTS));
+            row::<2>(timer, rounds, load(4096));
         }
     }
 }
@@ -293,9 +344,16 @@ fn attempts(time: Duration, threads: usize) {
         print!("| {name} |");
         for under in [Under::Nothing, Under::Await] {
             for tasks in [64, 4096] {
-                run::<C, 2>(Engine::Own, tasks, threads, time, under);
+                let load = Load {
+                    objects: OBJECTS,
+                    tasks,
+                    under,
+                    threads,
+                    time,
+                };
+                run::<C, 2>(Engine::Own, load);
                 print!(" {:.2} |", attempts_a_commit());
-                run::<C, 8>(Engine::Own, tasks, threads, time, under);
+                run::<C, 8>(Engine::Own, load);
                 print!(" {:.2} |", attempts_a_commit());
             }
         }
@@ -329,10 +387,10 @@ fn at_once<R>(future: impl Future<Output = R>) -> R {
 }
 
 fn alone<const N: usize>(engine: &str, times: u64) {
-    let objects = Objects::<Wound>::new();
+    let objects = Objects::<Wound>::new(OBJECTS);
     let mut x = 7;
     for _ in 0..times {
-        let list = draw::<N>(&mut x);
+        let list = draw::<N>(&mut x, OBJECTS);
         match engine {
             "own" => drop(at_once(own(&objects, &list, Under::Nothing))),
             "sorted" => at_once(sorted(&objects, &list, Under::Nothing)),
@@ -352,12 +410,17 @@ fn main() {
             rounds.parse().unwrap(),
             threads.parse().unwrap(),
         ),
+        ["timers", s, rounds, threads] => timers(
+            seconds(s),
+            rounds.parse().unwrap(),
+            threads.parse().unwrap(),
+        ),
         ["attempts", s, threads] => attempts(seconds(s), threads.parse().unwrap()),
         ["alone", engine, "1", times] => alone::<1>(engine, times.parse().unwrap()),
         ["alone", engine, "2", times] => alone::<2>(engine, times.parse().unwrap()),
         ["alone", engine, "8", times] => alone::<8>(engine, times.parse().unwrap()),
         _ => panic!(
-            "time SECONDS ROUNDS THREADS | attempts SECONDS THREADS | alone ENGINE LOCKS TIMES"
+            "time|timers SECONDS ROUNDS THREADS | attempts SECONDS THREADS | alone ENGINE LOCKS TIMES"
         ),
     }
 }
