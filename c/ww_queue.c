@@ -48,8 +48,8 @@ static struct ww_waker call_first(struct ww_seats *of, ww_seat *s)
 }
 
 /*
- * Takes the waiter at this place out; if it was called, the next one is. The queue is locked; a thread that waits looks
- * without that.
+ * Takes the waiter at this place out; if it was called, the next one is. The queue is locked; whoever waits looks
+ * without that whether it is served.
  */
 static struct ww_waker take_out(struct ww_seats *of, struct ww_seek **at, uint32_t now)
 {
