@@ -33,7 +33,10 @@ static struct ww_waker waker_of(struct ww_seek *it)
 	return waker;
 }
 
-/* The first in the queue, if there is one, looks for a seat, at this one first. The queue is locked. */
+/*
+ * The first in the queue, if there is one, looks for a seat, at this one first. The queue is locked; relaxed, since
+ * without that it asks only whether it is served.
+ */
 static struct ww_waker call_first(struct ww_seats *of, ww_seat *s)
 {
 	struct ww_seek *it = of->first;
@@ -43,7 +46,7 @@ static struct ww_waker call_first(struct ww_seats *of, ww_seat *s)
 		return (struct ww_waker){ 0 };
 	of->looks = 0;
 	it->seat_ = s ? s : of->seats;
-	it->served_ = CALLED;
+	__atomic_store_n(&it->served_, CALLED, __ATOMIC_RELAXED);
 	return waker_of(it);
 }
 

@@ -391,7 +391,7 @@ TABLE = {
     # Changed under the lock of numbers; whoever frees a class at 0 sees all that those wrote who had one.
     "taken": {"ww_take_number": "fetch_add rlx", "ww_give_number": "fetch_sub rel", "taken_numbers": "load acq", "make_desk": "fetch_sub rel"},
     # The seat that is handed over, and all that goes with it.
-    "served_": {"take_out": "store rel", "ww_seek_seat": "load acq", "ww_is_served": "load acq"},
+    "served_": {"call_first": "store rlx", "take_out": "store rel", "ww_seek_seat": "load acq", "ww_is_served": "load acq"},
     # Counts, which order nothing; and glances of the debug library. What a waiter in its list did before is ordered by its lock.
     "sought": {"open_seats_of": "store rlx, store rlx", "ww_class_stats": "load rlx, load rlx"},
     "waits": {"ww_class_stats": "load rlx"},
