@@ -1,7 +1,7 @@
 /*
  * The proved program on aarch64, as the kit's compiler (LLVM) makes it.  Written by ./build --assembly.
  *
- * sources: f72abfd51b9edf6f35ce6c6d7bb1aabda7079efd631f45de925ef230677d9ac0
+ * sources: 30ad4d5b5045c57289cb7e09bad3ef78cda49d38a72d2aaa08b52d133766c40c
  * kit:     rattle-kit-13f logic dac8208d650f15bf
  * proof:   logic=proved functions=69 axioms=6 target=aarch64-unknown-linux-gnu threads=_exit,abort,free,malloc,pthread_attr_destroy,pthread_attr_init,pthread_attr_setguardsize,pthread_attr_setstacksize,pthread_create,pthread_detach,pthread_join,pthread_self,sched_yield,syscall main=Threads+Wait may-wait=7 sum=dac8208d650f15bf
  */

@@ -12,7 +12,6 @@ use ww_lock::{CloseFault, OpenFault, Pass, Receipt, World};
 use ww_plain::{By, GraphFault, Reply, Txn};
 use ww_queue::Kind;
 use ww_test_parts::{add, chain, one_pass};
-use ww_transfer::TransferFault;
 use ww_txn::{ChangeFault, TxnFault, change};
 use ww_users::UserFault;
 
@@ -65,7 +64,6 @@ fn each_fault_has_its_text(rt: HostRuntime) -> Result<(), Fail> {
     assert!(rt; reads(alloc, &UserFault::PassSpent, spent)?);
     assert!(rt; reads(alloc, &TxnFault::PassSpent, spent)?);
     assert!(rt; reads(alloc, &ChangeFault::PassSpent, spent)?);
-    assert!(rt; reads(alloc, &TransferFault::Spent, spent)?);
     let doubled = "the list names node 7 twice";
     assert!(rt; reads(alloc, &UserFault::Already(7), doubled)?);
     assert!(rt; reads(alloc, &TxnFault::Already(7), doubled)?);
@@ -75,7 +73,6 @@ fn each_fault_has_its_text(rt: HostRuntime) -> Result<(), Fail> {
     assert!(rt; reads(alloc, &TxnFault::Interrupted(3), called_off)?);
     assert!(rt; reads(alloc, &TxnFault::NoMemory, "no memory")?);
     assert!(rt; reads(alloc, &ChangeFault::NoMemory, "no memory")?);
-    assert!(rt; reads(alloc, &TransferFault::NoMemory, "no memory")?);
     assert!(rt;
         reads(
             alloc,

@@ -1,6 +1,6 @@
 use Rattle.std.proofs.Common.{get_or, sym, subst, arith}
 use Rattle.ww_lock.specs.Holding.{Holding}
-use Rattle.ww_scope.proofs.work_all.Goals as goal
+use Rattle.ww_txn.proofs.crew.work_all.Goals as goal
 
 pub returns : goal.returns
 returns g c = record {

@@ -1,7 +1,7 @@
 use Rattle.std.proofs.Common.{◌∙◌}
-use Rattle.ww_scope.specs.Crew.{opening}
-use Rattle.ww_scope.proofs.Crews.{worked_of, can_work, came_back, all_there, history_meets}
-use Rattle.ww_scope.proofs.run_crew.Goals as goal
+use Rattle.ww_txn.specs.Crew.{opening}
+use Rattle.ww_txn.proofs.Crews.{worked_of, can_work, came_back, all_there, history_meets}
+use Rattle.ww_txn.proofs.crew.run_crew.Goals as goal
 
 pub work_all-requires-after_bounds : goal.work_all-requires-after_bounds
 work_all-requires-after_bounds g c = λ κs within.

@@ -15,7 +15,7 @@ use Rattle.ww_lock.specs.declared.close.History.{History}
 use Rattle.ww_lock.specs.Holding.{Holding, Setting, IsAtHome, AreAtHome}
 use Rattle.ww_lock.specs.Opened.{fresh, IsOpened}
 use Rattle.ww_lock.specs.Closed.{has_pass, missing_of, AreParts, IsClosed}
-use Rattle.ww_scope.specs.Crew.{Opening, IsBeginning, AllMeet, OwnMeet, CanWork, ComesBack, LeavesOwn, IsWorked, AreWorked, CanWorkEach, AreGiven, IsParted}
+use Rattle.ww_txn.specs.Crew.{Opening, IsBeginning, AllMeet, OwnMeet, CanWork, ComesBack, LeavesOwn, IsWorked, AreWorked, CanWorkEach, AreGiven, IsParted}
 
 one_later : (k i : ℕ) → k + suc i ≡ suc k + i
 one_later k i = omega arith

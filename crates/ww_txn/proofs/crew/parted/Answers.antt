@@ -1,8 +1,8 @@
 use Rattle.std.proofs.Common.{◌++◌, ◌∷◌, [], ap, sym, ◌∙◌, append_assoc}
 use Rattle.std.specs.Vec.Iter.{into_iter_items}
 use Rattle.ww_lock.specs.Holding.{Holding}
-use Rattle.ww_scope.proofs.Crews.{parted_more}
-use Rattle.ww_scope.proofs.parted.Goals as goal
+use Rattle.ww_txn.proofs.Crews.{parted_more}
+use Rattle.ww_txn.proofs.crew.parted.Goals as goal
 
 pub loop-pass-preserved : goal.loop-pass-preserved
 loop-pass-preserved g c =

@@ -2,7 +2,7 @@ use Rattle.std.proofs.Common.{◌≡◌, ◌≢◌, [], ◌∷◌, false, refl, 
 use Rattle.std.proofs.lemmas.Grind.{common_steps}
 use Rattle.ww_plain.specs.Numbers.{is_among}
 use Rattle.ww_plain.proofs.Members.{different_cons, different_none}
-use Rattle.ww_transfer.proofs.transfer.Goals as goal
+use Rattle.ww_bank.proofs.transfer.transfer.Goals as goal
 
 not_alone : (n m : ℕ) → n ≢ m → is_among n (m ∷ []) ≡ false
 not_alone n m other = grind (arith, common_steps)

@@ -1,13 +1,12 @@
 //! A crew is the threads that share a world, each with a pass of its own. One call opens the world, lets them work, and
 //! closes it.
-#![tactic(auto)]
 
 ghost use Rattle.std.specs.Prelude.{◌≡◌, Bool, IfOk};
 ghost use Rattle.ww_lock.specs.Holding.{AreAtHome};
 ghost use Rattle.ww_lock.specs.Opened.{IsWorldSize};
 ghost use Rattle.ww_lock.specs.Closed.{missing_of, IsClosed};
 ghost use Rattle.ww_plain.specs.History.{Recorded, history_of};
-ghost use Rattle.ww_scope.specs.Crew.{opening, LeadsFrom, AllMeet, CanWork, ComesBack, LeavesOwn, HasWorked, CanWorkEach, AreGiven, IsParted};
+ghost use Rattle.ww_txn.specs.Crew.{opening, LeadsFrom, AllMeet, CanWork, ComesBack, LeavesOwn, HasWorked, CanWorkEach, AreGiven, IsParted};
 
 use std::alloc::{AllocError, Global};
 use std::thread;

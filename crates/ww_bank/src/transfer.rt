@@ -1,12 +1,11 @@
 //! An example of a caller of the locks: it moves an amount from one node to another.
-#![tactic(auto)]
 
 ghost use Rattle.std.specs.Prelude.{◌≡◌, ◌≢◌, ◌<◌, length, IfOk, IfErr};
 ghost use Rattle.ww_plain.specs.Transaction.{move};
 ghost use Rattle.ww_lock.specs.Holding.{IsAtHome};
 ghost use Rattle.ww_lock.specs.Moves.{backed_off, having_slept};
 ghost use Rattle.ww_users.specs.Rounds.{KeepsContext, IsRound};
-ghost use Rattle.ww_transfer.specs.Caller.{IsLockedMore, HasBoth, HasRecord};
+ghost use Rattle.ww_bank.specs.Caller.{IsLockedMore, HasBoth, HasRecord};
 
 use std::sync::Wait;
 use thiserror::Error;
@@ -16,7 +15,7 @@ use ww_users::lock_until;
 
 /// Why nothing was moved, and nothing recorded.
 #[derive(Clone, Copy, Debug, PartialEq, Eq, Drop, Error)]
-pub enum TransferFault {
+pub(crate) enum TransferFault {
     /// The pass has no context left to start.
     #[error("the pass has no context left to start")]
     Spent,
@@ -27,7 +26,7 @@ pub enum TransferFault {
 
 /// Moves an amount from one node to another, in a context that holds both locks. The receipt says whether the amount
 /// was there, and whether there was room for it.
-pub fn transfer<R: Wait>(
+pub(crate) fn transfer<R: Wait>(
     rt: &R,
     world: &World,
     pass: Pass,
