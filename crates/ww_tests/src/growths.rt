@@ -8,6 +8,7 @@ ghost use Rattle.ww_lock.specs.Holding.{IsAtHome, AreAtHome};
 use crate::called_off::cancelled;
 use crate::locks::{begun, full_graph, locked};
 use crate::transactions::{counted, get, values};
+use crate::{KINDS, add, graph_of, is_possible, is_possible_alone};
 use std::alloc::{AllocError, Global};
 use std::process::Abort;
 use std::sync::Wait;
@@ -15,7 +16,6 @@ use std::test::Fail;
 use ww_lock::{CloseFault, Done, History, OpenFault, Pass, Prepared, Receipt, Solo, Waits, World};
 use ww_plain::{By, Graph, Reply, Txn, replays};
 use ww_queue::Kind;
-use ww_test_parts::{KINDS, add, graph_of, is_possible, is_possible_alone};
 use ww_txn::TxnFault;
 
 /// How many transactions each of two passes makes that take turns.
@@ -151,7 +151,7 @@ fn a_context_prepares_an_add(rt: HostRuntime) -> Result<(), Fail> {
     );
     assert!(rt; world.size() == 1);
     let acquiring = begun(&rt, &world, only(&rt, &world, passes));
-    let mut done = locked(&rt, &world, acquiring, 0, 0).done();
+    let mut done = locked(&rt, &world, acquiring, 0).done();
     let prepared = prepared(&rt, &world, &mut done, txn, &same);
     assert!(rt; done.made(&prepared));
     let (committed, told) = done.commit(&world, prepared);

@@ -1,10 +1,8 @@
 //! Threads that take random sets of locks in random orders. What is asked at the end is the same whatever the schedule.
 
-ghost use Rattle.std.specs.Prelude.{◌≡◌, ◌<◌, length, IsTrue, IfOk, IfErr};
+ghost use Rattle.std.specs.Prelude.{◌<◌, length, IfOk, IfErr};
 ghost use Rattle.std.specs.List.{AllByRecursion};
 ghost use Rattle.ww_lock.specs.Holding.{IsAtHome, AreAtHome};
-ghost use Rattle.ww_lock.specs.Making.{Covers};
-ghost use Rattle.ww_plain.specs.Transaction.{transaction_of, Fits, HasNoDouble};
 
 use rand_core::utils::NextWord;
 use rand_pcg::Pcg32;
@@ -15,11 +13,11 @@ use std::test::Fail;
 use std::thread;
 use std::thread::Threads;
 use ww_lock::{
-    Acquiring, Backoff, Done, History, Interruptible, Lock, Pass, Receipt, Solo, Try, Waits, World,
+    Acquiring, Backoff, Done, History, Interruptible, Lock, Pass, Receipt, Try, Waits, World,
 };
-use ww_plain::{By, Graph, PORTS, Record, Txn, first_double, replays};
+use ww_plain::{By, Graph, PORTS, Record, Txn, replays};
 use ww_queue::Kind;
-use ww_test_parts::{commit, commit_alone, graph_of, is_possible};
+use ww_tests::{commit, commit_alone, graph_of, is_possible};
 
 const ROUNDS: u32 = 2_000;
 

@@ -11,7 +11,7 @@ use ww_queue::Kind;
 pub const KINDS: [Kind; 2] = [Kind::WoundWait, Kind::WaitDie];
 
 /// A node of this value, whose port 0 leads to this target.
-pub fn node(value: u64, target: Option<u8>) -> Node {
+fn node(value: u64, target: Option<u8>) -> Node {
     let mut ports = [None; PORTS];
     ports[0] = target;
     Node { value, ports }

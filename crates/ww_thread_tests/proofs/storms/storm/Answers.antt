@@ -2,7 +2,7 @@ use Rattle.std.proofs.Common.{◌<◌, length, sym, subst, arith}
 use Rattle.std.proofs.lemmas.List.Elements.{recursion_from_All}
 use Rattle.ww_plain.proofs.GraphFacts.{all_item}
 use Rattle.ww_lock.specs.Holding.{Holding, IsAtHome}
-use Rattle.ww_storm_tests.proofs.threads.storm.Goals as goal
+use Rattle.ww_thread_tests.proofs.storms.storm.Goals as goal
 
 pub map_vec-requires-after_bounds : goal.map_vec-requires-after_bounds
 map_vec-requires-after_bounds g c = λ κs live i x lt is.
