@@ -5,6 +5,7 @@ ghost use Rattle.ww_plain.specs.Totals.{total_of};
 ghost use Rattle.ww_lock.specs.Holding.{IsAtHome};
 ghost use Rattle.ww_bank.specs.Bank.{OwnMoves};
 
+use crate::transfer::transfer;
 use rand_core::utils::NextWord;
 use rand_pcg::Pcg32;
 use std::alloc::{AllocError, Global};
@@ -13,8 +14,7 @@ use std::thread::Threads;
 use ww_lock::{History, Pass, World};
 use ww_plain::{Graph, Node, PORTS};
 use ww_queue::Kind;
-use ww_scope::run_crew;
-use ww_transfer::transfer;
+use ww_txn::run_crew;
 
 /// How many threads there are, from 1 to 16, and how many transfers each tries to make, at least one.
 #[derive(Clone, Copy, Debug)]

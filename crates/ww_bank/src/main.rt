@@ -6,6 +6,9 @@
 #![tactic(auto)]
 
 mod bank;
+#[cfg(test)]
+mod growths;
+mod transfer;
 
 use bank::{Trading, accounts, total, trade};
 use std::process::ExitCode;

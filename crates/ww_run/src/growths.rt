@@ -1,4 +1,4 @@
-//! Scripts that are run where a growth is refused, and once more then. `bench/refuse_library_growths` refuses each
+//! Scripts that are run where a growth is refused, and once more then. `checks/refuse_library_growths` refuses each
 //! growth in turn.
 
 use crate::workers::{RunFault, run_scripts};

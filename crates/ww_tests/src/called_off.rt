@@ -7,15 +7,14 @@ ghost use Rattle.ww_users.specs.Rounds.{IsHaltingRound};
 
 use crate::locks::{begun, closed, locked};
 use crate::transactions::counted;
-use crate::users::{covered, refused};
-use std::alloc::{AllocError, Global};
+use crate::{KINDS, add, chain, ended, is_possible, three_passes};
+use std::alloc::Global;
 use std::process::Abort;
 use std::sync::Wait;
 use std::test::Fail;
-use ww_lock::{Acquiring, Backoff, Contended, Interruptible, Pass, Waits, World};
+use ww_lock::{Acquiring, Backoff, Contended, Done, Interruptible, Pass, Waits, World};
 use ww_plain::{By, Reply, Txn};
 use ww_queue::Kind;
-use ww_test_parts::{KINDS, add, chain, ended, three_passes};
 use ww_txn::TxnFault;
 use ww_users::{
     UserFault, lock_list_interruptible, lock_order_interruptible, lock_until_interruptible,
@@ -99,7 +98,7 @@ fn sent_back<R: Wait + Abort>(rt: &R, world: &World, acquiring: Acquiring, n: u8
 fn in_a_row<R: Wait + Abort>(rt: &R, alloc: Global, kind: Kind) -> Result<(), Fail> {
     let (world, zero, one, two) = three_passes(alloc, kind, 1)?;
     assert!(rt; world.size() == 3 && world.passes() == 3);
-    let zero = locked(rt, &world, begun(rt, &world, zero), 0, 0);
+    let zero = locked(rt, &world, begun(rt, &world, zero), 0);
     let two = cancelled(rt, &world, two, 1, false);
     let two = cancelled(rt, &world, two, 1, true);
     let one = called_off(rt, &world, begun(rt, &world, one), 0, 2);
@@ -150,7 +149,7 @@ fn called_off_again<R: Wait + Abort>(
 fn a_slow_call_is_called_off(rt: HostRuntime) -> Result<(), Fail> {
     let (world, zero, one, two) = three_passes(rt.alloc(), Kind::WaitDie, 1)?;
     assert!(rt; world.size() == 3);
-    let zero = locked(&rt, &world, begun(&rt, &world, zero), 0, 0);
+    let zero = locked(&rt, &world, begun(&rt, &world, zero), 0);
     let one = taken(&rt, &world, begun(&rt, &world, one), 1, 0);
     let one = sent_back(&rt, &world, one, 0).unlock_all(&rt, &world);
     cancelled(&rt, &world, two, 1, false);
@@ -163,6 +162,28 @@ fn a_slow_call_is_called_off(rt: HostRuntime) -> Result<(), Fail> {
     assert!(rt; one.held(0) && !one.held(1));
     ended(&rt, &world, one);
     Ok(())
+}
+
+/// Releases all, where the transaction can be made with what is held.
+fn covered<R: Wait + Abort>(rt: &R, world: &World, done: Done, txn: &Txn) -> Pass
+    requires home { IsAtHome done world.now }
+    ensures home { IsAtHome result world.now }
+{
+    assert!(rt; is_possible(world, &done, txn));
+    done.unlock_all(rt, world).fini(world)
+}
+
+/// The pass that came back with this fault.
+fn refused<R: Abort>(rt: &R, answer: Result<Done, (Pass, UserFault)>, fault: UserFault) -> Pass
+    ensures { answer ≡ Err (result, fault) }
+{
+    match answer {
+        Ok(_done) => panic!(rt; "it was locked"),
+        Err((pass, told)) => {
+            assert!(rt; told == fault);
+            pass
+        }
+    }
 }
 
 /// Each way while another holds node 1, and somebody has called it off before: it holds nothing then.
@@ -220,7 +241,7 @@ fn ways_taken<R: Wait + Abort>(rt: &R, world: &World, pass: Pass) -> Pass
 fn in_turn<R: Wait + Abort>(rt: &R, alloc: Global, kind: Kind) -> Result<(), Fail> {
     let (world, zero, one, two) = three_passes(alloc, kind, 6)?;
     assert!(rt; world.size() == 3);
-    let zero = locked(rt, &world, begun(rt, &world, zero), 1, 0);
+    let zero = locked(rt, &world, begun(rt, &world, zero), 1);
     let (one, _two) = ways_called_off(rt, &world, one, two);
     assert!(rt; one.left() == 3);
     let zero = ended(rt, &world, zero);
@@ -270,7 +291,7 @@ fn both<R: Wait>(
 fn body_in_turn<R: Wait + Abort>(rt: &R, alloc: Global, kind: Kind) -> Result<(), Fail> {
     let (world, zero, one, two) = three_passes(alloc, kind, 2)?;
     assert!(rt; world.size() == 3);
-    let zero = locked(rt, &world, begun(rt, &world, zero), 1, 0);
+    let zero = locked(rt, &world, begun(rt, &world, zero), 1);
     let two = cancelled(rt, &world, two, 1, false);
     let one = match both(rt, &world, begun(rt, &world, one), 0, 1) {
         Ok(_acquiring) => panic!(rt; "the lock was free"),
@@ -317,7 +338,7 @@ fn transacted<R: Wait + Abort>(rt: &R, alloc: Global, kind: Kind) -> Result<(), 
     assert!(rt; world.size() == 3 && TxnFault::Interrupted(2).number() == 20);
     let double_first = add(alloc, By::List, &[(0, 1), (0, 1), (1, 1)])?;
     let double_last = add(alloc, By::List, &[(0, 1), (1, 1), (0, 1)])?;
-    let zero = locked(rt, &world, begun(rt, &world, zero), 1, 0);
+    let zero = locked(rt, &world, begun(rt, &world, zero), 1);
     let two = cancelled(rt, &world, two, 1, false);
     let one = faulted(rt, &world, one, double_first, TxnFault::Already(0));
     let two = cancelled(rt, &world, two, 1, true);

@@ -1,18 +1,17 @@
-//! Transactions that are decided on under their locks, by one pass, and the texts of what refuses a caller.
+//! A transaction that is decided on under its locks, and the texts of what refuses a caller.
 
-ghost use Rattle.std.specs.Prelude.{◌≡◌, ◌<◌, length};
+ghost use Rattle.std.specs.Prelude.{◌<◌, length};
 ghost use Rattle.ww_lock.specs.Holding.{IsAtHome};
 
 use crate::locks::closed;
+use crate::{chain, one_pass};
 use std::alloc::{AllocError, Global};
 use std::error::Error;
 use std::sync::Wait;
 use std::test::Fail;
 use ww_lock::{CloseFault, OpenFault, Pass, Receipt, World};
-use ww_plain::{By, GraphFault, Reply, Txn};
+use ww_plain::{GraphFault, Reply, Txn};
 use ww_queue::Kind;
-use ww_test_parts::{add, chain, one_pass};
-use ww_transfer::TransferFault;
 use ww_txn::{ChangeFault, TxnFault, change};
 use ww_users::UserFault;
 
@@ -38,18 +37,12 @@ fn levelled<R: Wait>(
 #[test]
 fn what_is_decided_is_committed(rt: HostRuntime) -> Result<(), Fail> {
     let alloc = rt.alloc();
-    let (world, pass) = one_pass(alloc, Kind::WoundWait, chain(alloc, [5, 2, 3])?, 2)?;
+    let (world, pass) = one_pass(alloc, Kind::WoundWait, chain(alloc, [5, 2, 3])?, 1)?;
     assert!(rt; world.size() == 3);
     let (pass, told) = levelled(&rt, &world, pass, 0, 1);
-    assert!(rt; told.is_ok_and(|receipt| receipt.seq == 0 && receipt.reply == Reply::Moved));
-    let answer = change(&rt, &world, pass, &[2, 1, 0], |values| {
-        let amount = values[1].wrapping_add(values[2]).wrapping_sub(values[0]);
-        add(alloc, By::List, &[(2, amount)]).ok()
-    });
-    assert!(rt; answer.1.is_ok());
-    let history = closed(&rt, world, vec![in alloc; answer.0]?);
-    assert!(rt; history.records.len() == 2);
-    assert!(rt; history.graph.is_same(&chain(alloc, [2, 5, 7])?));
+    assert!(rt; told.is_ok_and(|receipt| receipt.reply == Reply::Moved));
+    let history = closed(&rt, world, vec![in alloc; pass]?);
+    assert!(rt; history.graph.is_same(&chain(alloc, [2, 5, 3])?));
     Ok(())
 }
 
@@ -65,7 +58,6 @@ fn each_fault_has_its_text(rt: HostRuntime) -> Result<(), Fail> {
     assert!(rt; reads(alloc, &UserFault::PassSpent, spent)?);
     assert!(rt; reads(alloc, &TxnFault::PassSpent, spent)?);
     assert!(rt; reads(alloc, &ChangeFault::PassSpent, spent)?);
-    assert!(rt; reads(alloc, &TransferFault::Spent, spent)?);
     let doubled = "the list names node 7 twice";
     assert!(rt; reads(alloc, &UserFault::Already(7), doubled)?);
     assert!(rt; reads(alloc, &TxnFault::Already(7), doubled)?);
@@ -75,7 +67,6 @@ fn each_fault_has_its_text(rt: HostRuntime) -> Result<(), Fail> {
     assert!(rt; reads(alloc, &TxnFault::Interrupted(3), called_off)?);
     assert!(rt; reads(alloc, &TxnFault::NoMemory, "no memory")?);
     assert!(rt; reads(alloc, &ChangeFault::NoMemory, "no memory")?);
-    assert!(rt; reads(alloc, &TransferFault::NoMemory, "no memory")?);
     assert!(rt;
         reads(
             alloc,

@@ -2,12 +2,13 @@
 //! call, made once more, gives its answer. With all the memory that they want these tests show that the calls succeed;
 //! `checks/refuse_library_growths` refuses each growth of each of them in turn.
 
-ghost use Rattle.std.specs.Prelude.{◌≡◌, IfOk};
+ghost use Rattle.std.specs.Prelude.{IfOk};
 ghost use Rattle.ww_lock.specs.Holding.{IsAtHome, AreAtHome};
 
 use crate::called_off::cancelled;
 use crate::locks::{begun, full_graph, locked};
 use crate::transactions::{counted, get, values};
+use crate::{KINDS, add, graph_of, is_possible, is_possible_alone};
 use std::alloc::{AllocError, Global};
 use std::process::Abort;
 use std::sync::Wait;
@@ -15,9 +16,6 @@ use std::test::Fail;
 use ww_lock::{CloseFault, Done, History, OpenFault, Pass, Prepared, Receipt, Solo, Waits, World};
 use ww_plain::{By, Graph, Reply, Txn, replays};
 use ww_queue::Kind;
-use ww_scope::run_crew;
-use ww_test_parts::{KINDS, add, graph_of, is_possible, is_possible_alone};
-use ww_transfer::{TransferFault, transfer};
 use ww_txn::TxnFault;
 
 /// How many transactions each of two passes makes that take turns.
@@ -153,7 +151,7 @@ fn a_context_prepares_an_add(rt: HostRuntime) -> Result<(), Fail> {
     );
     assert!(rt; world.size() == 1);
     let acquiring = begun(&rt, &world, only(&rt, &world, passes));
-    let mut done = locked(&rt, &world, acquiring, 0, 0).done();
+    let mut done = locked(&rt, &world, acquiring, 0).done();
     let prepared = prepared(&rt, &world, &mut done, txn, &same);
     assert!(rt; done.made(&prepared));
     let (committed, told) = done.commit(&world, prepared);
@@ -401,48 +399,5 @@ fn what_two_made_in_turns_replays(rt: HostRuntime) -> Result<(), Fail> {
         Err(_) => replays(alloc, graph, &history.records)?,
     };
     assert!(rt; last.is_some_and(|last| last.is_same(&history.graph)));
-    Ok(())
-}
-
-/// Moves 1 from node 0 to node 1, and tells whether it was moved. Where a growth is refused, one context is spent, and
-/// it is moved then.
-fn moved<R: Wait>(rt: &R, world: &World, pass: Pass) -> (Pass, bool)
-    requires home { IsAtHome pass world.now }
-    ensures home { IsAtHome result.0 world.now }
-    ensures caller { result.0.caller ≡ pass.caller }
-{
-    if world.size() != 2 {
-        return (pass, false);
-    }
-    let (pass, told) = match transfer(rt, world, pass, 0, 1, 1) {
-        (pass, Err(TransferFault::NoMemory)) => transfer(rt, world, pass, 0, 1, 1),
-        told => told,
-    };
-    (
-        pass,
-        told.is_ok_and(|receipt| receipt.reply == Reply::Moved),
-    )
-}
-
-#[test]
-fn a_crew_works(rt: HostRuntime) -> Result<(), Fail> {
-    let alloc = rt.alloc();
-    let graph = nodes_of(alloc, &[(5, None), (0, None)])?;
-    let copy = copied(alloc, &graph)?;
-    let work = |world: &World, pass: Pass| -> (Pass, bool)
-        requires { IsAtHome pass world.now }
-        ensures home { IsAtHome result.0 world.now }
-        ensures caller { result.0.caller ≡ pass.caller }
-    { moved(&rt, world, pass) };
-    let (history, told) = match run_crew(&rt, alloc, Kind::WoundWait, graph, 2, 2, &work) {
-        Ok(worked) => worked,
-        Err(AllocError) => run_crew(&rt, alloc, Kind::WoundWait, copy, 2, 2, &work)?,
-    };
-    assert!(rt; matches!(&told[..], [true, true]) && history.records.len() == 2);
-    assert!(rt;
-        history
-            .graph
-            .is_same(&nodes_of(alloc, &[(3, None), (2, None)])?)
-    );
     Ok(())
 }

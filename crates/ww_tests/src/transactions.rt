@@ -1,10 +1,9 @@
-//! Transactions, each in one call: what their contracts leave open, which is that one is made where there is memory, and
-//! when the gate is called. Each kind of them is made in the program's cases.
+//! Transactions, each in one call: what their contracts leave open, which is when the gate is called. Each kind of them is
+//! made in the program's cases.
 
-ghost use Rattle.std.specs.Prelude.{◌≡◌};
 ghost use Rattle.ww_lock.specs.Holding.{IsAtHome};
 
-use crate::locks::closed;
+use crate::{graph_of, tries};
 use std::alloc::{AllocError, Global};
 use std::cell::{Cell, RefCell};
 use std::process::Abort;
@@ -13,8 +12,7 @@ use std::test::Fail;
 use ww_lock::{Pass, Receipt, Waits, World};
 use ww_plain::{By, Reply, Txn};
 use ww_queue::Kind;
-use ww_test_parts::{KINDS, add, graph_of, one_pass, tries};
-use ww_txn::{Gate, Open, TxnFault, transact, transact_interruptible};
+use ww_txn::{Gate, TxnFault, transact, transact_interruptible};
 
 /// Asks for a transaction.
 pub(crate) fn asked<R: Wait + Abort, G: Gate>(
@@ -97,27 +95,6 @@ pub(crate) fn get(alloc: Global, by: By, nodes: &[u8]) -> Result<Txn, AllocError
 
 pub(crate) fn values(alloc: Global, values: &[u64]) -> Result<Reply, AllocError> {
     Ok(Reply::Values(Vec::from_slice(alloc, values)?))
-}
-
-fn spent<R: Wait + Abort>(rt: &R, alloc: Global, kind: Kind) -> Result<(), Fail> {
-    let (world, pass) = one_pass(alloc, kind, graph_of(alloc, &[(0, None)])?, 1)?;
-    let (pass, told) = asked(rt, &world, pass, &Open, add(alloc, By::List, &[(0, 1)])?);
-    let told = told.ok().ok_or("it is made")?;
-    assert!(rt; told.place == 0 && told.seq == 0 && told.reply == Reply::Done);
-    let (pass, told) = asked(rt, &world, pass, &Open, add(alloc, By::List, &[(0, 1)])?);
-    assert!(rt; told.err() == Some(TxnFault::PassSpent) && TxnFault::PassSpent.number() == 4);
-    let history = closed(rt, world, vec![in alloc; pass]?);
-    assert!(rt; history.records.len() == 1);
-    assert!(rt; history.graph.is_same(&graph_of(alloc, &[(1, None)])?));
-    Ok(())
-}
-
-#[test]
-fn a_spent_pass_makes_nothing_more(rt: HostRuntime) -> Result<(), Fail> {
-    for kind in KINDS {
-        spent(&rt, rt.alloc(), kind)?;
-    }
-    Ok(())
 }
 
 /// A pass with which somebody else tries for a lock.

@@ -1,4 +1,4 @@
-//! The plain graph: what is no graph, footprints, and histories.
+//! The plain graph: footprints, what fits, and histories.
 
 ghost use Rattle.std.specs.Prelude.{◌≡◌, IfOk};
 
@@ -24,24 +24,6 @@ pub(crate) fn graph_of(alloc: Global, nodes: &[Node]) -> Result<Graph, AllocErro
 
 fn adds(alloc: Global, pairs: &[(u8, u64)]) -> Result<Txn, Fail> {
     Ok(Txn::Add(By::List, Vec::from_slice(alloc, pairs)?))
-}
-
-#[test]
-fn no_nodes_are_no_graph(rt: HostRuntime) -> Result<(), Fail> {
-    let (_, fault) = Graph::new(Vec::new(rt.alloc())).err().ok_or("no nodes")?;
-    assert!(rt; fault.number() == 1);
-    Ok(())
-}
-
-#[test]
-fn nodes_with_a_stray_port_come_back(rt: HostRuntime) -> Result<(), Fail> {
-    let stray = [node(0, Some(1))];
-    let (back, fault) = Graph::new(Vec::from_slice(rt.alloc(), &stray)?)
-        .err()
-        .ok_or("a stray port")?;
-    assert!(rt; fault.number() == 2);
-    assert!(rt; back.as_slice() == stray.as_slice());
-    Ok(())
 }
 
 /// Whether these nodes are the transaction's footprint, along the list of nodes 0, 1 and 2.

@@ -7,6 +7,7 @@ ghost use Rattle.std.specs.Prelude.{◌≡◌, length};
 ghost use Rattle.ww_lock.specs.Holding.{IsAtHome};
 ghost use Rattle.ww_users.specs.Rounds.{IsHaltingRound};
 
+use crate::sides::{Side, Sides, pause};
 use std::alloc::Global;
 use std::process::Abort;
 use std::sync::Wait;
@@ -16,7 +17,7 @@ use std::thread::Threads;
 use ww_lock::{Acquiring, Lock, Pass, Try, World};
 use ww_plain::Txn;
 use ww_queue::Kind;
-use ww_test_parts::{Side, Sides, ended, first_locked, pause, three_passes};
+use ww_tests::{ended, first_locked, three_passes};
 use ww_txn::{Open, TxnFault, transact_interruptible};
 use ww_users::{
     UserFault, lock_list_interruptible, lock_order_interruptible, lock_until_interruptible,

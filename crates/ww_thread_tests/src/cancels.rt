@@ -3,6 +3,7 @@
 
 ghost use Rattle.ww_lock.specs.Holding.{IsAtHome};
 
+use crate::sides::{Side, Sides, pause};
 use std::alloc::Global;
 use std::process::Abort;
 use std::sync::Wait;
@@ -11,7 +12,7 @@ use std::thread;
 use std::thread::Threads;
 use ww_lock::{Interruptible, Pass, World};
 use ww_queue::Kind;
-use ww_test_parts::{Side, Sides, first_locked, pause, three_passes};
+use ww_tests::{first_locked, three_passes};
 
 const ROUNDS: u32 = 10_000;
 

@@ -3,6 +3,7 @@
 ghost use Rattle.std.specs.Prelude.{◌≡◌, length};
 ghost use Rattle.ww_lock.specs.Holding.{IsAtHome};
 
+use crate::sides::{is_reached, rest};
 use std::alloc::Global;
 use std::process::Abort;
 use std::sync::Wait;
@@ -13,7 +14,7 @@ use std::thread::Threads;
 use ww_lock::{Lock, Pass, World};
 use ww_plain::{Reply, Txn};
 use ww_queue::Kind;
-use ww_test_parts::{KINDS, commit, first_locked, graph_of, is_possible, is_reached, rest, tries};
+use ww_tests::{KINDS, commit, first_locked, graph_of, is_possible, tries};
 use ww_users::lock_walk;
 
 /// What the threads wait for, one after another.

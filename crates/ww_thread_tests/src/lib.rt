@@ -1,5 +1,5 @@
-//! Tests of the locks, the three ways of taking many of them, and transactions, by several threads, over what each of
-//! these libraries offers to all. They see what comes of threads.
+//! Tests of the locks, the ways of taking many of them, and transactions, by several threads, a few in step or many at once,
+//! over what each of these libraries offers to all. They see what comes of threads.
 #![tactic(auto)]
 
 #[cfg(test)]
@@ -14,3 +14,7 @@ mod pairs;
 mod races;
 #[cfg(test)]
 mod reordered;
+#[cfg(test)]
+mod sides;
+#[cfg(test)]
+mod storms;

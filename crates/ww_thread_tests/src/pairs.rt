@@ -1,8 +1,9 @@
 //! Two threads in step, at the same two nodes. What each is told, whatever the timing, goes by the stamps and the kind.
 
-ghost use Rattle.std.specs.Prelude.{◌<◌, length, IfOk, IfErr};
+ghost use Rattle.std.specs.Prelude.{◌<◌, length};
 ghost use Rattle.ww_lock.specs.Holding.{IsAtHome};
 
+use crate::sides::{Side, Sides, pause};
 use std::alloc::Global;
 use std::process::Abort;
 use std::sync::Wait;
@@ -11,7 +12,7 @@ use std::thread;
 use std::thread::Threads;
 use ww_lock::{Acquiring, Backoff, Lock, Pass, World};
 use ww_queue::Kind;
-use ww_test_parts::{Side, Sides, first_locked, graph_of, pause};
+use ww_tests::{first_locked, graph_of};
 
 const ROUNDS: u32 = 10_000;
 

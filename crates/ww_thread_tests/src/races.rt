@@ -15,7 +15,7 @@ use std::thread::Threads;
 use ww_lock::{Acquiring, Done, Pass, World};
 use ww_plain::{By, Graph, Txn, replays};
 use ww_queue::Kind;
-use ww_test_parts::{add, chain, commit, graph_of};
+use ww_tests::{add, chain, commit, graph_of};
 use ww_txn::{Open, transact};
 use ww_users::{lock_list, lock_order, lock_until, lock_walk};
 

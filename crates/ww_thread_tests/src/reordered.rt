@@ -4,6 +4,7 @@
 ghost use Rattle.std.specs.Prelude.{◌≡◌, length};
 ghost use Rattle.ww_lock.specs.Holding.{IsAtHome};
 
+use crate::sides::{Side, Sides, pause};
 use std::alloc::Global;
 use std::process::Abort;
 use std::sync::Wait;
@@ -12,7 +13,7 @@ use std::thread;
 use std::thread::Threads;
 use ww_lock::{Acquiring, Pass, Try, World};
 use ww_queue::Kind;
-use ww_test_parts::{Side, Sides, ended, first_locked, pause, three_passes, tries};
+use ww_tests::{ended, first_locked, three_passes, tries};
 use ww_users::lock_order;
 
 /// How many lists may be stopped elsewhere, since they came too late.

@@ -1,2 +1,3 @@
 pub mod Transact
 pub mod Change
+pub mod Crew

@@ -1,5 +1,0 @@
-use Rattle.ww_lock.specs.Holding.{IsAtHome}
-use Rattle.ww_storm_tests.proofs.threads.all_rounds.Given as goal
-
-abbrev pub invariant-loop : goal.invariant-loop
-invariant-loop g l = IsAtHome l.pass l.world

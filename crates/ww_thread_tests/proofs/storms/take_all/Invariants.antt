@@ -1,0 +1,5 @@
+use Rattle.ww_lock.specs.Holding.{IsAtHome}
+use Rattle.ww_thread_tests.proofs.storms.take_all.Given as goal
+
+abbrev pub invariant-loop : goal.invariant-loop
+invariant-loop g l = IsAtHome l.acquiring l.world
