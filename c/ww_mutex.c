@@ -12,7 +12,7 @@
  *	ww_mutex_lock --- the context's pool isn't the mutex's ---> _else_: the mutex gets its number, a misuse is reported,
  *	  |                                                         or the context is in a loop, and has more to do (ww_loop.c)
  *	  +-- its first step --- 0 ---> the mutex is the context's
- *	  |                  \-- other ---> _further_: steps and sleeps until the call can return (lock_on, ww_go_on)
+ *	  |                  \-- other ---> _further_: steps and sleeps until the call can return (ww_lock_on, ww_go_on)
  *	  \-- with NULL ---> _alone_: by the seat at hand, or any, or once there is one
  *
  * So `_else_` is what the quick way doesn't do; `_further_` (and `_on`, inside) is all after the first step; `_alone`
@@ -93,7 +93,7 @@ bool ww_is_released(struct ww_pool *p, struct ww_mutex *m)
  * A thread that sees no waiter sees the holder that a waiter became; one that sees neither comes after an unlock's last
  * access:
  *
- *	one that waited (lock_on)	one that releases it		one that destroys it
+ *	one that waited (ww_lock_on)	one that releases it		one that destroys it
  *	ctx or alone = its own		ctx or alone = NULL		waiters?
  *	waiters--			ww_unlock_, the last access	ctx, alone?
  *									ww_is_free_ (ww_is_released)
