@@ -217,8 +217,12 @@ static void *upgrade(void *arg)
 	if (!r)
 		unlocks(&m, ctx);
 	unlocks(&m, ctx);
-	if (r)
-		MUST(!ww_shared_mutex_await(ctx, NULL) && !writes(&m, ctx) && !ww_shared_mutex_unlock(&m, ctx));
+	while (r) { /* again if the older one, which wrote, still reads */
+		MUST(r == -EDEADLK && !ctx->acquired && !ww_shared_mutex_await(ctx, NULL));
+		r = writes(&m, ctx);
+		if (!r)
+			MUST(!ww_shared_mutex_unlock(&m, ctx));
+	}
 	return NULL;
 }
 
