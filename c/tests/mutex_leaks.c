@@ -4,29 +4,29 @@
  */
 #include "mutex_test.h"
 #include "../ww_poll.h"
+#include "later.h"
 
 static struct ww_class c;
 static struct ww_acquire_ctx x;
 static struct ww_mutex a;
 static bool comes_back;
 
-/* Linked in place of the system's clock, which is ahead of that by so much; behind it, a time that a thread sleeps until has come already. */
-static time_t ahead;
-int __real_clock_gettime(clockid_t clock, struct timespec *at);
-int __wrap_clock_gettime(clockid_t clock, struct timespec *at);
-int __wrap_clock_gettime(clockid_t clock, struct timespec *at)
-{
-	int r = __real_clock_gettime(clock, at);
+/* Nobody looks how long it waits. */
+static bool is_silent;
 
-	at->tv_sec += __atomic_load_n(&ahead, __ATOMIC_RELAXED);
-	return r;
+static void each_waits(void)
+{
+	if (is_silent)
+		usleep(100000);
+	else
+		each_has_looked();
 }
 
 /* As if so many seconds had gone since the waits began; then each of them has looked. */
 static void is_later_by(time_t seconds)
 {
-	__atomic_store_n(&ahead, seconds - 60, __ATOMIC_RELAXED);
-	usleep(600000);
+	__atomic_store_n(&ahead, seconds - 60, __ATOMIC_SEQ_CST);
+	each_waits();
 }
 
 /* ---- what is said ---- */
@@ -75,7 +75,9 @@ static void *begins(void *ctx)
 {
 	struct ww_acquire_ctx mine, *y = ctx ? ctx : &mine;
 
+	comes_to_look();
 	ww_acquire_init(y, &c);
+	has_looked();
 	__atomic_store_n(&comes_back, true, __ATOMIC_RELAXED);
 	pthread_testcancel();
 	if (!ctx)
@@ -90,13 +92,13 @@ static pthread_t waits_for_one(void *ctx)
 
 	while (waits() == before)
 		usleep(1000);
-	usleep(300000);
+	each_waits();
 	return thread;
 }
 
 static void begins_anew(void)
 {
-	__atomic_store_n(&ahead, -60, __ATOMIC_RELAXED);
+	__atomic_store_n(&ahead, -60, __ATOMIC_SEQ_CST);
 	ww_class_init(&c, 0, "it");
 	MUST(!ww_class_limit(&c, 1, 1));
 	ww_acquire_init(&x, &c);
@@ -178,7 +180,7 @@ static void is_said_of_tasks(void)
 	unsigned count = 0;
 	char all[256];
 
-	__atomic_store_n(&ahead, -60, __ATOMIC_RELAXED);
+	__atomic_store_n(&ahead, -60, __ATOMIC_SEQ_CST);
 	ww_class_init(&c, 0, "it");
 	while (!ww_acquire_init_poll(&tasks[count], &c, &seeks[0], &waker))
 		count++;
@@ -204,7 +206,9 @@ static const char is_long[] = "a wait for a mutex: class \"it\": it has lasted 1
 
 static void *locks(void *arg)
 {
+	comes_to_look();
 	ww_mutex_lock(&a, NULL);
+	has_looked();
 	__atomic_store_n(&comes_back, true, __ATOMIC_RELAXED);
 	pthread_testcancel();
 	ww_mutex_unlock(&a);
@@ -217,7 +221,7 @@ static void waits_for_a_mutex(unsigned count, bool is_to_end, const char *words)
 	pthread_t threads[2];
 	void *how;
 
-	__atomic_store_n(&ahead, -60, __ATOMIC_RELAXED);
+	__atomic_store_n(&ahead, -60, __ATOMIC_SEQ_CST);
 	comes_back = false;
 	ww_class_init(&c, 0, "it");
 	ww_mutex_init(&a, &c);
@@ -226,7 +230,7 @@ static void waits_for_a_mutex(unsigned count, bool is_to_end, const char *words)
 		threads[k] = begin_thread(locks, NULL);
 	while (__atomic_load_n(&a.waiters, __ATOMIC_SEQ_CST) < count)
 		usleep(1000);
-	usleep(300000);
+	each_waits();
 	if (is_to_end)
 		MUST(!pthread_cancel(threads[0]));
 	is_later_by(5);
@@ -249,6 +253,7 @@ static void is_never_said(void)
 {
 	pthread_t thread;
 
+	is_silent = true;
 	ww_report_long_waits(0);
 	waits_for_a_mutex(2, false, "");
 	begins_anew();
@@ -259,6 +264,7 @@ static void is_never_said(void)
 	end_thread(thread);
 	ends_again();
 	ww_report_long_waits(10);
+	is_silent = false;
 }
 
 static void *locks_until(void *until)

@@ -6,6 +6,7 @@
 #define WW_DEBUG
 #endif
 #include "crowd.h"
+#include "later.h"
 #include <sys/mman.h>
 #include <sys/syscall.h>
 #include <sys/wait.h>
@@ -29,20 +30,6 @@ static void awaits_warnings(unsigned long count)
 {
 	while (ww_debug_warnings() < count)
 		usleep(1000);
-}
-
-/* ---- time ---- */
-
-/* Linked in place of the system's clock, which is ahead of that by so much; behind it, a time that a thread sleeps until has come already. */
-static time_t ahead;
-int __real_clock_gettime(clockid_t clock, struct timespec *at);
-int __wrap_clock_gettime(clockid_t clock, struct timespec *at);
-int __wrap_clock_gettime(clockid_t clock, struct timespec *at)
-{
-	int r = __real_clock_gettime(clock, at);
-
-	at->tv_sec += __atomic_load_n(&ahead, __ATOMIC_RELAXED);
-	return r;
 }
 
 /* ---- warnings ---- */
@@ -317,17 +304,19 @@ static void *waits_long(void *for_context)
 {
 	struct ww_acquire_ctx z;
 
+	comes_to_look();
 	if (for_context)
 		AT(1, ww_acquire_init(&z, &c));
 	else
 		AT(1, ww_mutex_lock(&a, NULL));
+	has_looked();
 	return NULL;
 }
 
 /* A context that holds a mutex is left, as by a throw: who waits for that, or for a context, says after ten seconds where it began. */
 static void waits_for_what_was_left(bool for_context)
 {
-	__atomic_store_n(&ahead, for_context ? -11 : 0, __ATOMIC_RELAXED);
+	__atomic_store_n(&ahead, for_context ? -11 : 0, __ATOMIC_SEQ_CST);
 	ww_debug_check_interval(20);
 	AT(0, ww_acquire_init(&x, &c));
 	MUST(!ww_mutex_lock(&a, &x));
@@ -338,7 +327,7 @@ static void waits_for_what_was_left(bool for_context)
 		awaits_waiter(&a);
 	usleep(100000);
 	MUST(!ww_debug_warnings());
-	__atomic_store_n(&ahead, for_context ? 0 : 11, __ATOMIC_RELAXED);
+	__atomic_store_n(&ahead, for_context ? 0 : 11, __ATOMIC_SEQ_CST);
 	awaits_warnings(1);
 }
 static void for_a_mutex(void) { waits_for_what_was_left(false); }
@@ -351,13 +340,13 @@ static void *leaves_a(void *arg)
 }
 static void for_what_a_thread_left(void)
 {
-	__atomic_store_n(&ahead, 0, __ATOMIC_RELAXED);
+	__atomic_store_n(&ahead, 0, __ATOMIC_SEQ_CST);
 	ww_debug_check_interval(20);
 	end_thread(begin_thread(leaves_a, NULL));
 	MUST(!pthread_detach(begin_thread(waits_long, NULL)));
 	awaits_waiter(&a);
 	usleep(100000);
-	__atomic_store_n(&ahead, 11, __ATOMIC_RELAXED);
+	__atomic_store_n(&ahead, 11, __ATOMIC_SEQ_CST);
 	awaits_warnings(1);
 }
 
@@ -366,7 +355,7 @@ static void of_another_clock(void)
 {
 	struct timespec duration = { 5, 0 }, real;
 
-	__atomic_store_n(&ahead, 1000, __ATOMIC_RELAXED);
+	__atomic_store_n(&ahead, 1000, __ATOMIC_SEQ_CST);
 	MUST(!clock_gettime(CLOCK_REALTIME, &real));
 	ww_mutex_lock(&a, NULL);
 	MUST(AT(0, ww_mutex_lock_until(&a, NULL, &duration)) == -ETIMEDOUT);
@@ -380,26 +369,27 @@ static void for_a_context(void) { waits_for_what_was_left(true); }
 /* Each of two threads waits for a context, and has one: no cycle of mutexes, so only its time shows it, eleven seconds by this clock. */
 static void no_context_left(void)
 {
-	__atomic_store_n(&ahead, -11, __ATOMIC_RELAXED);
+	__atomic_store_n(&ahead, -11, __ATOMIC_SEQ_CST);
 	deadlocked(2, without, 2);
-	__atomic_store_n(&ahead, 0, __ATOMIC_RELAXED);
+	__atomic_store_n(&ahead, 0, __ATOMIC_SEQ_CST);
 	awaits_warnings(3);
 }
 
 /* One of two threads gets the context that both wait for: the other one says so only where it isn't given for ten seconds more. */
 static void contexts_come_back(void)
 {
-	__atomic_store_n(&ahead, -22, __ATOMIC_RELAXED);
+	__atomic_store_n(&ahead, -22, __ATOMIC_SEQ_CST);
 	ww_acquire_init(&x, &c);
 	for (unsigned k = 0; k < 2; k++)
 		MUST(!pthread_detach(begin_thread(waits_long, &x)));
 	awaits_seekers(2);
+	each_has_looked();
 	ww_acquire_fini(&x);
 	awaits_seekers(1);
-	__atomic_store_n(&ahead, -11, __ATOMIC_RELAXED);
-	usleep(200000);
+	__atomic_store_n(&ahead, -11, __ATOMIC_SEQ_CST);
+	each_has_looked();
 	MUST(!ww_debug_warnings());
-	__atomic_store_n(&ahead, 0, __ATOMIC_RELAXED);
+	__atomic_store_n(&ahead, 0, __ATOMIC_SEQ_CST);
 	awaits_warnings(1);
 }
 

@@ -102,6 +102,7 @@ $(OUT)/mutex_processors $(OUT)/mutex_processors_sanitized $(OUT)/mutex_processor
 	-Wl,--wrap=sched_getaffinity
 $(OUT)/poll_wakers $(OUT)/poll_wakers_sanitized $(OUT)/poll_wakers_threads: override LDFLAGS += \
 	-Wl,--wrap=syscall,--wrap=pthread_mutex_unlock
+$(foreach it,mutex_leaks mutex_warnings,$(OUT)/$(it) $(OUT)/$(it)_sanitized $(OUT)/$(it)_threads): tests/later.h
 $(foreach it,mutex_permits mutex_crowd mutex_warnings,$(OUT)/$(it) $(OUT)/$(it)_sanitized $(OUT)/$(it)_threads): tests/crowd.h
 # Where no call is compiled into its callers.
 $(OUT)/poll_calls_unoptimized: BY_CALLS = -O0
