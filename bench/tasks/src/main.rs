@@ -4,7 +4,6 @@
 //!     time SECONDS ROUNDS THREADS     thousands of transactions a second: medians, and attempts a commit
 //!     timers SECONDS ROUNDS THREADS   the same without one mutex for all, where tasks hold their locks across a timer, of
 //!                                     4,096 objects too
-//!     attempts SECONDS THREADS        attempts a commit, by how many contexts the class has
 //!     alone ENGINE LOCKS TIMES        one task alone, for who counts instructions: own, sorted, one, thread, none
 use std::cell::UnsafeCell;
 use std::future::Future;
@@ -21,19 +20,6 @@ mod wheel;
 class! {
     struct Wound: WoundWait;
     struct Die: WaitDie;
-    struct Wound4: WoundWait, contexts = 4;
-    struct Wound8: WoundWait, contexts = 8;
-    struct Wound16: WoundWait, contexts = 16;
-    struct Wound32: WoundWait, contexts = 32;
-    struct Wound64: WoundWait, contexts = 64;
-    struct Wound256: WoundWait, contexts = 256;
-    struct Wound4094: WoundWait, contexts = 4094;
-    struct Die4: WaitDie, contexts = 4;
-    struct Die8: WaitDie, contexts = 8;
-    struct Die16: WaitDie, contexts = 16;
-    struct Die32: WaitDie, contexts = 32;
-    struct Die64: WaitDie, contexts = 64;
-    struct Die4094: WaitDie, contexts = 4094;
 }
 
 /// If no other number is named.
@@ -339,45 +325,6 @@ fn timers(time: Duration, rounds: usize, threads: usize) {
     }
 }
 
-fn attempts(time: Duration, threads: usize) {
-    fn row<C: Class>(name: &str, threads: usize, time: Duration) {
-        print!("| {name} |");
-        for under in [Under::Nothing, Under::Await] {
-            for tasks in [64, 4096] {
-                let load = Load {
-                    objects: OBJECTS,
-                    tasks,
-                    under,
-                    threads,
-                    time,
-                };
-                run::<C, 2>(Engine::Own, load);
-                print!(" {:.2} |", attempts_a_commit());
-                run::<C, 8>(Engine::Own, load);
-                print!(" {:.2} |", attempts_a_commit());
-            }
-        }
-        println!();
-    }
-    println!(
-        "| contexts | 2, 64 tasks | 8, 64 | 2, 4096 | 8, 4096 | the same with an await: | | | |"
-    );
-    println!("|---|---|---|---|---|---|---|---|---|");
-    row::<Wound4>("Wound-Wait, 4", threads, time);
-    row::<Wound8>("8", threads, time);
-    row::<Wound16>("16", threads, time);
-    row::<Wound32>("32", threads, time);
-    row::<Wound64>("64", threads, time);
-    row::<Wound256>("256", threads, time);
-    row::<Wound4094>("4,094", threads, time);
-    row::<Die4>("Wait-Die, 4", threads, time);
-    row::<Die8>("8", threads, time);
-    row::<Die16>("16", threads, time);
-    row::<Die32>("32", threads, time);
-    row::<Die64>("64", threads, time);
-    row::<Die4094>("4,094", threads, time);
-}
-
 /// What waits for nothing.
 fn at_once<R>(future: impl Future<Output = R>) -> R {
     match pin!(future).poll(&mut Context::from_waker(Waker::noop())) {
@@ -415,12 +362,9 @@ fn main() {
             rounds.parse().unwrap(),
             threads.parse().unwrap(),
         ),
-        ["attempts", s, threads] => attempts(seconds(s), threads.parse().unwrap()),
         ["alone", engine, "1", times] => alone::<1>(engine, times.parse().unwrap()),
         ["alone", engine, "2", times] => alone::<2>(engine, times.parse().unwrap()),
         ["alone", engine, "8", times] => alone::<8>(engine, times.parse().unwrap()),
-        _ => panic!(
-            "time|timers SECONDS ROUNDS THREADS | attempts SECONDS THREADS | alone ENGINE LOCKS TIMES"
-        ),
+        _ => panic!("time|timers SECONDS ROUNDS THREADS | alone ENGINE LOCKS TIMES"),
     }
 }
