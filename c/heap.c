@@ -3,8 +3,8 @@
  * (src/heap.rt).
  *
  * A large block has pages of its own, and takes them back to the system: so what is done with these here is right
- * whatever malloc the program has.  All others are malloc's.  A pointer to its pages, or NULL, stands BEFORE each
- * block.
+ * whatever malloc the program has.  All others are malloc's.  A pointer to its pages, or NULL, stands before each
+ * block, which begins with a cache line: so the words of four locks of a class lie in one.
  */
 #define _GNU_SOURCE
 #include <stdint.h>
@@ -24,12 +24,9 @@ struct tried rattle_alloc(size_t size, size_t align);
 struct tried rattle_realloc(void *p, size_t kept, size_t size, size_t align);
 void rattle_dealloc(void *p);
 
-/* No larger alignment is asked for; malloc gives the same. */
-enum { BEFORE = 16 };
-_Static_assert(_Alignof(max_align_t) >= BEFORE, "malloc aligns to 16");
 static char none;
 
-/* From how many bytes on a block is large, and has large pages while it is written; and where it lies in its pages. */
+/* From how many bytes on a block is large, and has large pages while it is written; and where it lies in what was taken. */
 enum { LARGE = 64 << 10, LARGE_PAGE = 2 << 20, AHEAD = 64 };
 
 /* At the beginning of the pages of a block. */
@@ -42,7 +39,7 @@ struct pages {
 static __thread struct pages *taken __attribute__((tls_model("initial-exec")));
 static struct pages no_pages;
 
-static struct pages **pages_of(void *p) { return (struct pages **)(void *)((char *)p - BEFORE); }
+static struct pages **pages_of(void *p) { return (struct pages **)p - 1; }
 
 /* What the kernel is asked for: whole large pages, so that it puts them where large pages lie. */
 static size_t asked_for(size_t size) { return size < LARGE_PAGE ? size : (size + LARGE_PAGE - 1) & -(size_t)LARGE_PAGE; }
@@ -69,12 +66,12 @@ static void *take_pages(size_t size)
 
 static void *take_small(size_t size)
 {
-	char *it = malloc(BEFORE + size);
+	char *it = aligned_alloc(AHEAD, AHEAD + ((size + AHEAD - 1) & -(size_t)AHEAD));
 
 	if (!it)
 		return NULL;
-	*pages_of(it + BEFORE) = NULL;
-	return it + BEFORE;
+	*pages_of(it + AHEAD) = NULL;
+	return it + AHEAD;
 }
 
 struct tried rattle_alloc(size_t size, size_t align)
@@ -101,7 +98,7 @@ void rattle_dealloc(void *p)
 	struct pages *it = *pages_of(p), **at = &taken;
 
 	if (!it) {
-		free((char *)p - BEFORE);
+		free((char *)p - AHEAD);
 		return;
 	}
 	while (*at && *at != it)

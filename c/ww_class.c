@@ -179,7 +179,7 @@ static struct ww_pool *memory_of_pool(void)
 
 static void keep_memory(struct ww_pool *p)
 {
-	free(p->below);
+	free(p->used);
 	free(p->seats);
 	p->next = freed;
 	freed = p;
@@ -226,8 +226,10 @@ static int open_world(struct ww_pool *p, bool is_wait_die, ww_handle *handles)
 
 	ww_heap_opens();
 	r = ww_open_(is_wait_die, p->locks, ((uint64_t)1 << 52) - 1, handles, seats_of(p) + SPARE);
-	if (!r)
+	if (!r) {
 		fill_seats(p, handles);
+		p->words = (uintptr_t)words_of(p->seats);
+	}
 	ww_heap_opened();
 	return r;
 }
@@ -251,10 +253,10 @@ static int make_pool(struct ww_class *c, uint32_t may_keep, struct ww_pool **mad
 	__atomic_store_n(&p->is_reported, false, __ATOMIC_RELAXED);
 	__atomic_store_n(&p->is_lock_reported, false, __ATOMIC_RELAXED);
 	ww_crowd_open(p);
-	p->below = calloc(p->locks, sizeof *p->below);
+	p->used = calloc(p->locks / 64 + 1, sizeof *p->used);
 	p->seats = aligned_alloc(_Alignof(ww_seat), (seats_of(p) + SPARE) * sizeof *p->seats);
 	handles = calloc(seats_of(p) + SPARE, sizeof *handles);
-	r = p->below && p->seats && handles ? ww_debug_open(p) : -ENOMEM;
+	r = p->used && p->seats && handles ? ww_debug_open(p) : -ENOMEM;
 	if (!r) {
 		r = open_world(p, !!c->is_wait_die, handles);
 		if (r)

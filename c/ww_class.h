@@ -22,7 +22,7 @@
  *	id at_hand	pool		who opens the class; a crowd's begin and end, under its lock	crowd-ends
  *	numbered	pool		who takes the first number, under `numbers`		number-again
  *	is_large	pool		who takes one, likewise					numbers
- *	taken fresh free below	pool	who takes and gives one, likewise			numbers-4
+ *	taken used low	pool		who takes and gives one, likewise			numbers-4
  *	kept changed	pool		who comes to keep a seat or lets one go, under `ww_opening`	kept-end-3
  *	ends_waits	pool		who cancels the class					class-cancel
  *	is_reported is_lock_reported	pool	who waits for long					mutex_leaks
@@ -123,6 +123,8 @@ struct ww_pool {
 	struct ww_class *class_;
 	uint64_t id;	  /* no other class has the same, open or freed, nor one of another copy of the library */
 	uint64_t at_hand; /* the same; or CROWDED, so that no thread finds its seat at hand */
+	uint64_t span;	  /* as its contexts have these: see struct ww_acquire_ctx */
+	uintptr_t words;
 	uint64_t copy;	  /* of the copy of the library that opened it: see ww_class.c */
 	uint32_t kept, may_keep; /* how many of its seats threads keep, and may; changed under the lock `ww_opening` */
 	uint32_t changed;	 /* how often that changed */
@@ -137,14 +139,13 @@ struct ww_pool {
 	bool is_reported;      /* it was said that all contexts of threads have been in use for long */
 	bool is_lock_reported; /* and that a wait for a mutex is long */
 	/*
-	 * Of the numbers of `mutexes` mutexes the first `fresh` were given out at least once.  Those of them that are
-	 * free again are in a list: `free` is the first one plus one, and `below` has the next one of each, likewise.
-	 * The words of four neighbours share a cache line.  So the first `lines` numbers are 0, 4, 8 and so on, the
-	 * next ones 1, 5, 9, and two mutexes share a line only if there are many.  The proved library has `locks`
-	 * locks.
+	 * The numbers of its mutexes, of which `used` has a bit for each, set while it is taken.  Their words lie in `lines`
+	 * cache lines.  The address of a mutex says its line (ww_likely_), and two share one only if there are many.  Who
+	 * has no address takes the lowest number; no line before `low` has one left.  The proved library has `locks` locks.
 	 */
 	pthread_mutex_t numbers __attribute__((aligned(64)));
-	uint32_t mutexes, lines, locks, fresh, free, taken, *below;
+	uint32_t mutexes, lines, locks, low, taken;
+	uint64_t *used;
 	/*
 	 * How many seats have a desk, and these by their bits, in lists that only grow: changed under the lock
 	 * `numbers`.
@@ -268,8 +269,8 @@ static inline struct ww_pool *of_this_copy_alone(struct ww_pool *p)
 
 /* Says how many numbers there are, of which none is taken. Nobody uses the class yet. */
 WW_HIDDEN void ww_open_numbers(struct ww_pool *p);
-/* Takes a number that is free; -ENOSPC if there is none, and -EINVAL in a forked child. */
-WW_HIDDEN int ww_take_number(struct ww_pool *p, uint32_t *number);
+/* Takes a number that is free, for a mutex at this address, or for none; -ENOSPC if there is none, and -EINVAL in a child. */
+WW_HIDDEN int ww_take_number(struct ww_pool *p, const struct ww_mutex *m, uint32_t *number);
 WW_HIDDEN void ww_give_number(struct ww_pool *p, uint32_t number);
 /*
  * Gives a number to a mutex that WW_MUTEX_INIT made, unless it has one. Returns 0, or an error of

@@ -18,6 +18,8 @@ static const char *reason_at_begin(int r)
 static inline void of_seat(struct ww_acquire_ctx *x, struct ww_pool *p, ww_seat *s)
 {
 	x->pool = p;
+	x->span = p->span;
+	x->words = p->words;
 	x->gives = s;
 	__atomic_store_n(&x->own, s, __ATOMIC_RELAXED);
 	__atomic_store_n(&x->cancelled, 0, __ATOMIC_RELAXED);

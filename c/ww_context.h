@@ -89,16 +89,6 @@ static inline bool owes_it(const struct ww_acquire_ctx *x, const struct ww_mutex
 	return x->state & IS_PRELOCKED && x->prelocked == m;
 }
 
-/*
- * The words of the proved library's locks, two for each.  As that library is compiled, a seat's memory begins with the
- * address of its table.  The table's second word is the address of an array, in which 16 words come before these.
- * tests/mutex_numbers.c tests that it is so.
- */
-static inline const uint64_t *words_of(const ww_seat *s)
-{
-	return (const uint64_t *)(*(void **const *)s->handle.at)[1] + 16;
-}
-
 /* ---- of ww_context.c ---- */
 
 /* Begins a context by a seat, if r is 0; else the context has ended, and r is returned. */

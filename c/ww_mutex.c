@@ -24,6 +24,8 @@
 #include "ww_context.h"
 
 _Static_assert(sizeof(struct ww_mutex) == 32, "a mutex and 32 bytes of what it guards have room in one cache line");
+_Static_assert(offsetof(struct ww_acquire_ctx, deadlock_inject_countdown) == 64 && offsetof(struct ww_acquire_ctx, words) == 72 &&
+	       sizeof(struct ww_acquire_ctx) == 96, "as callers have them that were compiled before there were `span` and `words`");
 /* A call by an empty handle returns -EINVAL, and changes nothing. */
 _Static_assert(sizeof(((struct ww_acquire_ctx *)0)->empty_) == sizeof(ww_handle), "a context has room for one");
 
@@ -36,7 +38,7 @@ int ww_mutex_init_checked(struct ww_mutex *m, struct ww_class *c)
 	int r = pool_of(c, &p);
 
 	if (!r)
-		r = ww_take_number(p, &number);
+		r = ww_take_number(p, m, &number);
 	if (r)
 		return r;
 	*m = (struct ww_mutex){ .pool = p, .number = number };

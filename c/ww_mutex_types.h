@@ -68,8 +68,15 @@ struct ww_acquire_ctx {
 		struct ww_mutex *polled; /* IS_POLLED: for which a call of ww_poll.h waits */
 	};
 	unsigned int cancelled;
-	unsigned int deadlock_inject_interval, deadlock_inject_countdown; /* of the debug library */
-	unsigned long stamp;		/* likewise */
+	unsigned int deadlock_inject_interval; /* of the debug library */
+	__extension__ union {
+		unsigned int deadlock_inject_countdown; /* likewise */
+		uint64_t span;		/* its upper half: how many bytes the words of its class's mutexes have */
+	};
+	__extension__ union {
+		unsigned long stamp;	/* likewise */
+		uintptr_t words;	/* where those lie */
+	};
 	__extension__ union {		/* in a loop, and outside: */
 		void *empty_[2];	/* an empty handle: by it an unlock returns that it has more to do */
 		const void *poller;	/* IS_POLLED: which call of a shared mutex waits: see ww_shared.c */

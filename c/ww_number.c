@@ -56,7 +56,7 @@ int ww_number_take(uint32_t *number, struct ww_class *c)
 	if (!r && !p->gone && !mutexes_of(p))
 		r = -ENOMEM;
 	if (!r)
-		r = ww_take_number(p, number);
+		r = ww_take_number(p, NULL, number);
 	if (r)
 		return r;
 	m = &p->numbered[*number];

@@ -2,68 +2,106 @@
  * ww_numbers.c - the numbers of mutexes: which lock of the proved library is whose.
  *
  * A mutex takes a number of its class as it is made, or at its first lock if WW_MUTEX_INIT made it, and puts it back
- * as it is destroyed.  Of the numbers that are free again the last one is taken first.
+ * as it is destroyed.  The words of four numbers share a cache line.  A mutex's address says which line it has
+ * (ww_likely_), if that has one left, and else it has the next one: so who locks it need not read its number to fetch
+ * its words.
  */
 #define _GNU_SOURCE
 #include "ww_class.h"
 
 /*
- * How many mutexes a class has if it says no number; how many locks have their words in one cache line; and how many
- * mutexes have a line to themselves, however many the class has.
+ * How many mutexes a class has if it says no number; how many locks have their words in one cache line, and how many
+ * bytes that has; and how many mutexes have a line to themselves, however many the class has.
  */
-enum { MANY_MUTEXES = 65536, IN_A_LINE = 4, APART = 1024 };
+enum { MANY_MUTEXES = 65536, IN_A_LINE = 4, LINE = 64, APART = 1024 };
 /* From how many mutexes on a class is large; in the search of schedules with one. */
 #ifndef WW_LARGE
 #define WW_LARGE 16384
 #endif
-/* How many lines are enough for 65 locks, which a world has at least. */
-enum { LEAST_LINES = 17 };
+/*
+ * There are so many lines for each of those: with one, 37 in a hundred mutexes at random addresses would find theirs taken, and
+ * with four 12.  And so many are enough for 65 locks, which a world has at least.
+ */
+enum { SPARE_LINES = 4, LEAST_LINES = 17 };
+/* All numbers of a line; and how many lines have their bits in a word of `used`. */
+enum { FULL = (1 << IN_A_LINE) - 1, IN_A_WORD = 64 / IN_A_LINE };
+
+/* How many mutexes have a line to themselves. */
+static uint32_t apart(uint32_t mutexes) { return mutexes < APART ? mutexes : APART; }
 
 /* A quarter of the numbers, or more if these are few. */
 static uint32_t lines_for(uint32_t mutexes)
 {
-	uint32_t quarter = (mutexes + IN_A_LINE - 1) / IN_A_LINE, apart = mutexes < APART ? mutexes : APART;
+	uint32_t quarter = (mutexes + IN_A_LINE - 1) / IN_A_LINE, sparse = SPARE_LINES * apart(mutexes);
 
-	if (apart < LEAST_LINES)
+	if (sparse < LEAST_LINES)
 		return LEAST_LINES;
-	return quarter > apart ? quarter : apart;
+	return quarter > sparse ? quarter : sparse;
 }
 
 void ww_open_numbers(struct ww_pool *p)
 {
 	p->mutexes = p->class_->mutexes ? p->class_->mutexes : MANY_MUTEXES;
 	p->lines = lines_for(p->mutexes);
+	p->span = (uint64_t)p->lines * LINE << 32;
 	p->locks = p->lines * IN_A_LINE;
-	p->fresh = p->free = 0;
+	p->low = 0;
 	__atomic_store_n(&p->is_large, false, __ATOMIC_RELAXED);
 }
 
-int ww_take_number(struct ww_pool *p, uint32_t *number)
+/* The bits of its numbers that are taken. */
+static uint32_t used_of(const struct ww_pool *p, uint32_t line)
 {
-	uint32_t n;
+	return p->used[line / IN_A_WORD] >> line % IN_A_WORD * IN_A_LINE & FULL;
+}
 
+/* The first line from this one on that has a number left; or that nobody has, unless it is to be shared.  There is one. */
+static uint32_t line_from(const struct ww_pool *p, uint32_t line, bool shares)
+{
+	while (used_of(p, line) > (shares ? FULL - 1 : 0)) {
+		line += p->used[line / IN_A_WORD] == UINT64_MAX ? IN_A_WORD - line % IN_A_WORD : 1;
+		if (line >= p->lines)
+			line = 0;
+	}
+	return line;
+}
+
+static uint32_t take(struct ww_pool *p, const struct ww_mutex *m)
+{
+	bool shares = p->taken + p->made >= apart(p->mutexes);
+	uint32_t line = line_from(p, m ? (uint32_t)ww_likely_(m, p->span) / LINE : p->low, shares);
+	uint32_t number = line * IN_A_LINE + (uint32_t)__builtin_ctz(~used_of(p, line));
+
+	p->used[number / 64] |= (uint64_t)1 << number % 64;
+	if (!m && shares)
+		p->low = line;
+	if (__atomic_fetch_add(&p->taken, 1, __ATOMIC_RELAXED) + 1 == WW_LARGE)
+		__atomic_store_n(&p->is_large, true, __ATOMIC_RELAXED);
+	return number;
+}
+
+/* Of desks' numbers there are `made`, which aren't counted as taken.  The debug library's messages say the lowest numbers. */
+int ww_take_number(struct ww_pool *p, const struct ww_mutex *m, uint32_t *number)
+{
+	bool is_left;
+
+	DEBUG(m = NULL);
 	if (p->gone)
 		return -EINVAL;
 	pthread_mutex_lock(&p->numbers);
-	n = p->free;
-	if (n) {
-		p->free = p->below[n - 1];
-	} else if (p->fresh < p->mutexes) {
-		n = p->fresh % p->lines * IN_A_LINE + p->fresh / p->lines + 1;
-		if (++p->fresh == WW_LARGE)
-			__atomic_store_n(&p->is_large, true, __ATOMIC_RELAXED);
-	}
-	__atomic_fetch_add(&p->taken, !!n, __ATOMIC_RELAXED);
+	is_left = p->taken + p->made < p->mutexes;
+	if (is_left)
+		*number = take(p, m);
 	pthread_mutex_unlock(&p->numbers);
-	*number = n - 1;
-	return n ? 0 : -ENOSPC;
+	return is_left ? 0 : -ENOSPC;
 }
 
 void ww_give_number(struct ww_pool *p, uint32_t number)
 {
 	pthread_mutex_lock(&p->numbers);
-	p->below[number] = p->free;
-	p->free = number + 1;
+	p->used[number / 64] &= ~((uint64_t)1 << number % 64);
+	if (number / IN_A_LINE < p->low)
+		p->low = number / IN_A_LINE;
 	__atomic_fetch_sub(&p->taken, 1, __ATOMIC_RELEASE);
 	pthread_mutex_unlock(&p->numbers);
 }
@@ -82,7 +120,7 @@ COLD int ww_number_at_first(struct ww_mutex *m)
 
 		r = c ? ww_open_now(c) : -EINVAL;
 		if (!r)
-			r = ww_take_number(c->pool, &number);
+			r = ww_take_number(c->pool, m, &number);
 		if (!r) {
 			__atomic_store_n(&m->number, number, __ATOMIC_RELAXED); /* who locks a list may look for it already */
 			__atomic_store_n(&m->pool, c->pool, __ATOMIC_RELEASE);

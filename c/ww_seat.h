@@ -22,6 +22,16 @@ enum { A_FEW = 8 };
 enum { A_FEW = 1 };
 #endif
 
+/*
+ * The words of the proved library's locks, two for each.  As that library is compiled, a seat's memory begins with the
+ * address of its table.  The table's second word is the address of an array, in which 16 words come before these.
+ * tests/mutex_numbers.c tests that it is so.
+ */
+static inline const uint64_t *words_of(const ww_seat *s)
+{
+	return (const uint64_t *)(*(void **const *)s->handle.at)[1] + 16;
+}
+
 /* ---- of ww_seat.c ---- */
 
 /* Any seat that this thread may use now, if the one that it used last isn't at hand; or NULL. */

@@ -121,7 +121,7 @@ COLD static int make_desk(ww_seat *s)
 {
 	struct ww_pool *p = s->pool;
 	struct ww_desk *d = memory_of_desk(p);
-	int r = d ? ww_take_number(p, &d->mutex.number) : -ENOMEM;
+	int r = d ? ww_take_number(p, &d->mutex, &d->mutex.number) : -ENOMEM;
 	uint32_t k;
 
 	if (r) {

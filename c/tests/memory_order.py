@@ -304,7 +304,7 @@ TABLE = {
     "alone": {"seat_of": "load acq", "own": "store rel", "unlock_alone": "store rlx"},
     # By what lies there before, the words that a list fetches ahead are of no use, and nothing else.
     "number": {"ww_number_at_first": "store rlx", "fetch_ahead": "load rlx"},
-    "is_large": {"ww_open_numbers": "store rlx", "ww_take_number": "store rlx", "begin_list": "load rlx"},
+    "is_large": {"ww_open_numbers": "store rlx", "take": "store rlx", "begin_list": "load rlx"},
     # It lies in the place of that, and others see that it is even.
     "older": {"WW_HOLDS_": "store rlx", "enlist": "store rlx"},
     "link": {"unlist": "store rlx"},
@@ -389,7 +389,7 @@ TABLE = {
         "look_if_due": "load rlx",
     },
     # Changed under the lock of numbers; whoever frees a class at 0 sees all that those wrote who had one.
-    "taken": {"ww_take_number": "fetch_add rlx", "ww_give_number": "fetch_sub rel", "taken_numbers": "load acq", "make_desk": "fetch_sub rel"},
+    "taken": {"take": "fetch_add rlx", "ww_give_number": "fetch_sub rel", "taken_numbers": "load acq", "make_desk": "fetch_sub rel"},
     # The seat that is handed over, and all that goes with it.
     "served_": {"call_first": "store rlx", "take_out": "store rel", "ww_seek_seat": "load acq", "ww_is_served": "load acq"},
     # Counts, which order nothing; and glances of the debug library. What a waiter in its list did before is ordered by its lock.
@@ -551,7 +551,7 @@ PLAIN = {
     "desk->reads": "by: ",
     # Before others see the mutex.
     "m->readers_": "by: ww_shared_mutex_init ww_shared_mutex_init_checked",
-    "p->made": "numbers: free_desks",
+    "p->made": "numbers: free_desks take",
     "p->desks": "numbers: free_desks",
     "s->desk": "by: make_desk",
     "x->own": "by: ",
@@ -559,9 +559,9 @@ PLAIN = {
     "x->pool": "by: begin_core close_or_open draw_age_by_hand may_be_older no_more of_seat",
     # By the user of a seat, and by its keeper, or whoever frees the class, once nobody uses it: all that goes with `busy`.
     "s->ages": "by: has_met may_be_older stop_rest unlock_alone_on ww_acquire_fini ww_acquire_fini_checked",
-    "p->fresh": "numbers: ww_open_numbers",
-    "p->free": "numbers: ww_open_numbers",
-    "p->below": "numbers: keep_memory make_pool",
+    "p->low": "numbers: take ww_open_numbers",
+    "p->taken": "numbers: take",
+    "p->used": "numbers: keep_memory line_from make_pool take used_of",
 }
 # What a thread has for itself, under names of fields that others share; and names under which others stand for the same.
 OWN = ["permit", "wait", "waker", "front", "f", "ww_mine", "kept", "counts", "s->seat", "s->id", "last"]

@@ -86,7 +86,7 @@ static int advises(void *at, size_t size, int advice)
 #define mmap(...) maps(__VA_ARGS__)
 #define munmap(...) unmaps(__VA_ARGS__)
 #define madvise(...) advises(__VA_ARGS__)
-#define malloc(size) takes(size, 16)
+#define aligned_alloc(align, size) takes(size, align)
 #define free(p) gives(p)
 #include "../heap.c"
 
@@ -94,7 +94,7 @@ static char *block(size_t size)
 {
 	struct tried it = rattle_alloc(size, 8);
 
-	MUST(it.ok && it.p && !((uintptr_t)it.p % 16));
+	MUST(it.ok && it.p && !((uintptr_t)it.p % 64)); /* a cache line */
 	return it.p;
 }
 

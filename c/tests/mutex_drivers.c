@@ -127,7 +127,7 @@ static void locked_first_by_several(void)
 		pthread_barrier_wait(&begin);
 		pthread_barrier_wait(&finish);
 		for (unsigned k = 0; k < STATIC; k++) {
-			MUST(counts[k] == THREADS && shared[k].number < 4 * STATIC);
+			MUST(counts[k] == THREADS && shared[k].number < 16 * STATIC);
 			for (unsigned j = 0; j < k; j++)
 				MUST(shared[j].number != shared[k].number);
 		}

@@ -4,6 +4,7 @@
  */
 #include "mutex_test.h"
 #include "../ww_context.h"
+#include "../ww_number.h"
 #include <sys/wait.h>
 
 /* So many numbers are enough for all threads, and with so few each takes what others put back. */
@@ -17,7 +18,7 @@ static bool own[MANY], over;
 static unsigned rounds = 25000, openings = 200, numbers;
 
 static struct ww_pool bare;
-static uint32_t below[ENOUGH];
+static uint64_t used[MANY / 64];
 
 /* Few, so that what one thread looks for others take away and put back meanwhile; or enough for all. */
 static void *takes_and_gives(void *arg)
@@ -28,7 +29,7 @@ static void *takes_and_gives(void *arg)
 		unsigned count = 1 + next(&x) % 2, taken = 0;
 		uint32_t n[2];
 
-		while (taken < count && !ww_take_number(&bare, &n[taken]))
+		while (taken < count && !ww_take_number(&bare, NULL, &n[taken]))
 			MUST(!__atomic_exchange_n(&own[n[taken++]], true, __ATOMIC_SEQ_CST));
 		MUST(taken == count || bare.mutexes == FEW);
 		for (unsigned j = 0; j < taken; j++) {
@@ -46,10 +47,11 @@ static void bare_by_threads(uint32_t of)
 	memset(&bare, 0, sizeof bare);
 	bare.numbers = (pthread_mutex_t)PTHREAD_MUTEX_INITIALIZER;
 	bare.mutexes = of;
-	bare.lines = ENOUGH / 4;
-	bare.below = below;
+	bare.lines = 4 * ENOUGH;
+	memset(used, 0, sizeof used);
+	bare.used = used;
 	in_threads(THREADS, takes_and_gives);
-	while (!ww_take_number(&bare, &n)) {
+	while (!ww_take_number(&bare, NULL, &n)) {
 		MUST(!own[n]);
 		own[n] = true;
 		count++;
@@ -64,7 +66,7 @@ static void *takes_a_share(void *arg)
 
 	(void)arg;
 	for (uint32_t k = 0; k < MANY / THREADS; k++)
-		MUST(!ww_take_number(&bare, &n) && !__atomic_exchange_n(&own[n], true, __ATOMIC_RELAXED));
+		MUST(!ww_take_number(&bare, NULL, &n) && !__atomic_exchange_n(&own[n], true, __ATOMIC_RELAXED));
 	return NULL;
 }
 
@@ -79,8 +81,10 @@ static void fresh_by_threads(void)
 		bare.numbers = (pthread_mutex_t)PTHREAD_MUTEX_INITIALIZER;
 		bare.mutexes = MANY;
 		bare.lines = MANY / 4;
+		memset(used, 0, sizeof used);
+		bare.used = used;
 		in_threads(THREADS, takes_a_share);
-		MUST(ww_take_number(&bare, &n) == -ENOSPC);
+		MUST(ww_take_number(&bare, NULL, &n) == -ENOSPC);
 	}
 	memset(own, 0, sizeof own);
 }
@@ -153,26 +157,77 @@ static void as_many_as_may_be(void)
 	free(m);
 }
 
-/* The words of four numbers share a line: of so many mutexes none does so with another, and each has a number of its own. */
-static void have_lines(uint32_t count, uint32_t alone)
+static uintptr_t line_at(const void *words) { return (uintptr_t)words / 64; }
+
+/*
+ * The words of four numbers share a line: of so many mutexes none does so with another, and each has a number of its own;
+ * and for so many at most lock calls fetch another line than that of their words.
+ */
+static void have_lines(uint32_t count, uint32_t alone, uint32_t wrong)
 {
 	struct ww_mutex *m = calloc(count + (size_t)1, sizeof *m);
-	unsigned char *in = calloc(count, 4);
+	struct ww_acquire_ctx x;
+	unsigned char *in, *lines;
+	uint32_t locks, elsewhere = 0;
 
-	MUST(m && in && !ww_class_limit(&few, count, 1));
+	MUST(m && !ww_class_limit(&few, count, 1));
+	ww_acquire_init(&x, &few);
+	locks = few.pool->locks;
+	in = calloc(locks, 1);
+	lines = calloc(locks / 4, 1);
+	MUST(in && lines);
 	for (uint32_t n = 0; n < count; n++) {
+		uint32_t number;
+
 		ww_mutex_init(&m[n], &few);
-		MUST(m[n].number < 4 * count && !in[m[n].number]);
-		in[m[n].number] = 1;
-		if (n < alone)
-			MUST(m[n].number == 4 * n);
+		number = m[n].number;
+		MUST(number < locks && !in[number]);
+		in[number] = 1;
+		MUST(!lines[number / 4] || n >= alone);
+		lines[number / 4] = 1;
+		elsewhere += line_at(words_of(x.own) + 2 * (size_t)number) != (x.words + ww_likely_(&m[n], x.span)) / 64;
 	}
+	MUST(elsewhere <= wrong);
 	MUST(ww_mutex_init_checked(&m[count], &few) == -ENOSPC);
 	for (uint32_t n = 0; n < count; n++)
 		MUST(!ww_mutex_destroy(&m[n]));
+	ww_acquire_fini(&x);
 	MUST(!ww_class_free(&few));
 	free(m);
 	free(in);
+	free(lines);
+}
+
+/* The number that is taken after so many: the first ones each have a line, which others share then; and there are no gaps. */
+static uint32_t lowest_after(uint32_t taken)
+{
+	const uint32_t apart = 1024;
+
+	if (taken < apart)
+		return 4 * taken;
+	return taken < 4 * apart ? (taken - apart) / 3 * 4 + 1 + (taken - apart) % 3 : taken;
+}
+
+/* Those of ww_number.h are the lowest ones that are free, whatever numbers mutexes have by their addresses. */
+static void are_low(uint32_t count)
+{
+	uint32_t *n = calloc(count, sizeof *n);
+	struct ww_mutex m;
+
+	MUST(n && !ww_class_limit(&few, count, 1));
+	for (unsigned times = 0; times < 3; times++) {
+		for (uint32_t k = 0; k < count; k++)
+			MUST(!ww_number_take(&n[k], &few) && n[k] == lowest_after(k));
+		for (uint32_t k = 0; k < count; k++)
+			MUST(!ww_number_put(n[(k + times * count / 3) % count], &few));
+	}
+	ww_mutex_init(&m, &few);
+	for (uint32_t k = 1; k < count; k++)
+		MUST(!ww_number_take(&n[k], &few) && n[k] < 4 * count);
+	for (uint32_t k = 1; k < count; k++)
+		MUST(!ww_number_put(n[k], &few));
+	MUST(!ww_mutex_destroy(&m) && !ww_class_free(&few));
+	free(n);
 }
 
 /* By the word that a list of many fetches ahead. */
@@ -342,10 +397,14 @@ int main(int count, char **words)
 	for (numbers = ENOUGH; numbers; numbers = numbers == ENOUGH ? FEW : 0)
 		by_threads();
 	as_many_as_may_be();
-	have_lines(1, 1);
-	have_lines(1024, 1024);
-	have_lines(1027, 1024);
-	have_lines(4099, 1025);
+	have_lines(1, 1, 0);
+	have_lines(64, 64, 16);
+	have_lines(1024, 1024, 16);
+	have_lines(1027, 1024, 16);
+	have_lines(16384, 1024, 1600);
+	are_low(1);
+	are_low(1027);
+	are_low(5000);
 	a_million();
 	opened_by_all();
 	forks_beside_opening();

@@ -32,7 +32,7 @@ struct mine {
 };
 
 /* No number of the class is as great. */
-enum { BEYOND = 4 * (MUTEXES < 17 ? 17 : MUTEXES) };
+enum { BEYOND = 4 * (4 * MUTEXES < 17 ? 17 : 4 * MUTEXES) };
 
 static uint32_t number_at(unsigned n) { return n < MUTEXES ? numbers[n] : n == MUTEXES ? BEYOND : UINT32_MAX - n; }
 

@@ -46,7 +46,7 @@ static void are_of_one_pool(void)
 			MUST(n[j] != n[k]);
 	MUST(ww_number_take(&other, c) == -ENOSPC && ww_mutex_init_checked(&m, c) == -ENOSPC);
 	MUST(ww_class_free(c) == -EBUSY && !ww_number_put(n[0], c));
-	MUST(!ww_mutex_init_checked(&m, c) && m.number == n[0] && ww_number_take(&other, c) == -ENOSPC);
+	MUST(!ww_mutex_init_checked(&m, c) && ww_number_take(&other, c) == -ENOSPC);
 	MUST(!ww_mutex_destroy(&m) && !ww_number_take(&n[0], c));
 	puts_back();
 	MUST(!ww_class_free(c));
@@ -71,19 +71,33 @@ static void by_a_context(void)
 	ww_acquire_fini(&x);
 }
 
+/* A mutex at such an address that it gets the number, where that is free. */
+static struct ww_mutex *as_for(uint32_t number)
+{
+	static struct ww_mutex any[1024];
+	struct ww_mutex *m = any;
+
+	begins(&x);
+	while (ww_likely_(m, x.span) / 64 != number / 4)
+		MUST(++m < any + 1024);
+	ww_acquire_fini(&x);
+	return m;
+}
+
 /* A number that was never taken, was put back before, or is a mutex's with an address: nobody gets any of these twice. */
 static void puts_no_other_back(void)
 {
-	struct ww_mutex m;
+	struct ww_mutex *m;
 
 	MUST(ww_number_put(0, c) == -EINVAL && ww_number_put(COUNT - 1, c) == -EINVAL);
 	takes();
 	MUST(!ww_number_put(n[0], c) && ww_number_put(n[0], c) == -EINVAL);
-	ww_mutex_init(&m, c);
-	MUST(m.number == n[0] && ww_number_put(m.number, c) == -EINVAL);
-	MUST(!ww_mutex_lock(&m, NULL) && ww_number_put(m.number, c) == -EINVAL);
-	ww_mutex_unlock(&m);
-	MUST(!ww_mutex_destroy(&m) && ww_number_put(n[0], c) == -EINVAL && !ww_number_take(&n[0], c));
+	m = as_for(n[0]);
+	ww_mutex_init(m, c);
+	MUST(m->number == n[0] && ww_number_put(n[0], c) == -EINVAL);
+	MUST(!ww_mutex_lock(m, NULL) && ww_number_put(n[0], c) == -EINVAL);
+	ww_mutex_unlock(m);
+	MUST(!ww_mutex_destroy(m) && ww_number_put(n[0], c) == -EINVAL && !ww_number_take(&n[0], c));
 	puts_back();
 }
 

@@ -12,7 +12,7 @@ enum { THREADS = 16, MOST = 1000, HOT = 32, ROUNDS = 100 };
 static DEFINE_WW_CLASS(wound_wait);
 static DEFINE_WD_CLASS(wait_die);
 static struct ww_class *c;
-/* The numbers of so many mutexes, each below the range. */
+/* The numbers of so many mutexes; each of the class is below the range. */
 static uint32_t *numbers, size, range, takes;
 /* budget: how often a thread takes a mutex in a storm */
 static unsigned long budget = 20000, *counters, *added, backs;
@@ -22,10 +22,10 @@ static void opens(struct ww_class *class_, uint32_t mutexes)
 {
 	c = class_;
 	size = mutexes;
-	range = 4 * size;
+	range = 16 * size;
 	MUST(!ww_class_limit(c, size, THREADS) && (numbers = calloc(size, sizeof *numbers)));
 	for (uint32_t k = 0; k < size; k++)
-		MUST(!ww_number_take(&numbers[k], c) && numbers[k] < range);
+		MUST(!ww_number_take(&numbers[k], c) && numbers[k] < 4 * size);
 }
 
 static void closes(void)
