@@ -700,6 +700,7 @@ static void readers_take_mutexes_of_the_class(void)
 {
 	struct ww_class few;
 	struct ww_shared_mutex only;
+	struct ww_mutex other;
 
 	ww_class_init(&few, 0, "few");
 	MUST(!ww_class_limit(&few, 1, 1) && !ww_shared_mutex_init_checked(&only, &few));
@@ -713,7 +714,7 @@ static void readers_take_mutexes_of_the_class(void)
 	MUST(!ww_class_limit(&few, 2, 1) && !ww_shared_mutex_init_checked(&only, &few));
 	for (unsigned k = 0; k < 3; k++) {
 		ww_acquire_init(&x, &few);
-		MUST(!reads(&only, &x) && ww_class_free(&few) == -EBUSY);
+		MUST(!reads(&only, &x) && ww_class_free(&few) == -EBUSY && ww_mutex_init_checked(&other, &few) == -ENOSPC);
 		unlocks(&only, &x);
 		ww_acquire_fini(&x);
 	}
