@@ -19,8 +19,8 @@ enum { MANY_MUTEXES = 65536, IN_A_LINE = 4, LINE = 64, APART = 1024 };
 #define WW_LARGE 16384
 #endif
 /*
- * There are so many lines for each of those: with one, 37 in a hundred mutexes at random addresses would find theirs taken, and
- * with four 12.  And so many are enough for 65 locks, which a world has at least.
+ * There are so many lines for each of those: with one, half of the mutexes at random addresses would find theirs taken, and with
+ * four an eighth.  And so many are enough for 65 locks, which a world has at least.
  */
 enum { SPARE_LINES = 4, LEAST_LINES = 17 };
 /* All numbers of a line; and how many lines have their bits in a word of `used`. */
