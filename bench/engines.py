@@ -1,4 +1,4 @@
-"""What bench/c and bench/loads share: programs, built of a source with `engines.hpp`, and tables of their goes."""
+"""What bench/c and bench/score share: programs, built of a source with `engines.hpp`, and tables of their goes."""
 import os
 import statistics
 import subprocess
@@ -21,8 +21,9 @@ class Engine(NamedTuple):
     name: str
 
 
-def told_by(words):
-    done = subprocess.run(words, stdout=subprocess.PIPE, text=True, check=False, timeout=600)
+def told_by(words, apart=False):
+    """What a program prints; apart: in a session of its own."""
+    done = subprocess.run(words, stdout=subprocess.PIPE, text=True, check=False, timeout=600, start_new_session=apart)
     if done.returncode != 0:
         sys.exit(f"{os.path.basename(sys.argv[0])}: status {done.returncode}: {' '.join(words)}")
     return done.stdout
