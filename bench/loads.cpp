@@ -227,16 +227,17 @@ template <class Lock = std::mutex> struct tried {
 	}
 };
 
-// ww_mutex.h without permits, and ww_shared.h. Each thread that reads takes a number of the class.
+// ww_mutex.h without permits.
 struct without_permits : here {
-	static void open(class_ &c, int is_wait_die, unsigned mutexes, unsigned threads)
+	static void open(class_ &c, int is_wait_die, unsigned mutexes, unsigned)
 	{
 		ww_class_init(&c, is_wait_die, "bench");
-		if (ww_class_limit(&c, mutexes + threads, 0) || ww_class_crowd(&c, WW_NO_CROWD) || ww_class_open(&c))
+		if (ww_class_limit(&c, mutexes, 0) || ww_class_crowd(&c, WW_NO_CROWD) || ww_class_open(&c))
 			std::exit(cant_open);
 	}
 };
 
+// ww_shared.h. Each thread that reads takes a number of the class.
 template <class Of> struct shared : Of {
 	using mutex = ww_shared_mutex;
 
