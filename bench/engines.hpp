@@ -264,7 +264,8 @@ struct by_loop {
 	}
 
 	// How often it began anew, or that it gave up.
-	template <class Lock, class Fn> static unsigned acquire(ww_acquire_ctx &x, nodes<Lock> &all, const list &it, Fn &fn)
+	template <class Lock, class Fn>
+	static unsigned acquire(ww_acquire_ctx &x, nodes<Lock> &all, const list &it, Fn &fn)
 	{
 		unsigned tries = 0;
 

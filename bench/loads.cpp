@@ -110,7 +110,7 @@ unsigned draw_one(unsigned k, drawing &by)
 	return load.hot + by.below(load.locks - load.hot);
 }
 
-// The lists of a thread. Those that aren't long are drawn beforehand, since drawing takes longer than many a transaction.
+// The lists of a thread. Short ones are drawn beforehand, since drawing takes longer than many a transaction.
 class alignas(128) lists {
 	static constexpr unsigned all_threads = 65536, most = 1024, least = 16;
 	unsigned me, next = 0;
@@ -479,9 +479,12 @@ int main(int count, char **words)
 	asked by(words + 2, words + count);
 
 	now = { by.whole("threads", 1), by.whole("takes", 1), by.real("seconds", 1), by.whole("reads") };
-	load = { by.whole("tasks"), by.whole("locks", 1), by.whole("hot"),   by.whole("ring"), by.whole("long"), by.whole("often"),
-		 by.whole("work"),  by.whole("sleep"),	  by.whole("rest"), by.whole("marks"), by.real("skew"), 0 };
-	if (!by.were_all() || std::max(now.takes, load.longer) > std::min(most_taken, load.locks) || load.hot >= load.locks)
+	load = { by.whole("tasks"), by.whole("locks", 1), by.whole("hot"),   by.whole("ring"), by.whole("long"),
+		 by.whole("often"), by.whole("work"),     by.whole("sleep"), by.whole("rest"), by.whole("marks"),
+		 by.real("skew"),   0 };
+	const unsigned longest = std::max(now.takes, load.longer);
+
+	if (!by.were_all() || longest > std::min(most_taken, load.locks) || load.hot >= load.locks)
 		return wrong_words;
 	if (load.skew > 0)
 		law.emplace(load.locks, load.skew);

@@ -59,7 +59,10 @@ template <ww_kind kind, bool is_unlimited = false> class polled {
 	ww_class its;
 	nodes<ww_mutex> &all;
 
-	static void wake(void *loop, void *task) { static_cast<event_loop *>(loop)->wake(*static_cast<polling *>(task)); }
+	static void wake(void *loop, void *task)
+	{
+		static_cast<event_loop *>(loop)->wake(*static_cast<polling *>(task));
+	}
 	bool has_begun(polling &task, const ww_waker &waker)
 	{
 		if (task.has_begun)
