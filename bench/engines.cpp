@@ -127,6 +127,7 @@ void draw(unsigned me, unsigned &x, list &it)
 {
 	const unsigned first = first_of(me);
 
+	it.count = now.takes;
 	if (now.takes == load.locks) {
 		for (unsigned k = 0; k < now.takes; k++)
 			it[k] = first + (me & 1 ? load.locks - 1 - k : k);
@@ -243,7 +244,7 @@ template <class Engine> constexpr named as(const char *name) { return { name, go
 constexpr named engines[]{
 	as<nothing>("nothing"),
 	as<one_mutex>("one mutex"),
-	as<sorted_mutexes>("sorted"),
+	as<sorted_mutexes<>>("sorted"),
 	as<scoped_lock>("scoped_lock"),
 	as<numbered<wound_wait>>("numbered wound-wait"),
 	as<numbered<wait_die>>("numbered wait-die"),
@@ -303,12 +304,12 @@ int main(int count, char **words)
 	if (what == "go" && count == 10) {
 		const std::string_view how = words[9];
 
-		now = { number(words[3]), number(words[4]), std::atof(words[6]) };
+		now = { number(words[3]), number(words[4]), std::atof(words[6]), 0 };
 		load = { number(words[5]), number(words[7]), number(words[8]), how.find('t') != how.npos,
 			 how.find('a') != how.npos };
 		engine_of(engines, words[2]).go();
 	} else if (what == "contexts" && count == 6) {
-		now = { 1, number(words[3]), 0 };
+		now = { 1, number(words[3]), 0, 0 };
 		load = { number(words[4]), 0, 0, false, false };
 		engine_of(engines, words[2]).contexts(number(words[5]));
 	} else if (what == "open" && count == 4) {

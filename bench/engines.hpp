@@ -3,8 +3,10 @@
  * threads that do so for a time.
  *
  * An engine's `transact` calls fn(k) once it has the lock of number k in the list, if fn
- * takes a number; and fn() once it has all. It returns how often it began anew. A peer is
- * another implementation of wound/wait mutexes, which peer.h has as `struct here` below.
+ * takes a number; and fn() once it has all. It returns how often it began anew, or
+ * `given_up`, with nothing held and no fn() called, if fn(k) returned false; only engines
+ * that may begin anew ask for that. A peer is another implementation of wound/wait mutexes,
+ * which peer.h has as `struct here` below.
  */
 #pragma once
 #include <algorithm>
@@ -16,12 +18,14 @@
 #include <cstdlib>
 #include <mutex>
 #include <pthread.h>
+#include <shared_mutex>
 #include <string_view>
 #include <thread>
 #include <type_traits>
 #include <utility>
 #include <vector>
 #include <ww_mutex.h>
+#include <ww_shared.h>
 #include <ww_steps.h>
 #if __has_include(<peer.h>)
 #include <peer.h>
@@ -31,16 +35,28 @@
 namespace bench {
 
 using steady = std::chrono::steady_clock;
-constexpr unsigned most_taken = 32, none = ~0u;
+constexpr unsigned most_taken = 1024, none = ~0u, given_up = ~0u;
 constexpr auto relaxed = std::memory_order_relaxed;
 constexpr ww_kind wound_wait = WW_WOUND_WAIT, wait_die = WW_WAIT_DIE;
-using list = std::array<unsigned, most_taken>;
 
-// Each of so many threads takes so many locks, for so long.
+// Each of so many threads takes so many locks, for so long; of a hundred it only reads so many.
 inline struct {
 	unsigned threads, takes;
 	double seconds;
+	unsigned reads;
 } now;
+
+// What a transaction takes. What of it is only read is drawn by the seed, so it stays the same in another order.
+struct list {
+	unsigned count, seed = 0;
+	std::array<unsigned, most_taken> of;
+
+	unsigned &operator[](unsigned k) { return of[k]; }
+	const unsigned &operator[](unsigned k) const { return of[k]; }
+	auto begin() { return of.begin(); }
+	auto end() { return of.begin() + count; }
+	bool reads(unsigned lock) const { return now.reads && ((lock ^ seed) * 2654435761u >> 16) % 100 < now.reads; }
+};
 
 enum status { cant_open = 1, wrong_sum, wrong_words, wrong_answer };
 
@@ -58,17 +74,32 @@ template <class Lock> struct alignas(64) node {
 template <class Lock> using nodes = std::vector<node<Lock>>;
 struct no_lock {};
 
-// A transaction has the lock of number k.
-template <class Fn> void has(Fn &fn, unsigned k)
+// A transaction has the lock of number k. Whether it goes on.
+template <class Fn> bool has(Fn &fn, unsigned k)
 {
 	if constexpr (std::is_invocable_v<Fn &, unsigned>)
-		fn(k);
+		return fn(k);
+	return true;
 }
 
-template <class Fn> void has_each(Fn &fn)
+template <class Fn> void has_each(Fn &fn, const list &it)
 {
-	for (unsigned k = 0; k < now.takes; k++)
+	for (unsigned k = 0; k < it.count; k++)
 		has(fn, k);
+}
+
+// A mutex of the standard's, or a shared one.
+inline void acquire(std::mutex &m, bool) { m.lock(); }
+inline bool tries(std::mutex &m, bool) { return m.try_lock(); }
+inline void release(std::mutex &m, bool) { m.unlock(); }
+inline void acquire(std::shared_mutex &m, bool reads) { reads ? m.lock_shared() : m.lock(); }
+inline bool tries(std::shared_mutex &m, bool reads) { return reads ? m.try_lock_shared() : m.try_lock(); }
+inline void release(std::shared_mutex &m, bool reads) { reads ? m.unlock_shared() : m.unlock(); }
+
+template <class Lock> void release_all(nodes<Lock> &all, const list &it, unsigned count)
+{
+	while (count-- > 0)
+		release(all[it[count]].lock, it.reads(it[count]));
 }
 
 struct nothing {
@@ -77,9 +108,9 @@ struct nothing {
 	struct thread {
 		thread(nothing &, unsigned) {}
 	};
-	template <class Fn> unsigned transact(thread &, nodes<lock> &, list &, Fn &&fn)
+	template <class Fn> unsigned transact(thread &, nodes<lock> &, list &it, Fn &&fn)
 	{
-		has_each(fn);
+		has_each(fn, it);
 		fn();
 		return 0;
 	}
@@ -94,32 +125,31 @@ public:
 	struct thread {
 		thread(one_mutex &, unsigned) {}
 	};
-	template <class Fn> unsigned transact(thread &, nodes<lock> &, list &, Fn &&fn)
+	template <class Fn> unsigned transact(thread &, nodes<lock> &, list &it, Fn &&fn)
 	{
 		std::lock_guard held(mutex);
 
-		has_each(fn);
+		has_each(fn, it);
 		fn();
 		return 0;
 	}
 };
 
-struct sorted_mutexes {
-	using lock = std::mutex;
+template <class Lock = std::mutex> struct sorted_mutexes {
+	using lock = Lock;
 	explicit sorted_mutexes(nodes<lock> &) {}
 	struct thread {
 		thread(sorted_mutexes &, unsigned) {}
 	};
 	template <class Fn> unsigned transact(thread &, nodes<lock> &all, list &it, Fn &&fn)
 	{
-		std::sort(it.begin(), it.begin() + now.takes);
-		for (unsigned k = 0; k < now.takes; k++) {
-			all[it[k]].lock.lock();
+		std::sort(it.begin(), it.end());
+		for (unsigned k = 0; k < it.count; k++) {
+			acquire(all[it[k]].lock, it.reads(it[k]));
 			has(fn, k);
 		}
 		fn();
-		for (unsigned k = now.takes; k-- > 0;)
-			all[it[k]].lock.unlock();
+		release_all(all, it, it.count);
 		return 0;
 	}
 };
@@ -130,7 +160,7 @@ class scoped_lock {
 	{
 		std::scoped_lock held(all[it[Index]].lock...);
 
-		has_each(fn);
+		has_each(fn, it);
 		fn();
 		return 0;
 	}
@@ -144,7 +174,7 @@ public:
 	// How many mutexes it takes is fixed as it is compiled.
 	template <class Fn> unsigned transact(thread &, nodes<lock> &all, list &it, Fn &&fn)
 	{
-		switch (now.takes) {
+		switch (it.count) {
 		case 1: return by(all, it, fn, std::make_index_sequence<1>());
 		case 2: return by(all, it, fn, std::make_index_sequence<2>());
 		case 4: return by(all, it, fn, std::make_index_sequence<4>());
@@ -194,27 +224,31 @@ struct plainly {
 
 			if (slow != none)
 				Of::lock_slow(all[slow].lock, x);
-			for (; k < now.takes && !answer; k++) {
+			for (; k < it.count; k++) {
 				if (it[k] != slow)
 					answer = Of::lock(all[it[k]].lock, x);
-				if (!answer)
-					has(fn, k);
+				if (answer || !has(fn, k))
+					break;
 			}
-			if (!answer)
+			if (k == it.count)
 				break;
-			if (answer != -EDEADLK)
-				std::exit(wrong_answer);
-			const unsigned contended = it[--k];
+			const unsigned contended = it[k];
 
-			while (k-- > 0)
-				if (it[k] != slow)
-					Of::unlock(all[it[k]].lock);
+			for (unsigned held = k + !answer; held-- > 0;)
+				if (it[held] != slow)
+					Of::unlock(all[it[held]].lock);
 			if (slow != none)
 				Of::unlock(all[slow].lock);
+			if (!answer) {
+				Of::end(x);
+				return given_up;
+			}
+			if (answer != -EDEADLK)
+				std::exit(wrong_answer);
 			slow = contended;
 		}
 		fn();
-		for (unsigned k = now.takes; k-- > 0;)
+		for (unsigned k = it.count; k-- > 0;)
 			Of::unlock(all[it[k]].lock);
 		Of::end(x);
 		return again;
@@ -223,31 +257,42 @@ struct plainly {
 
 // The loop that backs off by itself.
 struct by_loop {
-	template <class Fn> static unsigned acquire(ww_acquire_ctx &x, nodes<ww_mutex> &all, const list &it, Fn &fn)
+	static int lock(ww_mutex &m, ww_acquire_ctx &x, bool) { return ww_mutex_lock(&m, &x); }
+	static int lock(ww_shared_mutex &m, ww_acquire_ctx &x, bool reads)
+	{
+		return reads ? ww_shared_mutex_lock_shared(&m, &x) : ww_shared_mutex_lock(&m, &x);
+	}
+
+	// How often it began anew, or that it gave up.
+	template <class Lock, class Fn>
+	static unsigned acquire(ww_acquire_ctx &x, nodes<Lock> &all, const list &it, Fn &fn)
 	{
 		unsigned tries = 0;
 
 		ww_until_all_locked(&x) {
 			tries++;
-			for (unsigned k = 0; k < now.takes; k++) {
-				const int answer = ww_mutex_lock(&all[it[k]].lock, &x);
+			for (unsigned k = 0; k < it.count; k++) {
+				const int answer = lock(all[it[k]].lock, x, it.reads(it[k]));
 
 				ww_retry_on_contention(&x);
 				if (answer)
 					std::exit(wrong_answer);
-				has(fn, k);
+				if (!has(fn, k))
+					return given_up;
 			}
 		}
 		return tries - 1;
 	}
 
-	template <class, class Fn> static unsigned transact(ww_class &c, nodes<ww_mutex> &all, list &it, Fn &&fn)
+	template <class Of, class Fn>
+	static unsigned transact(ww_class &c, nodes<typename Of::mutex> &all, const list &it, Fn &&fn)
 	{
 		ww_acquire_ctx x;
 
 		ww_acquire_init(&x, &c);
 		const unsigned again = acquire(x, all, it, fn);
-		fn();
+		if (again != given_up)
+			fn();
 		ww_acquire_unlock_all(&x);
 		ww_acquire_fini(&x);
 		return again;
@@ -317,8 +362,14 @@ inline void goes_first()
 	must(pthread_setschedparam(pthread_self(), policy, &its));
 }
 
-// All threads, each with its number, until `stops`; and how long that was.
-template <class Fn> std::chrono::nanoseconds run_threads(Fn &&work)
+inline void wait_for_time(steady::time_point from)
+{
+	std::this_thread::sleep_until(from + std::chrono::duration<double>(now.seconds));
+}
+
+// All threads, each with its number, until the one that keeps the time returns; and how long that was.
+template <class Fn, class Watch = void (*)(steady::time_point)>
+std::chrono::nanoseconds run_threads(Fn &&work, Watch &&watch = wait_for_time)
 {
 	std::vector<std::thread> threads;
 	pthread_barrier_t start;
@@ -332,7 +383,7 @@ template <class Fn> std::chrono::nanoseconds run_threads(Fn &&work)
 	goes_first();
 	pthread_barrier_wait(&start);
 	const auto from = steady::now();
-	std::this_thread::sleep_for(std::chrono::duration<double>(now.seconds));
+	watch(from);
 	stops = true;
 	const std::chrono::nanoseconds took = steady::now() - from;
 	for (auto &it : threads)

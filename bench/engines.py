@@ -1,4 +1,4 @@
-"""What bench/c and bench/loads share: programs, built of a source with `engines.hpp`, and tables of their goes."""
+"""What bench/c and bench/score share: programs, built of a source with `engines.hpp`, and tables of their goes."""
 import os
 import statistics
 import subprocess
@@ -21,11 +21,25 @@ class Engine(NamedTuple):
     name: str
 
 
-def told_by(words):
-    done = subprocess.run(words, stdout=subprocess.PIPE, text=True, check=False, timeout=600)
+def told_by(words, seconds=600, apart=False):
+    """What a program prints, which ends within so many seconds; apart: in a session of its own."""
+    me, go = os.path.basename(sys.argv[0]), " ".join(words)
+    try:
+        done = subprocess.run(words, stdout=subprocess.PIPE, text=True, check=False, timeout=seconds, start_new_session=apart)
+    except subprocess.TimeoutExpired:
+        sys.exit(f"{me}: it hasn't ended after {seconds} s: {go}")
     if done.returncode != 0:
-        sys.exit(f"{os.path.basename(sys.argv[0])}: status {done.returncode}: {' '.join(words)}")
+        sys.exit(f"{me}: status {done.returncode}: {go}")
     return done.stdout
+
+
+def build(source, program, peer=None, library=LIBRARY, headers=None):
+    """A program, of a source of bench/ over the library, whose headers lie one folder above it, and the peer in a folder."""
+    folders = [headers or os.path.dirname(os.path.dirname(library)), *([peer] if peer else [])]
+    flags = ["-std=c++17", "-O2", "-Wall", "-Wextra", "-Wpedantic", *[f"-I{it}" for it in folders]]
+    libraries = [library, os.path.join(peer, "libpeer.a")] if peer else [library]
+    subprocess.run(["c++", *flags, os.path.join(TOP, "bench", source), *libraries, "-pthread", "-o", program], check=True)
+    return program
 
 
 class Built:
@@ -34,21 +48,11 @@ class Built:
     def __init__(self, source, folder, peers):
         if not os.path.exists(LIBRARY):
             sys.exit(f"{os.path.basename(sys.argv[0])}: first ./build c")
-        self.source, self.folder = source, folder
         self.peers = []
         for number, peer in enumerate(peers):
-            program = self.build(f"peer{number}", [f"-I{peer}"], [os.path.join(peer, "libpeer.a")])
+            program = build(source, os.path.join(folder, f"peer{number}"), peer)
             self.peers.append((told_by([program, PEER]).strip(), program))
-        self.mine = self.build("mine")
-
-    def build(self, name, includes=(), libraries=(), library=LIBRARY):
-        """A program of this name, over the library, whose headers lie one folder above it."""
-        program = os.path.join(self.folder, name)
-        headers = os.path.dirname(os.path.dirname(library))
-        flags = ["-std=c++17", "-O2", "-Wall", "-Wextra", "-Wpedantic", f"-I{headers}", *includes]
-        source = os.path.join(TOP, "bench", self.source)
-        subprocess.run(["c++", *flags, source, library, *libraries, "-pthread", "-o", program], check=True)
-        return program
+        self.mine = build(source, os.path.join(folder, "mine"))
 
     def in_both(self, name, program=None):
         return [Engine(program or self.mine, f"{name} {kind}") for kind in KINDS]

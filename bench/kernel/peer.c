@@ -1,5 +1,5 @@
 /*
- * peer.c - the kernel's wound/wait mutexes as a peer of bench/c and bench/loads, in one source with the stand-ins for the rest of
+ * peer.c - the kernel's wound/wait mutexes as a peer of bench/c and bench/score, in one source with the stand-ins for the rest of
  * the kernel.  bench/kernel_peer takes the kernel's files from a package, and makes empty ones of all other headers.
  */
 #include "standins.h"
