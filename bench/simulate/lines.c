@@ -46,7 +46,7 @@ void open_lines(void)
 static void take_time(int64_t time, enum spent on)
 {
 	me()->clock += time;
-	me()->counted.spent[on] += time;
+	self->counted.spent[on] += time;
 }
 
 static void await_stores(void)
@@ -132,7 +132,7 @@ static void access_anothers(struct line *line, uint32_t number, enum access kind
 	int64_t time = transfer(line, kind != READ, from);
 
 	cache(number);
-	me()->counted.transfers++;
+	self->counted.transfers++;
 	if (me()->clock > counts_from) {
 		line->transfers++;
 		line->queued += queued;
@@ -191,6 +191,8 @@ void access_memory(uintptr_t at, uint32_t code)
 
 	if (!is_running)
 		return;
+	if (me()->clock >= me()->preempts)
+		look_at_queue();
 	take_time((code >> 3) * model.instruction, INSTRUCTIONS);
 	if (kind == PAUSE) {
 		take_time(model.pause, PAUSES);

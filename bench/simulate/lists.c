@@ -9,6 +9,7 @@ static const struct load {
 	unsigned takes, of, tenths;
 	bool is_own;	/* each thread has so many of its own */
 	unsigned long_; /* how many thread 0 takes, if that is more */
+	bool is_tpcc;	/* see draw_tpcc */
 } loads[] = {
 	{ .name = "own", .takes = 2, .of = 64, .is_own = true },
 	{ .name = "2of64", .takes = 2, .of = 64 },
@@ -18,12 +19,12 @@ static const struct load {
 	{ .name = "16zipf8", .takes = 16, .of = 60000, .tenths = 8 },
 	{ .name = "4zipf9", .takes = 4, .of = 60000, .tenths = 9 },
 	{ .name = "scan", .takes = 2, .of = 4096, .long_ = 256 },
+	{ .name = "tpcc", .of = 16384, .is_tpcc = true },
 };
 
 static const struct load *load;
-static unsigned thread_count;
 static double *sums; /* of what is drawn how often, up to each lock */
-static uint64_t drawn[MOST_PROCESSORS];
+static uint64_t drawn[MOST_THREADS];
 
 /* xorshift */
 uint64_t draw_number(unsigned thread)
@@ -66,15 +67,14 @@ static void sum_up(void)
 		sums[k] = sum += 1 / root(k + 1, load->tenths);
 }
 
-bool open_lists(const char *name, unsigned threads, uint64_t seed)
+bool open_lists(const char *name, uint64_t seed)
 {
 	for (load = loads; strcmp(load->name, name); load++)
 		if (load + 1 == loads + sizeof loads / sizeof *loads)
 			return false;
-	thread_count = threads;
 	if (load->tenths)
 		sum_up();
-	for (unsigned k = 0; k < threads; k++) {
+	for (unsigned k = 0; k < thread_count; k++) {
 		drawn[k] = 0x9e3779b97f4a7c15u * (k + 7 + 1000 * seed);
 		for (unsigned n = 0; n < 20; n++)
 			draw_number(k);
@@ -116,10 +116,36 @@ static bool has(const struct list *list, unsigned lock)
 	return false;
 }
 
+/* As in TPC-C with four houses: every other transaction a payment by a customer, the rest orders of ten items of a district. */
+static void draw_tpcc(struct list *list, unsigned thread)
+{
+	enum { HOUSES = 4, DISTRICTS = 40, CUSTOMERS = 4096, ITEMS = 10 };
+	unsigned district = (unsigned)(draw_number(thread) % DISTRICTS), first_item = HOUSES + DISTRICTS + CUSTOMERS;
+
+	list->count = 0;
+	if (draw_number(thread) % 2) {
+		list->at[list->count++] = district % HOUSES;
+		list->at[list->count++] = HOUSES + district;
+		list->at[list->count++] = HOUSES + DISTRICTS + (unsigned)(draw_number(thread) % CUSTOMERS);
+		return;
+	}
+	list->at[list->count++] = HOUSES + district;
+	while (list->count <= ITEMS) {
+		unsigned item = first_item + (unsigned)(draw_number(thread) % (load->of - first_item));
+
+		if (!has(list, item))
+			list->at[list->count++] = item;
+	}
+}
+
 void draw_list(struct list *list, unsigned thread)
 {
 	unsigned takes = thread == 0 && load->long_ ? load->long_ : load->takes;
 
+	if (load->is_tpcc) {
+		draw_tpcc(list, thread);
+		return;
+	}
 	list->count = 0;
 	while (list->count < takes) {
 		unsigned lock = draw_lock(thread);

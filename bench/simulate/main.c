@@ -1,7 +1,9 @@
 /*
  * main.c - simulate ENGINE LOAD PROCESSORS [MICROSECONDS TO WAKE] [NAME=NUMBER]...: makes transactions by so many processors, and
  * prints how many.  A name is one of the model's (numbers.h), in nanoseconds; or `us`, for how many microseconds it counts, after
- * `warm` others; or `seed`, of the drawn lists; or `lines`: with 1 it prints what was transferred, too.
+ * `warm` others; or `threads`, as many as processors unless said; or `work`, for how many nanoseconds each works after each lock,
+ * or `nap`, how many it sleeps while it holds all; or `seed`, of the drawn lists; or `crowds`: with 0 the class has none; or `lines`:
+ * with 1 it prints what was transferred, too.
  */
 #include "simulate.h"
 #include <stdio.h>
@@ -11,21 +13,23 @@
 #define VALUE(name, value, source) .name = value,
 struct model model = { NUMBERS(VALUE) };
 
-static double us = 3000, warm = 500, seed = 0, lines = 0;
+static double us = 3000, warm = 500, many = 0, works_for = 0, naps_for = 0, seed = 0, crowds = 1, lines = 0;
+int64_t works, naps;
+bool has_crowds;
 
 void is_done(unsigned retries)
 {
-	struct processor *it = me();
+	int64_t clock = me()->clock;
 
-	if (it->began <= counts_from && it->clock > counts_from)
-		it->counted = (struct counted){ 0 };
-	if (it->clock > counts_from && it->clock <= ends_at) {
-		it->counted.done++;
-		it->counted.retries += retries;
+	if (self->began <= counts_from && clock > counts_from)
+		self->counted = (struct counted){ 0 };
+	if (clock > counts_from && clock <= ends_at) {
+		self->counted.done++;
+		self->counted.retries += retries;
 	}
-	if (it->clock > counts_from && it->clock - it->began > it->counted.longest)
-		it->counted.longest = it->clock - it->began;
-	it->began = it->clock;
+	if (clock > counts_from && clock - self->began > self->counted.longest)
+		self->counted.longest = clock - self->began;
+	self->began = clock;
 }
 
 bool is_over(void) { return me()->clock >= ends_at; }
@@ -52,7 +56,8 @@ static bool set_option(const char *word)
 	const struct {
 		const char *name;
 		double *option;
-	} options[] = { { "us", &us }, { "warm", &warm }, { "seed", &seed }, { "lines", &lines } };
+	} options[] = { { "us", &us },		{ "warm", &warm }, { "threads", &many },    { "work", &works_for },
+			{ "nap", &naps_for },	{ "seed", &seed }, { "crowds", &crowds },   { "lines", &lines } };
 
 	for (unsigned k = 0; k < sizeof options / sizeof *options; k++)
 		if (is_named(word, options[k].name)) {
@@ -92,6 +97,12 @@ static void read_words(int count, char **words)
 	for (int k = 4; k < count; k++)
 		if (!set_wake(words[k]) && !set_option(words[k]) && !set_number(words[k]))
 			refuse("a number has no such name");
+	thread_count = many ? (unsigned)many : processor_count;
+	if (thread_count < processor_count || thread_count > MOST_THREADS)
+		refuse("there are at most 1024 threads, and no fewer than processors");
+	works = (int64_t)(1e3 * works_for);
+	naps = (int64_t)(1e3 * naps_for);
+	has_crowds = crowds;
 	counts_from = (int64_t)(warm * 1e6);
 	ends_at = counts_from + (int64_t)(us * 1e6);
 }
@@ -102,7 +113,7 @@ static struct counted sum(void)
 {
 	struct counted all = { 0 };
 
-	for (struct processor *it = processors; it < processors + processor_count; it++) {
+	for (struct thread *it = threads; it < threads + thread_count; it++) {
 		all.done += it->counted.done;
 		all.retries += it->counted.retries;
 		all.transfers += it->counted.transfers;
@@ -120,32 +131,43 @@ static uint64_t least(void)
 {
 	uint64_t least = UINT64_MAX;
 
-	for (unsigned k = 0; k < processor_count; k++)
-		if (processors[k].counted.done < least)
-			least = processors[k].counted.done;
+	for (unsigned k = 0; k < thread_count; k++)
+		if (threads[k].counted.done < least)
+			least = threads[k].counted.done;
 	return least;
 }
 
+static void print_share(const char *name, int64_t part, int64_t of)
+{
+	if (200 * part > of)
+		printf(", %s %.0f%%", name, 100.0 * (double)part / (double)of);
+}
+
+/* Of the threads' time, and then of that in which they have a processor. */
 static void print_spent(const struct counted *all)
 {
-	static const char *const names[SPENT] = { "instructions", "own lines", "caches", "transfers", "queues", "locked",
-						  "pauses",	  "sleep",     "yields", "system",    "drawing" };
-	int64_t total = 0;
+	static const char *const names[SPENT] = { "instructions", "own lines", "caches", "transfers", "queues", "locked",	     "pauses",
+						  "yields",	  "system",    "drawing", "work",     "asleep", "without a processor" };
+	int64_t total = 0, ran = 0;
 
-	for (unsigned k = 0; k < SPENT; k++)
+	for (unsigned k = 0; k < SPENT; k++) {
 		total += all->spent[k];
-	for (unsigned k = 0; k < SPENT; k++)
-		if (200 * all->spent[k] > total)
-			printf(", %s %.0f%%", names[k], 100.0 * (double)all->spent[k] / (double)total);
+		ran += k < SLEEPS ? all->spent[k] : 0;
+	}
+	for (unsigned k = SLEEPS; k < SPENT; k++)
+		print_share(names[k], all->spent[k], total);
+	fputs("; else", stdout);
+	for (unsigned k = 0; k < SLEEPS; k++)
+		print_share(names[k], all->spent[k], ran);
 }
 
 static void print(const struct counted *all)
 {
 	double done = all->done ? (double)all->done : 1;
 
-	printf("%.3f million/s; each: %.3f retries, %.2f transfers, %.3f sleeps, %.2f yields; least/mean %.2f; longest %.0f us", (double)all->done / us,
+	printf("%.6f million/s; each: %.3f retries, %.2f transfers, %.3f sleeps, %.2f yields; least/mean %.2f; longest %.0f us", (double)all->done / us,
 	       (double)all->retries / done, (double)all->transfers / done, (double)all->sleeps / done, (double)all->yields / done,
-	       (double)(least() * processor_count) / done, (double)all->longest / 1e6);
+	       (double)(least() * thread_count) / done, (double)all->longest / 1e6);
 	print_spent(all);
 	puts("");
 }
@@ -161,32 +183,26 @@ static void print_lines(double done)
 			       (double)it->queued / 1e3 / (double)it->count, it->name);
 }
 
-static bool is_stuck(void)
-{
-	for (unsigned k = 0; k < processor_count; k++)
-		if (!processors[k].ended)
-			return true;
-	return false;
-}
-
 int main(int count, char **words)
 {
 	struct counted all;
+	bool ends;
 
 	read_words(count, words);
 	processors = calloc(processor_count, sizeof *processors);
+	threads = calloc(thread_count, sizeof *threads);
 	open_arena();
 	open_lines();
-	if (!open_lists(words[2], processor_count, (uint64_t)seed))
+	if (!open_lists(words[2], (uint64_t)seed))
 		refuse("there is no such load");
 	if (!open_engine(words[1]))
 		refuse("there is no such engine");
-	run_all();
+	ends = run_all();
 	all = sum();
 	print(&all);
 	if (lines)
 		print_lines(all.done ? (double)all.done : 1);
-	if (is_stuck())
+	if (!ends)
 		refuse("some threads sleep forever");
 	return 0;
 }

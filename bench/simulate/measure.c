@@ -9,6 +9,7 @@
 #include <stdint.h>
 #include <stdio.h>
 #include <stdlib.h>
+#include <sys/resource.h>
 #include <sys/syscall.h>
 #include <time.h>
 #include <unistd.h>
@@ -69,6 +70,14 @@ static void yields(unsigned times)
 		sched_yield();
 }
 
+static void usages(unsigned times)
+{
+	struct rusage used;
+
+	for (unsigned k = 0; k < times; k++)
+		getrusage(RUSAGE_THREAD, &used);
+}
+
 static void looks(unsigned times)
 {
 	for (unsigned k = 0; k < times; k++)
@@ -125,6 +134,16 @@ static void *other(void *unused)
 		if (is != MINE)
 			__atomic_store_n(&turn, MINE, __ATOMIC_SEQ_CST);
 	}
+	return unused;
+}
+
+/* It has the processor of who measures, and yields it. */
+static uint32_t is_beside;
+static void *beside(void *unused)
+{
+	run_on(0);
+	while (__atomic_load_n(&is_beside, __ATOMIC_SEQ_CST))
+		sched_yield();
 	return unused;
 }
 
@@ -196,15 +215,32 @@ static void measure_wakes(void)
 	printf("futex_wake %.0f\nwake %.0f\n", median(calls), median(wakes));
 }
 
+/* A yield to the other thread takes two changes, as that yields back. */
+static double measure_switch(double yield)
+{
+	pthread_t thread;
+	double both;
+
+	is_beside = 1;
+	if (pthread_create(&thread, NULL, beside, NULL))
+		exit(1);
+	both = measure(NULL, yields, 1000);
+	__atomic_store_n(&is_beside, 0, __ATOMIC_SEQ_CST);
+	pthread_join(thread, NULL);
+	return both / 2 - yield;
+}
+
 int main(void)
 {
 	pthread_t thread;
-	double own;
+	double own, yield;
 
 	run_on(0);
 	own = measure(NULL, locks, 500);
 	printf("pause %.2f\nlocked %.2f\n", measure(NULL, pauses, 500), own);
-	printf("clock_read %.1f\nyield %.0f\n", measure(NULL, clocks, 500), measure(NULL, yields, 4));
+	yield = measure(NULL, yields, 4);
+	printf("clock_read %.1f\nyield %.0f\ncontext_switch %.0f\n", measure(NULL, clocks, 500), yield, measure_switch(yield));
+	printf("usage_read %.0f\n", measure(NULL, usages, 100));
 	printf("futex_look %.0f\nfutex_nobody %.0f\n", measure(NULL, looks, 100), measure(NULL, wakes_nobody, 100));
 	if (pthread_create(&thread, NULL, other, NULL))
 		return 1;

@@ -26,6 +26,10 @@
 	number(futex_nobody, 135000, "measured: the call that finds nobody") \
 	number(wake, 50000000, "assumed: from a wake-up, or a sleep's time, until the thread runs, on a processor in deep sleep; measured: 5 us") \
 	number(mutex_call, 12000, "fitted: a call of a libc mutex besides its locked instruction; two locks take one thread 105 ns") \
+	number(context_switch, 1000000, "rounded up from .84 us, measured on a later processor: from one thread to the next") \
+	number(slice, 3000000000, "assumed: after so long another thread's turn comes; Linux has .7 to 6 ms") \
+	number(slack, 50000000, "Linux's timer slack: a thread that sleeps by itself sleeps for so much longer") \
+	number(usage_read, 250000, "measured on that later processor: getrusage of a thread") \
 	number(drawing, 5000, "fitted: drawing one lock of a list; without locks a list of 8 takes 56 ns") \
 	number(ahead, 300000, "how far a processor may be ahead of others where no line is shared, so that the simulation is fast")
 #endif

@@ -1,20 +1,22 @@
 /*
- * processors.c - processors in virtual time.  Each is a stack and a clock; the one with the smallest clock goes on, until its
- * clock is larger than another's.
+ * processors.c - processors in virtual time.  Each has a clock, and runs a thread, which is a stack; the one with the smallest
+ * clock goes on, until its clock is larger than another's.
  */
+#include <errno.h>
 #include "simulate.h"
 #include "ww_class.h"
 
 struct processor *processors;
-unsigned processor_count, current;
+struct thread *threads, *self;
+unsigned processor_count, thread_count, current;
 bool is_running;
 int64_t counts_from, ends_at, next_clock;
 
-/* A tree of the smaller clocks, its leaves from MOST_PROCESSORS on; that of the current processor is NEVER_COMES. */
-static int64_t smallest[2 * MOST_PROCESSORS];
+/* Trees of the smaller times, their leaves from the middle on: clocks, that of the current processor NEVER_COMES; and timers. */
+static int64_t clocks[2 * MOST_PROCESSORS], timers[2 * MOST_THREADS];
 static void *outside;
 /* What the library has for each thread (ww_class.h), while that doesn't run. */
-static struct ww_mine kept[MOST_PROCESSORS];
+static struct ww_mine kept[MOST_THREADS];
 
 /* Saves what the caller relies on, and all vector registers, since a thread may be left before any instruction. */
 void switch_stacks(void **from, void *to);
@@ -38,51 +40,72 @@ static void copy(struct ww_mine *to, const struct ww_mine *from)
 	__asm__ volatile("rep movsq" : "+D"(to), "+S"(from), "+c"(words)::"memory");
 }
 
-static unsigned first(void)
+static inline unsigned first(const int64_t *tree, unsigned leaves)
 {
 	unsigned k = 1;
 
-	while (k < MOST_PROCESSORS)
-		k = smallest[2 * k] <= smallest[2 * k + 1] ? 2 * k : 2 * k + 1;
-	return k - MOST_PROCESSORS;
+	while (k < leaves)
+		k = tree[2 * k] <= tree[2 * k + 1] ? 2 * k : 2 * k + 1;
+	return k - leaves;
 }
 
-void set_clock(unsigned processor, int64_t clock)
+static inline void set_leaf(int64_t *tree, unsigned k, int64_t to)
 {
-	unsigned k = processor + MOST_PROCESSORS;
-
-	smallest[k] = clock;
+	tree[k] = to;
 	while (k >>= 1)
-		smallest[k] = smallest[2 * k] < smallest[2 * k + 1] ? smallest[2 * k] : smallest[2 * k + 1];
-	next_clock = smallest[1];
+		tree[k] = tree[2 * k] < tree[2 * k + 1] ? tree[2 * k] : tree[2 * k + 1];
+	next_clock = clocks[1] < timers[1] ? clocks[1] : timers[1];
 }
 
-static void go_on(unsigned next)
+void set_clock(const struct processor *processor, int64_t clock)
 {
-	unsigned was = current;
+	set_leaf(clocks, MOST_PROCESSORS + (unsigned)(processor - processors), clock);
+}
 
-	set_clock(next, NEVER_COMES);
-	if (next == was)
+void set_timer(const struct thread *thread, int64_t clock)
+{
+	set_leaf(timers, MOST_THREADS + (unsigned)(thread - threads), clock);
+}
+
+static void ring_timers(void)
+{
+	while (timers[1] != NEVER_COMES && timers[1] <= clocks[1]) {
+		struct thread *it = &threads[first(timers, MOST_THREADS)];
+		int64_t now = timers[1];
+
+		set_timer(it, NEVER_COMES);
+		is_ready(it, now, 0);
+	}
+}
+
+/* Where threads wait for a processor, the others' last transactions would take long, so none is awaited. */
+static bool has_ended(void) { return clocks[1] > (thread_count > processor_count ? ends_at : NEVER_COMES - 1); }
+
+void go_on(void)
+{
+	struct thread *was = self;
+
+	ring_timers();
+	if (has_ended())
+		switch_stacks(&was->stack, outside);
+	current = first(clocks, MOST_PROCESSORS);
+	set_clock(me(), NEVER_COMES);
+	self = me()->runs;
+	if (self == was)
 		return;
-	current = next;
-	copy(&kept[was], &ww_mine);
-	copy(&ww_mine, &kept[next]);
-	switch_stacks(&processors[was].stack, processors[next].stack);
-}
-
-void wait_until(int64_t clock)
-{
-	me()->clock = clock;
-	set_clock(current, clock);
-	if (next_clock == NEVER_COMES)
-		switch_stacks(&me()->stack, outside);
-	go_on(first());
+	was->error = errno;
+	copy(&kept[was - threads], &ww_mine);
+	copy(&ww_mine, &kept[self - threads]);
+	errno = self->error;
+	switch_stacks(&was->stack, self->stack);
 }
 
 void in_order(void)
 {
-	if (me()->clock > next_clock)
-		wait_until(me()->clock);
+	if (me()->clock > next_clock) {
+		set_clock(me(), me()->clock);
+		go_on();
+	}
 }
 
 void spend(int64_t time, enum spent on)
@@ -90,18 +113,20 @@ void spend(int64_t time, enum spent on)
 	if (!is_running)
 		return;
 	me()->clock += time;
-	me()->counted.spent[on] += time;
+	self->counted.spent[on] += time;
 	in_order();
+	if (me()->clock >= me()->preempts)
+		look_at_queue();
 }
 
 static void begin(void)
 {
-	run_engine(current);
-	me()->ended = true;
-	wait_until(NEVER_COMES);
+	run_engine((unsigned)(self - threads));
+	self->ended = true;
+	leave_processor();
 }
 
-/* Processors begin one after another, on stacks of which no two begin in the same lines of a cache. */
+/* Threads begin one after another, on stacks of which no two begin in the same lines of a cache. */
 static void prepare(unsigned k)
 {
 	enum { STACK = 1 << 18, SAVED = 256 + 6 * 8, APART = 37000 };
@@ -110,20 +135,32 @@ static void prepare(unsigned k)
 
 	*--at = NULL;
 	*--at = (void *)begin;
-	processors[k].stack = (char *)at - SAVED;
-	processors[k].clock = k * APART;
-	set_clock(k, processors[k].clock);
+	threads[k].stack = (char *)at - SAVED;
+	threads[k].on = &processors[k % processor_count];
+	is_ready(&threads[k], k * APART, 0);
 }
 
-void run_all(void)
+static bool all_have_ended(void)
+{
+	for (unsigned k = 0; k < thread_count; k++)
+		if (!threads[k].ended)
+			return false;
+	return true;
+}
+
+bool run_all(void)
 {
 	for (unsigned k = 0; k < 2 * MOST_PROCESSORS; k++)
-		smallest[k] = NEVER_COMES;
-	for (unsigned k = 0; k < processor_count; k++)
+		clocks[k] = NEVER_COMES;
+	for (unsigned k = 0; k < 2 * MOST_THREADS; k++)
+		timers[k] = NEVER_COMES;
+	for (unsigned k = 0; k < thread_count; k++)
 		prepare(k);
 	is_running = true;
-	current = first();
-	set_clock(current, NEVER_COMES);
-	switch_stacks(&outside, processors[current].stack);
+	current = first(clocks, MOST_PROCESSORS);
+	set_clock(me(), NEVER_COMES);
+	self = me()->runs;
+	switch_stacks(&outside, self->stack);
 	is_running = false;
+	return clocks[1] != NEVER_COMES || all_have_ended();
 }

@@ -1,6 +1,6 @@
 /*
- * system.c - what the library asks of the system and of libc, in virtual time: futexes, clocks, processors, and memory that lies
- * at the same addresses in each run.  `make` puts these in the place of the real ones in what the library calls.
+ * system.c - what the library asks of the system and of libc, in virtual time: futexes, clocks, processors, what a thread used, and
+ * memory that lies at the same addresses in each run.  `make` puts these in the place of the real ones in what the library calls.
  */
 #define _GNU_SOURCE
 #include <errno.h>
@@ -12,6 +12,7 @@
 #include <stdio.h>
 #include <string.h>
 #include <sys/mman.h>
+#include <sys/resource.h>
 #include <sys/syscall.h>
 #include <time.h>
 
@@ -91,28 +92,32 @@ int simulated_madvise(void *at, size_t size, int advice) { return (void)at, (voi
 
 /* ---- sleeping and waking ---- */
 
-static void sleep_on(uint32_t *word, uint32_t is, int64_t until)
+/* Returns as the system call does. */
+static long sleep_on(uint32_t *word, uint32_t is, int64_t until)
 {
-	int64_t slept;
-
 	spend(model.futex_look, SYSTEM);
-	if (*word != is)
-		return;
-	slept = me()->slept = me()->clock;
-	me()->sleeps_on = word;
-	me()->until = until > slept ? until : slept;
-	me()->counted.sleeps++;
-	wait_until(until == NEVER_COMES ? NEVER_COMES : me()->until + model.wake);
-	me()->sleeps_on = NULL;
-	me()->counted.spent[SLEEPS] += me()->clock - slept;
+	if (*word != is) {
+		errno = EAGAIN;
+		return -1;
+	}
+	self->slept = me()->clock;
+	self->sleeps_on = word;
+	self->until = until > self->slept ? until : self->slept;
+	self->was_woken = false;
+	self->counted.sleeps++;
+	if (until != NEVER_COMES)
+		set_timer(self, self->until + model.wake);
+	leave_processor();
+	errno = self->was_woken ? 0 : ETIMEDOUT;
+	return self->was_woken ? 0 : -1;
 }
 
 /* The one that has slept on the word for longest, or NULL. One whose time has come isn't woken any more. */
-static struct processor *first_asleep(const uint32_t *word)
+static struct thread *first_asleep(const uint32_t *word)
 {
-	struct processor *first = NULL;
+	struct thread *first = NULL;
 
-	for (struct processor *it = processors; it < processors + processor_count; it++)
+	for (struct thread *it = threads; it < threads + thread_count; it++)
 		if (it->sleeps_on == word && it->until > me()->clock && (!first || it->slept < first->slept))
 			first = it;
 	return first;
@@ -122,16 +127,32 @@ static int wake_on(const uint32_t *word, uint32_t count)
 {
 	int woken = 0;
 
-	for (struct processor *it; count && (it = first_asleep(word)); count--) {
-		int64_t runs = me()->clock + model.wake;
-
-		it->sleeps_on = NULL;
-		it->clock = runs < it->clock ? runs : it->clock;
-		set_clock((unsigned)(it - processors), it->clock);
+	for (struct thread *it; count && (it = first_asleep(word)); count--) {
+		set_timer(it, NEVER_COMES);
+		it->was_woken = true;
+		is_ready(it, me()->clock, model.wake);
 		woken++;
 	}
 	spend(woken ? model.futex_wake : model.futex_nobody, SYSTEM);
 	return woken;
+}
+
+void nap(int64_t time)
+{
+	spend(model.futex_look, SYSTEM);
+	self->slept = me()->clock;
+	set_timer(self, self->slept + time + model.slack + model.wake);
+	leave_processor();
+}
+
+/* In parts, after each of which another thread may run. */
+void work(int64_t time)
+{
+	enum { PART = 500000 };
+
+	for (; time > PART; time -= PART)
+		spend(PART, WORK);
+	spend(time, WORK);
 }
 
 static int64_t picoseconds(const struct timespec *at)
@@ -156,10 +177,8 @@ long simulated_syscall(long number, ...)
 	if (number == SYS_futex && command == FUTEX_WAKE)
 		return wake_on(word, value);
 	if (number == SYS_futex && command == FUTEX_WAIT_BITSET)
-		sleep_on(word, value, picoseconds(until));
-	else
-		refuse("this system call isn't simulated");
-	return 0;
+		return sleep_on(word, value, picoseconds(until));
+	refuse("this system call isn't simulated");
 }
 
 /* As glibc's: 0 is free, 1 held, and 2 held while others may sleep. */
@@ -227,12 +246,14 @@ int simulated_pthread_mutex_unlock(pthread_mutex_t *mutex)
 int simulated_sched_yield(void);
 int simulated_sched_getaffinity(pid_t pid, size_t size, cpu_set_t *set);
 int simulated_clock_gettime(clockid_t id, struct timespec *now);
+int simulated_getrusage(__rusage_who_t who, struct rusage *used);
 ssize_t simulated_getrandom(void *to, size_t size, unsigned flags);
 
 int simulated_sched_yield(void)
 {
-	me()->counted.yields++;
+	self->counted.yields++;
 	spend(model.yield, YIELDS);
+	let_first_run();
 	return 0;
 }
 
@@ -254,6 +275,18 @@ int simulated_clock_gettime(clockid_t id, struct timespec *now)
 	is = is_running ? me()->clock / 1000 : 0;
 	now->tv_sec = is / 1000000000;
 	now->tv_nsec = is % 1000000000;
+	return 0;
+}
+
+/* Of all that Linux counts only how often the thread left a processor. */
+int simulated_getrusage(__rusage_who_t who, struct rusage *used)
+{
+	if (who != RUSAGE_THREAD)
+		refuse("only what a thread used is simulated");
+	spend(model.usage_read, SYSTEM);
+	memset(used, 0, sizeof *used);
+	used->ru_nvcsw = is_running ? (long)self->voluntary : 0;
+	used->ru_nivcsw = is_running ? (long)self->involuntary : 0;
 	return 0;
 }
 
