@@ -196,7 +196,7 @@ static void park(ww_seat *s, const struct ww_wait *wait)
  * number of its own in the word.  So if the exchange finds the word unchanged, the waker is that wait's, and what was
  * read relaxed was stored before.  The exchange is a driver's move `wakes`.
  */
-void ww_unpark(ww_seat *s)
+static struct ww_waker leave_token(ww_seat *s)
 {
 	uint32_t was = __atomic_load_n(&s->token, __ATOMIC_SEQ_CST);
 	struct ww_waker waker = { 0 };
@@ -208,9 +208,10 @@ void ww_unpark(ww_seat *s)
 			waker.task = __atomic_load_n(&s->waker.task, __ATOMIC_RELAXED);
 		}
 	} while (!__atomic_compare_exchange_n(&s->token, &was, TOKEN, false, __ATOMIC_SEQ_CST, __ATOMIC_SEQ_CST));
-	if (was >= ARMED)
-		waker.wake(waker.loop, waker.task);
+	return was >= ARMED ? waker : (struct ww_waker){ 0 };
 }
+
+void ww_unpark(ww_seat *s) { call_waker(leave_token(s)); }
 
 /* A driver's move `names`, and `wakes` right after it. */
 void ww_wake(ww_seat *s)
@@ -338,6 +339,16 @@ COLD int ww_go_on(ww_seat *s, struct ww_wait *wait, bool was_asleep)
 		if (r != WW_SLEEPS)
 			return r;
 	}
+}
+
+struct ww_waker ww_give_back(ww_seat *s, uint32_t lock)
+{
+	int32_t k;
+
+	if (ww_unlock_(&s->handle, lock))
+		(void)go_on_awake(s, &(struct ww_wait){ 0 });
+	k = ww_next_wake_(&s->handle);
+	return k < 0 ? (struct ww_waker){ 0 } : leave_token(&s->pool->seats[k]);
 }
 
 uint32_t ww_version(void) { return 10000 * WW_VERSION_MAJOR + 100 * WW_VERSION_MINOR + WW_VERSION_PATCH; }

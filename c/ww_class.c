@@ -180,6 +180,7 @@ static struct ww_pool *memory_of_pool(void)
 static void keep_memory(struct ww_pool *p)
 {
 	free(p->used);
+	free(p->lies_at);
 	free(p->seats);
 	p->next = freed;
 	freed = p;
@@ -253,10 +254,12 @@ static int make_pool(struct ww_class *c, uint32_t may_keep, struct ww_pool **mad
 	__atomic_store_n(&p->is_reported, false, __ATOMIC_RELAXED);
 	__atomic_store_n(&p->is_lock_reported, false, __ATOMIC_RELAXED);
 	ww_crowd_open(p);
-	p->used = calloc(p->locks / 64 + 1, sizeof *p->used);
+	p->used = calloc(2 * (p->locks / 64 + 1), sizeof *p->used);
+	p->left = p->used ? p->used + p->locks / 64 + 1 : NULL;
+	p->lies_at = calloc(p->locks, sizeof *p->lies_at);
 	p->seats = aligned_alloc(_Alignof(ww_seat), (seats_of(p) + SPARE) * sizeof *p->seats);
 	handles = calloc(seats_of(p) + SPARE, sizeof *handles);
-	r = p->used && p->seats && handles ? ww_debug_open(p) : -ENOMEM;
+	r = p->used && p->lies_at && p->seats && handles ? ww_debug_open(p) : -ENOMEM;
 	if (!r) {
 		r = open_world(p, !!c->is_wait_die, handles);
 		if (r)
@@ -359,7 +362,7 @@ static bool is_idle(struct ww_pool *p)
 static void free_desks(struct ww_pool *p)
 {
 	for (uint32_t k = 0; k < MANY_BITS; k++)
-		for (struct ww_desk *d; (d = p->desks[k]); free(d))
+		for (struct ww_desk *d; (d = p->desks[k]); free(d->memory))
 			p->desks[k] = d->next;
 	p->made = 0;
 }
@@ -387,6 +390,8 @@ int ww_class_free(struct ww_class *c)
 
 	pthread_mutex_lock(&ww_opening);
 	p = of_this_copy_alone(c->pool);
+	if (p && !p->gone)
+		ww_give_left(p);
 	if (p && !p->gone && (taken_numbers(p) || !is_idle(p))) {
 		r = -EBUSY;
 		left = ww_debug_left(p);

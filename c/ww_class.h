@@ -21,8 +21,9 @@
  *	pool		class		who opens and frees it, under `ww_opening`			free-and-use
  *	id at_hand	pool		who opens the class; a crowd's begin and end, under its lock	crowd-ends
  *	numbered	pool		who takes the first number, under `numbers`		number-again
+ *	lies_at		pool		who makes a mutex, of its number			numbers
  *	is_large	pool		who takes one, likewise					numbers
- *	taken used low	pool		who takes and gives one, likewise			numbers-4
+ *	taken used low left	pool	who takes, gives and leaves one, likewise		numbers-4
  *	kept changed	pool		who comes to keep a seat or lets one go, under `ww_opening`	kept-end-3
  *	ends_waits	pool		who cancels the class					class-cancel
  *	is_reported is_lock_reported	pool	who waits for long					mutex_leaks
@@ -40,7 +41,7 @@
  *	first next	crowd		who stands in the line, likewise				crowd-leaves
  *	is_called	in_line		itself, and who calls it, likewise				class-cancel-line
  *	awaits		seat		its user						ring
- *	readers		shared mutex	each that reads it, and who writes it: see ww_shared.c	read-write
+ *	readers_	shared mutex	each that reads it, and who writes it: see ww_shared.c	read-write
  *	marks		desk		who has it: likewise					again
  *	reads		desk		its seat's user						destroy-again
  *	desks made	pool		who makes one, under `numbers`				one-bit
@@ -74,22 +75,33 @@ struct debug;
 
 /* See ww_shared.c. A seat's desk; what its user writes lies apart from what others read. */
 struct ww_desk {
-	struct ww_mutex mutex;
-	uint32_t reads;
+	struct ww_mutex mutex; /* its `ctx` isn't NULL while its own context is there */
+	uint64_t reads;
 	uint32_t soiled; /* how many words of marks there are in `dirty`: those that aren't 0 */
 	struct ww_desk *next __attribute__((aligned(64))); /* with the same bit */
 	uint64_t bit;
 	uint32_t seat; /* its number */
 	uint32_t *dirty;
-	uint64_t marks[] __attribute__((aligned(64))); /* one for each number of the class */
+	void *memory;
+	uint64_t marks[] __attribute__((aligned(64))); /* one for each number of the class, so many in a word: */
 };
-enum { MANY_BITS = 64 };
+enum { MANY_BITS = 64, MARKS_IN_A_WORD = 64 };
+
+static inline uint64_t mark_of(uint32_t number) { return (uint64_t)1 << number % MARKS_IN_A_WORD; }
+static inline bool has_mark(const struct ww_desk *d, uint32_t number)
+{
+	return __atomic_load_n(&d->marks[number / MARKS_IN_A_WORD], __ATOMIC_RELAXED) & mark_of(number);
+}
 /*
- * A bit of a mutex's `waiters`, beside their number: it is a desk's. A task counts for so many threads, of which no
- * desk has as many.
+ * Bits of a mutex's `waiters`, beside their number: it is a desk's; or it is known by its number, which is taken.  A task
+ * counts for so many threads, of which no desk has as many.
  */
+#define IS_OF_NUMBER ((uint32_t)1 << 29)
 #define IS_DESK ((uint32_t)1 << 30)
+#define IS_TAKEN ((uint32_t)1 << 31)
 #define A_TASK ((uint32_t)1 << 16)
+static inline bool is_desk(const struct ww_mutex *m) { return __atomic_load_n(&m->waiters, __ATOMIC_RELAXED) & IS_DESK; }
+static inline bool is_of_number(const struct ww_mutex *m) { return __atomic_load_n(&m->waiters, __ATOMIC_RELAXED) & IS_OF_NUMBER; }
 
 /*
  * Seats, and the queue of those that found none of them free.  A class has two of these: `threads`, which are all of
@@ -132,7 +144,7 @@ struct ww_pool {
 	bool is_large; /* it has had so many mutexes that they and what they guard don't stay in a processor's cache */
 	struct ww_pool *next;
 	struct debug *debug;
-	struct ww_mutex *numbered; /* of ww_number.h: one for each number, once the first number was taken */
+	struct ww_shared_mutex *numbered; /* of ww_number.h: one for each number, once the first number was taken */
 	struct ww_seats threads, tasks;
 	pthread_mutex_t queue; /* the lock of both queues */
 	bool ends_waits;       /* all that something may end, for good */
@@ -141,11 +153,13 @@ struct ww_pool {
 	/*
 	 * The numbers of its mutexes, of which `used` has a bit for each, set while it is taken.  Their words lie in `lines`
 	 * cache lines.  The address of a mutex says its line (ww_likely_), and two share one only if there are many.  Who
-	 * has no address takes the lowest number; no line before `low` has one left.  The proved library has `locks` locks.
+	 * has no address takes the lowest number; no line before `low` has one left.  `left` are those that come free by
+	 * themselves.  The proved library has `locks` locks.
 	 */
 	pthread_mutex_t numbers __attribute__((aligned(64)));
 	uint32_t mutexes, lines, locks, low, taken;
-	uint64_t *used;
+	uint64_t *used, *left;
+	struct ww_mutex **lies_at; /* where the mutex lies that has a number, or had it last */
 	/*
 	 * How many seats have a desk, and these by their bits, in lists that only grow: changed under the lock
 	 * `numbers`.
@@ -272,6 +286,12 @@ WW_HIDDEN void ww_open_numbers(struct ww_pool *p);
 /* Takes a number that is free, for a mutex at this address, or for none; -ENOSPC if there is none, and -EINVAL in a child. */
 WW_HIDDEN int ww_take_number(struct ww_pool *p, const struct ww_mutex *m, uint32_t *number);
 WW_HIDDEN void ww_give_number(struct ww_pool *p, uint32_t number);
+/* Nobody begins anything by the number any more, and it is given once nobody uses it: see ww_numbers.c. */
+WW_HIDDEN void ww_leave_number(struct ww_pool *p, uint32_t number);
+/* Gives those that are left and that nobody uses. */
+WW_HIDDEN void ww_give_left(struct ww_pool *p);
+/* Of ww_mutex.c: whether somebody uses one that was left, whose mutex may be gone. */
+WW_HIDDEN bool ww_is_used_by_number(struct ww_pool *p, uint32_t number);
 /*
  * Gives a number to a mutex that WW_MUTEX_INIT made, unless it has one. Returns 0, or an error of
  * ww_mutex_init_checked.
@@ -279,6 +299,20 @@ WW_HIDDEN void ww_give_number(struct ww_pool *p, uint32_t number);
 WW_HIDDEN int ww_number_at_first(struct ww_mutex *m);
 /* NULL if it isn't initialized. */
 WW_HIDDEN struct ww_class *ww_class_of(const struct ww_mutex *m);
+
+/* The mutex has its number from now on; and where that lies which has a number: relaxed, since who holds it comes after that. */
+static inline void lies_here(struct ww_pool *p, struct ww_mutex *m)
+{
+	__atomic_store_n(&p->lies_at[m->number], m, __ATOMIC_RELAXED);
+}
+static inline void lies_nowhere(struct ww_pool *p, const struct ww_mutex *m)
+{
+	__atomic_store_n(&p->lies_at[m->number], NULL, __ATOMIC_RELAXED);
+}
+static inline struct ww_mutex *mutex_with(const struct ww_pool *p, uint32_t number)
+{
+	return __atomic_load_n(&p->lies_at[number], __ATOMIC_RELAXED);
+}
 
 /* How many numbers are in use; a thread that puts one back accesses nothing but the lock afterwards. */
 static inline uint32_t taken_numbers(const struct ww_pool *p) { return __atomic_load_n(&p->taken, __ATOMIC_ACQUIRE); }

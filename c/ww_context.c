@@ -42,15 +42,14 @@ static inline int begin_core(struct ww_acquire_ctx *x, ww_seat *s)
 	return 0;
 }
 
-/* Leaves a context with which only a begin does anything: it is as if in a loop, and has acquired nothing. */
+/* Leaves a context with which only a begin does anything. */
 COLD static int not_begun(struct ww_acquire_ctx *x, ww_seat *s, int r)
 {
 	if (s)
 		give_seat(s);
 	no_more(x);
-	x->gives = x->empty_;
+	x->gives = NULL;
 	x->acquired = x->state = 0;
-	x->newest = NULL;
 	return r;
 }
 
@@ -153,12 +152,12 @@ void ww_acquire_done(struct ww_acquire_ctx *x)
 {
 	if (UNLIKELY(ww_acquire_done_checked(x)))
 		end_of(class_of(x), "ww_acquire_done",
-	       x->own && is_polled(x) ? WAITS_BY_POLL : "the context is done, or has ended");
+		       phase_of(x) == IN_POLL ? WAITS_BY_POLL : "the context is done, or has ended");
 }
 
 int ww_acquire_fini_checked(struct ww_acquire_ctx *x)
 {
-	ww_seat *s = x->own;
+	ww_seat *s = ww_debug_has_ended(x) ? NULL : x->own;
 	int r = s ? ww_end_(&s->handle) : -EINVAL;
 
 	if (r && !(s && is_let_go(s, r)))
@@ -170,13 +169,16 @@ int ww_acquire_fini_checked(struct ww_acquire_ctx *x)
 	return 0;
 }
 
-/* Whether what it holds is what it reads by: see ww_shared.c. */
-static const char *reason_of_held(const struct ww_acquire_ctx *x)
+/* Why it can't end.  What it holds may be what it reads by: see ww_shared.c.  A copy still says that it has the seat. */
+static const char *why_unended(struct ww_acquire_ctx *x)
 {
-	const struct ww_desk *d = x->own->desk;
-	bool reads = d && holder_of(&d->mutex) == x && x->acquired == 1;
-
-	return reads ? "the context still reads a mutex" : "the context still holds a mutex";
+	if (phase_of(x) == HAS_ENDED)
+		return "the context has ended";
+	if (phase_of(x) == IN_POLL)
+		return WAITS_BY_POLL;
+	if (!x->acquired || ww_debug_has_ended(x))
+		return "the context has ended by a copy of it, or the class has begun as many as it may";
+	return sits(x) && x->acquired == 1 ? "the context still reads a mutex" : "the context still holds a mutex";
 }
 
 COLD static void fini_else(struct ww_acquire_ctx *x)
@@ -184,8 +186,7 @@ COLD static void fini_else(struct ww_acquire_ctx *x)
 	if (!ww_acquire_fini_checked(x))
 		return;
 	DEBUG(ww_debug_unended(x));
-	end_of(class_of(x), "ww_acquire_fini", !x->own ? "the context has ended" : is_polled(x) ? WAITS_BY_POLL :
-		x->acquired ? reason_of_held(x) : reason_at_begin(-ENOSPC));
+	end_of(class_of(x), "ww_acquire_fini", why_unended(x));
 }
 
 void ww_acquire_fini(struct ww_acquire_ctx *x)
@@ -193,7 +194,7 @@ void ww_acquire_fini(struct ww_acquire_ctx *x)
 	ww_seat *s = x->own;
 
 	/* A context that has released everything certainly ends. */
-	if (UNLIKELY(!s || s->handle.mode != WW_BARE_)) {
+	if (UNLIKELY(!s || s->handle.mode != WW_BARE_) || ww_debug_has_ended(x)) {
 		fini_else(x);
 		return;
 	}
@@ -226,12 +227,21 @@ int ww_acquire_cancel(struct ww_acquire_ctx *x)
 
 /* ---- what they hold ---- */
 
+/* Amid a poll the lock's word does. In a forked child a seat that was let go has nothing. */
+bool ww_owns(ww_seat *s, uint32_t number)
+{
+	int32_t r = ww_has_(&s->handle, number);
+
+	if (r == -EBUSY && !s->pool->gone)
+		r = owner_in(ww_look_(&s->handle, number)) != place_among(s);
+	return !r;
+}
+
+/* The mutex says by whose call it was acquired, and its lock that this is still so. */
 bool ww_mutex_is_held_by(const struct ww_mutex *m, const struct ww_acquire_ctx *x)
 {
-	const ww_seat *s;
+	const ww_seat *s = x ? __atomic_load_n(&x->own, __ATOMIC_RELAXED) : seat_of(m);
+	bool says_so = s && (x ? holder_of(m) == x : __atomic_load_n(&s->user, __ATOMIC_RELAXED) == ww_mine.thread);
 
-	if (x)
-		return __atomic_load_n(&m->ctx, __ATOMIC_RELAXED) == x;
-	s = seat_of(m);
-	return s && __atomic_load_n(&s->user, __ATOMIC_RELAXED) == ww_mine.thread;
+	return says_so && pool_at(m) == s->pool && ww_owner(s->pool, m) == place_among(s);
 }

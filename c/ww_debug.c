@@ -25,11 +25,10 @@ struct place {
 };
 
 /*
- * Of a mutex, by its number: where it lies; and while it is held the number of the seat that holds it, plus one, and
- * the thread that acquired it.
+ * Of a mutex that is held, by its number: the number of the seat that holds it, plus one, and the thread that acquired
+ * it.
  */
 struct holding {
-	const struct ww_mutex *lies_at;
 	uint32_t seat;
 	const void *thread;
 };
@@ -77,6 +76,7 @@ static __thread struct {
 } mine;
 static __thread const struct ww_mutex *acquired; /* by the present lock call of a context */
 static __thread bool polls; /* contexts that this thread begins now are those of tasks */
+static __thread unsigned gave_up; /* how many contexts in a row ended here after -EDEADLK */
 
 static const char *name_of(const struct ww_pool *p) { return p->class_->name ? p->class_->name : ""; }
 
@@ -305,6 +305,7 @@ static void tell_if_unseen(void)
 
 void ww_debug_begun(struct ww_acquire_ctx *x)
 {
+	enum { MANY = 3 };
 	struct ww_pool *p = x->own->pool;
 	const ww_seat *left = seat_with(p, false, x, THIS_CONTEXT), *first = seat_with(p, false, this_thread(), A_CONTEXT);
 	struct watch *s = watch_of(x->own);
@@ -320,6 +321,9 @@ void ww_debug_begun(struct ww_acquire_ctx *x)
 		tell(&warnings, p->class_, "ww_acquire_init", &watch_of(first)->began,
 		     "two contexts of a thread can wait for each other forever; "
 		     "its other one, if it wasn't left without ww_acquire_fini, began at");
+	if (gave_up >= MANY && !polls)
+		tell(&warnings, p->class_, "ww_acquire_init", NULL, "the last %u contexts of the thread ended after -EDEADLK: "
+		     "one that begins anew is the youngest, and gives way again; let it back off, and go on", gave_up);
 	__atomic_store_n(&s->context, polls ? NULL : x, __ATOMIC_RELAXED); /* A task's may be moved, as Rust does. */
 	x->stamp = __atomic_add_fetch(&p->debug->stamps, 1, __ATOMIC_RELAXED);
 	x->deadlock_inject_interval = 1;
@@ -334,6 +338,7 @@ void ww_debug_ended(struct ww_acquire_ctx *x)
 {
 	struct watch *s = watch_of(x->own);
 
+	gave_up = s->refused ? gave_up + 1 : 0;
 	__atomic_store_n(&s->is_polled, false, __ATOMIC_RELAXED);
 	__atomic_store_n(&s->refused, NULL, __ATOMIC_RELAXED);
 	__atomic_store_n(&s->context, NULL, __ATOMIC_RELAXED);
@@ -341,10 +346,9 @@ void ww_debug_ended(struct ww_acquire_ctx *x)
 	__atomic_store_n(&s->stamp, 0, __ATOMIC_RELAXED);
 }
 
-static bool is_copy(const struct ww_mutex *m)
-{
-	return __atomic_load_n(&m->pool->debug->mutexes[m->number].lies_at, __ATOMIC_RELAXED) != m;
-}
+static const char a_copy[] = "the mutex is a copy of another one, or was moved";
+
+static bool is_copy(const struct ww_mutex *m) { return mutex_with(m->pool, m->number) != m; }
 
 void ww_debug_alone(const struct ww_mutex *m, const struct timespec *until)
 {
@@ -352,7 +356,7 @@ void ww_debug_alone(const struct ww_mutex *m, const struct timespec *until)
 	const ww_seat *s = p && !until && is_seen() ? seat_with(p, false, this_thread(), A_MUTEX) : NULL;
 
 	if (p && is_copy(m))
-		ww_debug_fault(p->class_, "ww_mutex_lock", "the mutex is a copy of another one, or was moved");
+		ww_debug_fault(p->class_, "ww_mutex_lock", a_copy);
 	if (s)
 		tell(&warnings, p->class_, "ww_mutex_lock", &watch_of(s)->began,
 		     "deadlocks through locks without a context are not detected; the thread holds a mutex by what began at");
@@ -387,11 +391,6 @@ static bool unlocks_refused(const struct ww_mutex *m)
 
 /* ---- mutexes ---- */
 
-void ww_debug_made(const struct ww_mutex *m)
-{
-	__atomic_store_n(&m->pool->debug->mutexes[m->number].lies_at, m, __ATOMIC_RELAXED);
-}
-
 /*
  * Why nobody holds a mutex that is unlocked here, though somebody seems to: it lies elsewhere, or was made anew; or
  * NULL.
@@ -402,13 +401,19 @@ static const char *why_unheld(const struct ww_pool *of, const struct ww_mutex *m
 		of = of->next;
 	if (!of || of->gone || m->number >= of->locks)
 		return NULL;
-	if (__atomic_load_n(&of->debug->mutexes[m->number].lies_at, __ATOMIC_RELAXED) != m)
-		return "the mutex is a copy of another one, or was moved";
+	if (mutex_with(of, m->number) != m)
+		return a_copy;
 	for (uint32_t n = 0; n < of->locks; n++)
-		if (n != m->number && __atomic_load_n(&of->debug->mutexes[n].lies_at, __ATOMIC_RELAXED) == m &&
-		    __atomic_load_n(&of->debug->mutexes[n].seat, __ATOMIC_RELAXED))
+		if (n != m->number && mutex_with(of, n) == m && __atomic_load_n(&of->debug->mutexes[n].seat, __ATOMIC_RELAXED))
 			return "the mutex was initialized once more while somebody held it";
 	return NULL;
+}
+
+bool ww_debug_is_stale(const struct ww_mutex *m)
+{
+	struct ww_pool *p = pool_at(m);
+
+	return p && !__atomic_load_n(&p->debug->mutexes[m->number].seat, __ATOMIC_RELAXED) && !ww_owner(p, m);
 }
 
 bool ww_debug_unheld(const struct ww_mutex *m)
@@ -429,6 +434,8 @@ void ww_debug_released(const struct ww_mutex *m)
 	/* NULL: that seat is in the middle of its own unlock */
 	struct watch *by = seat ? &m->pool->debug->seats[seat - 1] : NULL;
 
+	if (is_copy(m))
+		ww_debug_fault(m->pool->class_, "ww_mutex_unlock", a_copy);
 	if (is_seen() && __atomic_load_n(&h->thread, __ATOMIC_RELAXED) != this_thread() && !(by && !user_of(by)) &&
 	    !unlocks_refused(m))
 		ww_debug_fault(m->pool->class_, "ww_mutex_unlock", "another thread acquired the mutex");
@@ -468,15 +475,23 @@ static bool is_context(const struct ww_acquire_ctx *x)
 	return p;
 }
 
+/* A context that has its seat began last by it. */
+bool ww_debug_has_ended(const struct ww_acquire_ctx *x)
+{
+	return x->own && __atomic_load_n(&watch_of(x->own)->stamp, __ATOMIC_RELAXED) != x->stamp;
+}
+
 bool ww_debug_refuses(const char *call, const struct ww_mutex *m, const struct ww_acquire_ctx *x)
 {
-	if (!is_context(x)) {
-		ww_debug_fault(NULL, call, "the context was never begun");
+	if (!is_context(x) || ww_debug_has_ended(x)) {
+		ww_debug_fault(NULL, call, is_context(x) ? "the context has ended by a copy of it" : "the context was never begun");
 		return true;
 	}
-	if (fits(m, x) && is_copy(m))
-		ww_debug_fault(m->pool->class_, call, "the mutex is a copy of another one, or was moved");
-	if (!(x->state & WAS_INJECTED) || !x->acquired || !fits(m, x))
+	if (!m || !fits(m, x))
+		return false;
+	if (is_copy(m))
+		ww_debug_fault(m->pool->class_, call, a_copy);
+	if (!(x->state & WAS_INJECTED) || !x->acquired)
 		return false;
 	tell_not_released("ww_mutex_lock", x->own);
 	return true;
@@ -506,13 +521,13 @@ static int injected(struct ww_mutex *m, struct ww_acquire_ctx *x)
 	interval = interval > ~0u / 7 ? ~0u : interval * 7 / 2;
 	x->deadlock_inject_interval = x->deadlock_inject_countdown = interval;
 	x->contending_lock = m;
-	x->state |= WAS_INJECTED;
+	x->state |= WAS_INJECTED | IS_TOLD;
 	refuse(m, x);
 	if (x->gives != x->own) {
 		x->state |= HAS_TO_BACK_OFF;
 		x->pool = NO_POOL;
 	}
-	ww_mutex_unlock(m);
+	(void)ww_unlock_of(m, x);
 	return -EDEADLK;
 }
 
@@ -523,9 +538,7 @@ int ww_debug_result(struct ww_mutex *m, struct ww_acquire_ctx *x, int r, bool in
 	acquired = NULL;
 	if (r == -EDEADLK)
 		refuse(m, x);
-	if (r == -EINVAL && injects && !x->own)
-		ww_debug_fault(m->pool->class_, "ww_mutex_lock", "the context has ended");
-	else if (r == -EINVAL && injects && watch_of(x->own)->refused)
+	if (r == -EINVAL && injects && watch_of(x->own)->refused)
 		tell_not_released("ww_mutex_lock", x->own);
 	else if (r == -EINVAL && injects)
 		ww_debug_fault(m->pool->class_, "ww_mutex_lock", reason_of(r));

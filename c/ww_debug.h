@@ -35,8 +35,10 @@ WW_HIDDEN char *ww_debug_seen(struct ww_pool *p);
 WW_HIDDEN void ww_debug_fault(const struct ww_class *c, const char *call, const char *why);
 /* This thread unlocks a mutex that nobody holds: whether it was reported why. */
 WW_HIDDEN bool ww_debug_unheld(const struct ww_mutex *m);
-/* The mutex has a number from now on. */
-WW_HIDDEN void ww_debug_made(const struct ww_mutex *m);
+/* Nobody holds a mutex that says who does, as a copy of it was unlocked; and its context may be gone. */
+WW_HIDDEN bool ww_debug_is_stale(const struct ww_mutex *m);
+/* The context has ended, by a copy of it: its seat isn't its own any more. */
+WW_HIDDEN bool ww_debug_has_ended(const struct ww_acquire_ctx *x);
 /* A call waits at most until this time: warns where that is hardly one of the monotonic clock. */
 WW_HIDDEN void ww_debug_time(const struct timespec *until);
 /*
@@ -67,6 +69,8 @@ static inline bool ww_debug_lists(void) { return true; }
 #define ww_debug_busy(left) ((void)(left))
 #define ww_debug_fault(c, call, why) ((void)(c), (void)(call), (void)(why))
 #define ww_debug_unheld(m) ((void)(m), false)
+#define ww_debug_is_stale(m) false
+#define ww_debug_has_ended(x) false
 #define ww_debug_refuses(call, m, x) false
 #define ww_debug_result(m, x, r, injects) (r)
 #define ww_debug_injected(m, x) false

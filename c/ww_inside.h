@@ -55,6 +55,7 @@ typedef struct ww_seat {
  */
 struct ww_wait {
 	bool slowly;			/* it is the first lock after -EDEADLK */
+	bool visits;			/* it releases the lock at once, so the mutex never says who holds it */
 	bool heeds;			/* a cancel or a time may end it, */
 	const uint32_t *asked;		/* not 0 once somebody asks for that; or NULL */
 	const struct timespec *until;	/* on the monotonic clock; or NULL */
@@ -62,6 +63,7 @@ struct ww_wait {
 	uint64_t from, awake;		/* when it began, and until when it stays awake */
 	bool polls;			/* it blocks no thread, but leaves this waker; without one it doesn't wait */
 	const struct ww_waker *waker;
+	struct ww_mutex *asks;		/* what the call asks for, if it waits for a desk on the way; or NULL */
 };
 
 /*
@@ -111,6 +113,11 @@ static inline void call_waker(struct ww_waker waker)
 	if (waker.wake)
 		waker.wake(waker.loop, waker.task);
 }
+/*
+ * Releases a lock that the seat has without a context.  The waker of who waited for it is called once no lock of the library is
+ * held.
+ */
+WW_HIDDEN struct ww_waker ww_give_back(ww_seat *s, uint32_t lock);
 /* Sleeps while the word is this, at most until a time of the monotonic clock, if that isn't NULL. */
 WW_HIDDEN void ww_futex_wait(uint32_t *word, uint32_t is, const struct timespec *until);
 WW_HIDDEN void ww_futex_wake(uint32_t *word);

@@ -39,10 +39,7 @@
 #define _GNU_SOURCE
 #include "ww_context.h"
 
-/*
- * In each state but EASE, and with WW_INTERRUPTIBLE, the context's lock calls take the long way (ww_lock_in_loop),
- * since no mutex has its pool.
- */
+/* In each phase of a loop but LOOP_EASE, and with WW_INTERRUPTIBLE, the context's lock calls take the long way (ww_lock_in_loop). */
 static void close_or_open(struct ww_acquire_ctx *x)
 {
 	x->pool = is_loop(x) && x->state & (TRIES | IS_PRELOCKED | WW_INTERRUPTIBLE) ? NO_POOL : x->own->pool;
@@ -57,13 +54,13 @@ static void become(struct ww_acquire_ctx *x, unsigned int not, unsigned int now)
 
 void ww_acquire_flags(struct ww_acquire_ctx *x, unsigned int flags)
 {
-	if (is_polled(x)) {
+	enum phase phase = phase_of(x);
+
+	if (phase == IN_POLL)
 		ww_debug_fault(NULL, "ww_acquire_flags", WAITS_BY_POLL);
+	if (phase == IN_POLL || phase == HAS_ENDED)
 		return;
-	}
 	x->state = (x->state & ~(unsigned)FLAGS) | (flags & FLAGS);
-	if (!x->own)
-		return;
 	if (flags & WW_MAY_BE_OLDER)
 		may_be_older(x);
 	if (is_loop(x))
@@ -113,37 +110,59 @@ static inline void release_all(struct ww_acquire_ctx *x)
 	}
 }
 
-/* Outside ww_until_all_locked there is no list of what was acquired, so nothing is released. */
+/*
+ * It doesn't wait for the contended mutex any more, since that may have been destroyed; and it owes none.  A context that
+ * has ended there holds nothing.
+ */
+COLD static void waits_no_more(struct ww_acquire_ctx *x)
+{
+	if (x->own)
+		become(x, WAITS_FIRST | IS_PRELOCKED, 0);
+}
+
+/*
+ * Outside ww_until_all_locked there is no list of what was acquired: an unlock takes nothing out of it.  So all reads end
+ * first, and then the proved library is asked for each number whose lock somebody has: that of a lock that this seat has
+ * is one that it wrote itself.
+ */
+COLD static void release_by_numbers(struct ww_acquire_ctx *x)
+{
+	const uint64_t *owners = words_of(x->own);
+
+	if (is_polled(x))
+		end_of(x->own->pool->class_, "ww_acquire_unlock_all", WAITS_BY_POLL);
+	if (sits(x))
+		(void)ww_unlock_of(&x->own->desk->mutex, x);
+	for (uint32_t n = 0; x->acquired && n < x->own->pool->locks; n++)
+		if (__atomic_load_n(&owners[2 * (size_t)n], __ATOMIC_RELAXED) && !ww_has_(&x->own->handle, n))
+			(void)ww_unlock_of(mutex_with(x->own->pool, n), x);
+}
+
 void ww_acquire_unlock_all(struct ww_acquire_ctx *x)
 {
 	if (LIKELY(is_loop(x))) {
 		release_all(x);
-		/*
-		 * It doesn't wait for the contended mutex any more, since that may have been destroyed; and it owes
-		 * none.
-		 */
 		if (UNLIKELY(x->state & (WAITS_FIRST | IS_PRELOCKED)))
-			become(x, WAITS_FIRST | IS_PRELOCKED, 0);
-	} else if (x->acquired) {
-		ww_debug_fault(x->own->pool->class_, "ww_acquire_unlock_all",
-			       "outside ww_until_all_locked this call releases nothing");
+			waits_no_more(x);
+	} else if (x->own) {
+		release_by_numbers(x);
 	}
 }
 
 /* ---- its locks ---- */
 
 /*
- * Only here does a lock call succeed without a step by which the proved library took the lock, so that is asked whether
- * the context has it.  Either the context waited for the mutex before the body asked for it, as it does now: then that
- * is the newest now, and is owed no more; or the body may ask for it twice.
+ * Only here does a lock call succeed without a step by which the proved library took the lock.  Either the context waited
+ * for the mutex before the body asked for it, as it does now: then that is the newest now, and is owed no more; or the
+ * body may ask for it twice.
  */
 bool ww_has_for(struct ww_acquire_ctx *x, struct ww_mutex *m, bool twice)
 {
-	if (!is_loop(x) || ww_has_(&x->own->handle, m->number))
+	if (!is_loop(x) || !ww_owns(x->own, m->number))
 		return false;
 	if (!owes_it(x, m))
 		return twice;
-	unlist(x, m);
+	(void)unlist(x, m);
 	enlist(x, m);
 	become(x, IS_PRELOCKED, 0);
 	return true;
@@ -165,14 +184,16 @@ int ww_result_in_loop(struct ww_mutex *m, struct ww_acquire_ctx *x, int r)
 static int wait_first(struct ww_acquire_ctx *x, const struct ww_wait *how)
 {
 	struct ww_mutex *m = x->contending_lock;
-	bool is_desk = __atomic_load_n(&m->waiters, __ATOMIC_RELAXED) & IS_DESK;
-	int r = ww_lock_by(m, x, x->own, how);
+	struct ww_wait first = *how;
+	int r;
 
+	first.visits = is_desk(m);
+	r = ww_lock_by(m, x, x->own, &first);
 	if (!ww_debug_result(m, x, r, false)) {
 		x->prelocked = m;
-		become(x, TRIES, is_desk ? 0 : IS_PRELOCKED);
-		if (is_desk)
-			ww_mutex_unlock(m);
+		become(x, TRIES, first.visits ? 0 : IS_PRELOCKED);
+		if (first.visits)
+			(void)ww_unlock_by(m, x->own);
 	}
 	return r;
 }
@@ -295,11 +316,13 @@ static inline void begin_list(struct ww_acquire_ctx *x, struct ww_mutex *const *
 		fetch_ahead(x->own, locks, count);
 }
 
-/* With flags, or amid a poll. */
+/* With flags, or in a phase in which it may not be. */
 COLD static int lock_all_else(struct ww_acquire_ctx *x, struct ww_mutex *const *locks, size_t count)
 {
-	if (is_polled(x))
-		return -EBUSY;
+	int r = ww_admit("ww_mutex_lock_all", CALL_LIST, NULL, x, NULL);
+
+	if (r)
+		return r;
 	begin_list(x, locks, count);
 	return ww_lock_list(x, each_mutex, locks, count, 0);
 }
@@ -308,11 +331,7 @@ int ww_mutex_lock_all(struct ww_acquire_ctx *x, struct ww_mutex *const *locks, s
 {
 	int r;
 
-	if (UNLIKELY(!x || !x->own || is_loop(x))) {
-		ww_debug_fault(NULL, "ww_mutex_lock_all", "the context has ended, or is in or behind ww_until_all_locked");
-		return -EINVAL;
-	}
-	if (UNLIKELY(x->state & (FLAGS | IS_POLLED)) || ww_debug_lists())
+	if (UNLIKELY(!x || phase_of(x) != BY_HAND) || UNLIKELY(x->state & FLAGS) || ww_debug_lists())
 		return lock_all_else(x, locks, count);
 	begin_list(x, locks, count);
 	r = lock_each(x, locks, count);

@@ -22,6 +22,7 @@
 /* Here are the functions that may be called in place of those that ww_mutex.h compiles into its callers. */
 #define WW_NO_INLINE
 #include "ww_context.h"
+#include "ww_shared.h"
 
 _Static_assert(sizeof(struct ww_mutex) == 32, "a mutex and 32 bytes of what it guards have room in one cache line");
 _Static_assert(offsetof(struct ww_acquire_ctx, deadlock_inject_countdown) == 64 && offsetof(struct ww_acquire_ctx, words) == 72 &&
@@ -42,7 +43,7 @@ int ww_mutex_init_checked(struct ww_mutex *m, struct ww_class *c)
 	if (r)
 		return r;
 	*m = (struct ww_mutex){ .pool = p, .number = number };
-	DEBUG(ww_debug_made(m));
+	lies_here(p, m);
 	return 0;
 }
 
@@ -54,7 +55,12 @@ void ww_mutex_init(struct ww_mutex *m, struct ww_class *c)
 		end_of(c, "ww_mutex_init", reason_of(r));
 }
 
-bool ww_mutex_is_locked(struct ww_mutex *m) { return holder_of(m) || seat_of(m); }
+bool ww_mutex_is_locked(struct ww_mutex *m)
+{
+	struct ww_pool *p = pool_at(m);
+
+	return p && !ww_is_released(p, m);
+}
 
 /*
  * Makes all steps of a call after the first one.  In a forked child, a call by a seat from before the fork would wait
@@ -76,33 +82,95 @@ COLD int ww_release_on(ww_seat *s, int r)
 }
 
 /*
- * Whether the lock of a mutex is free, by a look of the spare seat, which no context has: so it can be made even if all
- * contexts are in use.  An unlock's last access to the mutex comes before the step that releases its lock; so all
- * former holders are through with it, and what they wrote is seen here.
+ * What ww_look_ returns of a mutex's lock, by a look of the spare seat, which no context has: so it can be made even if
+ * all contexts are in use.  An unlock's last access to the mutex comes before the step that releases its lock; so if it
+ * is free, all former holders are through with it, and what they wrote is seen here.  In a forked child the spare seat
+ * may have been in use, which nobody uses there.
  */
-bool ww_is_released(struct ww_pool *p, struct ww_mutex *m)
+static int32_t look_from_outside(struct ww_pool *p, const struct ww_mutex *m)
 {
-	bool released;
+	bool is_shared = !p->gone;
+	int32_t seen;
+
+	if (is_shared)
+		pthread_mutex_lock(&p->spare);
+	seen = ww_look_(&p->seats[seats_of(p)].handle, m->number);
+	if (is_shared)
+		pthread_mutex_unlock(&p->spare);
+	__tsan_acquire((void *)(uintptr_t)m);
+	return seen;
+}
+
+bool ww_is_released(struct ww_pool *p, const struct ww_mutex *m) { return !look_from_outside(p, m); }
+
+uint32_t ww_owner(struct ww_pool *p, const struct ww_mutex *m) { return owner_in(look_from_outside(p, m)); }
+/* Whether a context reads it, by this desk: its seat has the desk, and there is a read, so the mark is from there. */
+static bool is_read_at(struct ww_pool *p, struct ww_desk *d, uint32_t number)
+{
+	int32_t seen = ww_look_(&p->seats[seats_of(p)].handle, d->mutex.number);
+
+	__tsan_acquire(&d->mutex);
+	return seen == (int32_t)d->seat + 1 && __atomic_load_n(&d->reads, __ATOMIC_ACQUIRE) &&
+	       __atomic_load_n(&d->marks[number / MARKS_IN_A_WORD], __ATOMIC_ACQUIRE) & mark_of(number);
+}
+
+/* By a look of the spare seat, at desks with these bits. */
+static bool is_read(struct ww_pool *p, uint32_t number, uint64_t bits)
+{
+	for (; bits; bits &= bits - 1)
+		for (struct ww_desk *d = __atomic_load_n(&p->desks[__builtin_ctzll(bits)], __ATOMIC_SEQ_CST); d; d = d->next)
+			if (is_read_at(p, d, number))
+				return true;
+	return false;
+}
+
+/* The spare seat has the mutex meanwhile, so nobody who holds it becomes a reader between two looks, or one who reads a holder. */
+bool ww_is_used(struct ww_shared_mutex *m)
+{
+	struct ww_pool *p = pool_at(&m->mutex_);
+	ww_seat *spare = &p->seats[seats_of(p)];
+	struct ww_waker waker = { 0 };
+	bool is;
 
 	pthread_mutex_lock(&p->spare);
-	released = !ww_is_free_(&p->seats[seats_of(p)].handle, m->number);
+	is = ww_try_(&spare->handle, m->mutex_.number);
+	if (!is) {
+		is = __atomic_load_n(&m->mutex_.waiters, __ATOMIC_SEQ_CST) & ~(IS_TAKEN | IS_OF_NUMBER) ||
+		     is_read(p, m->mutex_.number, __atomic_load_n(&m->readers_, __ATOMIC_SEQ_CST));
+		waker = ww_give_back(spare, m->mutex_.number);
+	}
 	pthread_mutex_unlock(&p->spare);
-	__tsan_acquire(m);
-	return released;
+	call_waker(waker);
+	__tsan_acquire(&m->mutex_);
+	return is;
 }
 
 /*
- * A thread that sees no waiter sees the holder that a waiter became; one that sees neither comes after an unlock's last
- * access:
+ * Nobody else begins to use it, so the looks come in this order: a waiter becomes a holder, and a holder one who reads.
+ * What is read by a bit that is gone with its mutex has a mark still.
+ */
+bool ww_is_used_by_number(struct ww_pool *p, uint32_t number)
+{
+	const struct ww_mutex *m = mutex_with(p, number);
+	bool is = m && __atomic_load_n(&m->waiters, __ATOMIC_SEQ_CST) & ~(IS_TAKEN | IS_OF_NUMBER);
+
+	pthread_mutex_lock(&p->spare);
+	is = is || ww_is_free_(&p->seats[seats_of(p)].handle, number) || is_read(p, number, UINT64_MAX);
+	pthread_mutex_unlock(&p->spare);
+	return is;
+}
+
+/*
+ * A thread that sees no waiter sees the lock of the holder that a waiter became; one that sees neither comes after an
+ * unlock's last access:
  *
  *	one that waited (ww_lock_on)	one that releases it		one that destroys it
- *	ctx or alone = its own		ctx or alone = NULL		waiters?
- *	waiters--			ww_unlock_, the last access	ctx, alone?
- *									ww_is_free_ (ww_is_released)
+ *	its lock is acquired		ctx or alone = NULL		waiters?
+ *	waiters--			ww_unlock_, the last access	ww_look_ (ww_is_released)
  *
  * In a forked child nobody uses the mutex any more, and its number isn't given.
  */
-int ww_mutex_end_(struct ww_mutex *m)
+static int end_by(struct ww_mutex *m, void (*gives)(struct ww_pool *p, uint32_t number))
 {
 	struct ww_pool *p = pool_at(m);
 
@@ -112,15 +180,20 @@ int ww_mutex_end_(struct ww_mutex *m)
 		*m = (struct ww_mutex){ .class_ = p->class_ };
 		return 0;
 	}
-	if (__atomic_load_n(&m->waiters, __ATOMIC_SEQ_CST) || ww_mutex_is_locked(m) || !ww_is_released(p, m)) {
+	if (__atomic_load_n(&m->waiters, __ATOMIC_SEQ_CST) || !ww_is_released(p, m)) {
 		ww_debug_fault(p->class_, "ww_mutex_destroy", "somebody holds the mutex, or waits for it");
 		return -EBUSY;
 	}
+	lies_nowhere(p, m);
 	m->class_ = p->class_;
 	__atomic_store_n(&m->pool, NULL, __ATOMIC_RELEASE);
-	ww_give_number(p, m->number);
+	gives(p, m->number);
 	return 0;
 }
+
+int ww_mutex_end_(struct ww_mutex *m) { return end_by(m, ww_give_number); }
+
+int ww_mutex_leave(struct ww_mutex *m) { return end_by(m, ww_leave_number); }
 
 int ww_mutex_destroy(struct ww_mutex *m)
 {
@@ -137,27 +210,15 @@ int ww_mutex_destroy(struct ww_mutex *m)
 
 void ww_may_stop(ww_seat *s) { (void)ww_cancel_(&s->handle, (uint16_t)(s - s->pool->seats)); }
 
-/* A first step is a try, which can be made again; after -EDEADLK the slow one, which finds out whether it is due. */
-static inline int32_t first_turn(ww_seat *s, uint32_t number, bool slowly)
-{
-	return slowly ? ww_lock_slow_(&s->handle, number, false) : ww_try_(&s->handle, number);
-}
-
-/* Makes this context the mutex's holder, or the seat, if there is no context. */
-static inline void own(struct ww_mutex *m, struct ww_acquire_ctx *x, ww_seat *s)
-{
-	__tsan_acquire(m);
-	DEBUG(ww_debug_acquired(m, x, s));
-	if (x) {
-		enlist(x, m);
-		x->acquired++;
-		__atomic_store_n(&m->ctx, x, __ATOMIC_RELAXED);
-	} else {
-		__atomic_store_n(&m->alone, (char *)s + 1, __ATOMIC_RELEASE);
-	}
-}
-
 static uint32_t counts_for(const struct ww_wait *wait) { return wait->polls ? A_TASK : 1; }
+
+/* How many more or fewer wait for it; and for what the call asks, which nobody destroys meanwhile. */
+static void count_waiter(struct ww_mutex *m, const struct ww_wait *wait, uint32_t by)
+{
+	__atomic_fetch_add(&m->waiters, by, __ATOMIC_SEQ_CST);
+	if (wait->asks)
+		__atomic_fetch_add(&wait->asks->waiters, by, __ATOMIC_SEQ_CST);
+}
 
 static void begin_wait(struct ww_mutex *m, struct ww_acquire_ctx *x, ww_seat *s, struct ww_wait *wait)
 {
@@ -168,7 +229,7 @@ static void begin_wait(struct ww_mutex *m, struct ww_acquire_ctx *x, ww_seat *s,
 		has_met(s);
 	DTRACE_PROBE2(ww, contention_begin, m, x);
 	DEBUG(ww_debug_waits(s, m, wait));
-	__atomic_fetch_add(&m->waiters, counts_for(wait), __ATOMIC_SEQ_CST);
+	count_waiter(m, wait, counts_for(wait));
 }
 
 static void end_wait(struct ww_mutex *m, struct ww_acquire_ctx *x, ww_seat *s, const struct ww_wait *wait, int r)
@@ -177,7 +238,7 @@ static void end_wait(struct ww_mutex *m, struct ww_acquire_ctx *x, ww_seat *s, c
 	__atomic_store_n(&s->awaits, 0, __ATOMIC_RELAXED);
 	DTRACE_PROBE3(ww, contention_end, m, x, r);
 	DEBUG(ww_debug_waits(s, NULL, NULL));
-	__atomic_fetch_sub(&m->waiters, counts_for(wait), __ATOMIC_SEQ_CST);
+	count_waiter(m, wait, -counts_for(wait));
 	if (wait->polls)
 		ww_task_has_waited(s);
 	else
@@ -185,14 +246,17 @@ static void end_wait(struct ww_mutex *m, struct ww_acquire_ctx *x, ww_seat *s, c
 }
 
 /* What a lock call returns whose last step returned r. */
-static int lock_ends(struct ww_mutex *m, struct ww_acquire_ctx *x, ww_seat *s, int r)
+static int lock_ends(struct ww_mutex *m, struct ww_acquire_ctx *x, ww_seat *s, int r, bool visits)
 {
-	if (r == 0)
-		own(m, x, s);
+	if (r == 0 && visits)
+		__tsan_acquire(m);
+	else if (r == 0)
+		own_it(m, x, s);
 	if (r == -EDEADLK) {
 		count(&s->back_offs);
 		DTRACE_PROBE2(ww, back_off, m, x);
 		x->contending_lock = m;
+		x->state |= IS_TOLD;
 	}
 	if (r == -EINTR && !(x && __atomic_exchange_n(&x->cancelled, 0, __ATOMIC_SEQ_CST)) && !ww_ends_waits(s->pool))
 		r = -ETIMEDOUT;
@@ -221,20 +285,24 @@ COLD int ww_lock_on(struct ww_mutex *m, struct ww_acquire_ctx *x, ww_seat *s, in
 	}
 	if (r == -EINPROGRESS)
 		return r;
-	r = lock_ends(m, x, s, r);
+	r = lock_ends(m, x, s, r, how->visits);
 	if (waits)
 		end_wait(m, x, s, &wait, r);
 	return r;
 }
 
+/* A first step is a try, which can be made again; after -EDEADLK the slow one, which finds out whether it is due. */
 int ww_lock_by(struct ww_mutex *m, struct ww_acquire_ctx *x, ww_seat *s, const struct ww_wait *how)
 {
-	return ww_lock_on(m, x, s, first_turn(s, m->number, how->slowly), how);
+	int r = how->slowly ? ww_lock_slow_(&s->handle, m->number, false) : ww_try_(&s->handle, m->number);
+
+	return ww_lock_on(m, x, s, r, how);
 }
 
-/* ---- locks by a context ---- */
+/* ---- what may be locked ---- */
 
 static const char not_due[] = "no -EDEADLK of this mutex came before, or the context still holds a mutex";
+static const char waits_by_poll[] = WAITS_BY_POLL;
 
 /* Why the first lock of a mutex gave it no number, or its class no seat. */
 static const char *reason_of_first(const struct ww_mutex *m, int r)
@@ -242,28 +310,34 @@ static const char *reason_of_first(const struct ww_mutex *m, int r)
 	return ww_class_of(m) ? reason_of(r) : "the mutex isn't initialized";
 }
 
-/*
- * For a mutex and a context that don't fit: 0 once they do, or the error, and why.  A mutex that WW_MUTEX_INIT made
- * gets its number here, before its first lock.
- */
-COLD static int fit(struct ww_mutex *m, const struct ww_acquire_ctx *x, const char **why)
+/* Why a context may make no such call, or NULL. */
+static const char *why_not_by(const struct ww_acquire_ctx *x, enum lock_call call)
 {
-	int r = pool_at(m) ? 0 : ww_number_at_first(m);
+	enum phase phase = x ? phase_of(x) : HAS_ENDED;
 
-	*why = r ? reason_of_first(m, r) : x && !x->own ? "the context has ended" :
-		"the mutex is of another class, or isn't initialized";
-	return r ? r : fits(m, x) ? 0 : -EINVAL;
+	if (phase == HAS_ENDED)
+		return x ? "the context has ended" : "there is no context";
+	if (phase == IN_POLL)
+		return waits_by_poll;
+	if (phase >= LOOP_EASE && (call == CALL_LIST || call == CALL_POLL))
+		return "the context is in or behind ww_until_all_locked";
+	return call == CALL_SLOW && !(x->state & IS_TOLD) ? not_due : NULL;
 }
 
-/* The same, and reports it. */
-COLD static int fit_or_report(const char *call, struct ww_mutex *m, const struct ww_acquire_ctx *x)
+/* As ww_admit, of which the reason goes out.  A mutex that WW_MUTEX_INIT made gets its number here, before its first lock. */
+static int admit(enum lock_call call, struct ww_mutex *m, const struct ww_acquire_ctx *x, const struct timespec *until,
+		 const char **why)
 {
-	const char *why;
-	int r = fit(m, x, &why);
+	int r;
 
-	if (r)
-		ww_debug_fault(r == -EINVAL ? NULL : ww_class_of(m), call, why);
-	return r;
+	*why = !is_time(until) ? "the time is none" : call == CALL_ALONE ? NULL : why_not_by(x, call);
+	if (*why)
+		return *why == waits_by_poll ? -EBUSY : -EINVAL;
+	if (call == CALL_LIST || LIKELY(m && fits(m, x)))
+		return 0;
+	r = !m ? -EINVAL : pool_at(m) ? 0 : ww_number_at_first(m);
+	*why = !m ? "there is no mutex" : r ? reason_of_first(m, r) : "the mutex is of another class, or isn't initialized";
+	return r ? r : fits(m, x) ? 0 : -EINVAL;
 }
 
 /*
@@ -283,20 +357,28 @@ static void draw_age_by_hand(struct ww_acquire_ctx *x)
 	}
 }
 
-int ww_may_lock(const char *call, struct ww_mutex *m, struct ww_acquire_ctx *x)
+int ww_admit(const char *name, enum lock_call call, struct ww_mutex *m, struct ww_acquire_ctx *x, const struct timespec *until)
 {
-	int r = ww_debug_refuses(call, m, x) ? -EINVAL : LIKELY(fits(m, x)) ? 0 : fit_or_report(call, m, x);
+	const char *why;
+	int r;
 
-	if (!r)
+	if (x && ww_debug_refuses(name, m, x))
+		return -EINVAL;
+	r = admit(call, m, x, until, &why);
+	if (r)
+		ww_debug_fault(r == -EINVAL || !m ? NULL : ww_class_of(m), name, why);
+	else if (x && call != CALL_LIST)
 		draw_age_by_hand(x);
 	return r;
 }
 
+/* ---- locks by a context ---- */
+
 static const struct ww_wait stays, heeds = { .heeds = true };
 
-static int lock(struct ww_mutex *m, struct ww_acquire_ctx *x, const struct ww_wait *how)
+int ww_lock_as(struct ww_mutex *m, struct ww_acquire_ctx *x, const struct ww_wait *how)
 {
-	int r = ww_may_lock("ww_mutex_lock", m, x);
+	int r = ww_admit("ww_mutex_lock", CALL_LOCK, m, x, how->until);
 
 	if (r)
 		return r;
@@ -306,11 +388,14 @@ static int lock(struct ww_mutex *m, struct ww_acquire_ctx *x, const struct ww_wa
 
 int ww_mutex_lock_else_(struct ww_mutex *m, struct ww_acquire_ctx *x)
 {
-	return lock(m, x, x->state & WW_INTERRUPTIBLE ? &heeds : &stays);
+	return ww_lock_as(m, x, x->state & WW_INTERRUPTIBLE ? &heeds : &stays);
 }
 
+/* Amid a poll the first step did nothing. */
 int ww_mutex_lock_further_(struct ww_mutex *m, struct ww_acquire_ctx *x, int r)
 {
+	if (is_polled(x))
+		return r;
 	r = ww_lock_on(m, x, x->own, r, x->state & WW_INTERRUPTIBLE ? &heeds : &stays);
 	return ww_debug_result(m, x, is_loop(x) ? ww_result_in_loop(m, x, r) : r, true);
 }
@@ -319,40 +404,41 @@ int ww_mutex_lock_further_(struct ww_mutex *m, struct ww_acquire_ctx *x, int r)
  * In a loop this is the wait that the loop would begin with, or isn't due.  The proved library doesn't know of an
  * -EDEADLK that the debug library made up.
  */
-static int lock_slowly(struct ww_mutex *m, struct ww_acquire_ctx *x, bool heeds, const struct timespec *until)
+int ww_lock_slowly(struct ww_mutex *m, struct ww_acquire_ctx *x, struct ww_wait how)
 {
-	int r;
+	const char *why;
+	int r = admit(CALL_SLOW, m, x, how.until, &why);
 
-	if (!x || !fits(m, x))
-		return -EINVAL;
-	r = ww_lock_by(m, x, x->own, &(struct ww_wait){ .slowly = !ww_debug_injected(m, x), .heeds = heeds, .until = until });
+	if (r)
+		return r;
+	how.slowly = !ww_debug_injected(m, x);
+	r = ww_lock_by(m, x, x->own, &how);
 	return ww_debug_result(m, x, is_loop(x) ? ww_result_in_loop(m, x, r) : r, false);
 }
 
-int ww_mutex_lock_slow_checked(struct ww_mutex *m, struct ww_acquire_ctx *x) { return lock_slowly(m, x, false, NULL); }
+static int slowly_or_report(struct ww_mutex *m, struct ww_acquire_ctx *x, struct ww_wait how)
+{
+	int r = ww_lock_slowly(m, x, how);
+
+	if (r == -EINVAL || r == -EBUSY)
+		ww_debug_fault(NULL, "ww_mutex_lock_slow", not_due);
+	return r;
+}
+
+int ww_mutex_lock_slow_checked(struct ww_mutex *m, struct ww_acquire_ctx *x) { return slowly_or_report(m, x, stays); }
 
 void ww_mutex_lock_slow(struct ww_mutex *m, struct ww_acquire_ctx *x)
 {
-	if (UNLIKELY(lock_slowly(m, x, false, NULL)))
+	if (UNLIKELY(ww_lock_slowly(m, x, stays)))
 		end_of(ww_class_of(m), "ww_mutex_lock_slow", not_due);
 }
 
 int ww_mutex_lock_slow_until(struct ww_mutex *m, struct ww_acquire_ctx *x, const struct timespec *until)
 {
-	int r;
-
-	if (!is_time(until))
-		return -EINVAL;
-	r = lock_slowly(m, x, true, until);
-	if (r == -EINVAL)
-		ww_debug_fault(NULL, "ww_mutex_lock_slow", not_due);
-	return r;
+	return slowly_or_report(m, x, (struct ww_wait){ .heeds = true, .until = until });
 }
 
-int ww_mutex_lock_slow_interruptible(struct ww_mutex *m, struct ww_acquire_ctx *x)
-{
-	return ww_mutex_lock_slow_until(m, x, NULL);
-}
+int ww_mutex_lock_slow_interruptible(struct ww_mutex *m, struct ww_acquire_ctx *x) { return slowly_or_report(m, x, heeds); }
 
 /* ---- locks without one: by a seat of its own, for which it may have to wait ---- */
 
@@ -361,14 +447,14 @@ static inline int lock_by_seat(struct ww_mutex *m, ww_seat *s, const struct ww_w
 	int r;
 
 	stop_rest(s);
-	r = first_turn(s, m->number, how->slowly);
+	r = ww_try_(&s->handle, m->number);
 	if (UNLIKELY(r)) {
 		r = ww_lock_on(m, NULL, s, r, how);
 		if (r)
 			give_seat(s);
 		return r;
 	}
-	own(m, NULL, s);
+	own_it(m, NULL, s);
 	return 0;
 }
 
@@ -377,7 +463,7 @@ COLD static int lock_by_any(struct ww_mutex *m, const struct ww_wait *how)
 {
 	const char *why;
 	ww_seat *s;
-	int r = LIKELY(fits(m, NULL)) ? 0 : fit(m, NULL, &why);
+	int r = admit(CALL_ALONE, m, NULL, how->until, &why);
 
 	if (r)
 		return r;
@@ -397,10 +483,9 @@ COLD static int lock_by_any(struct ww_mutex *m, const struct ww_wait *how)
 static inline int lock_alone(struct ww_mutex *m, const struct ww_wait *how)
 {
 	struct ww_pool *p = pool_at(m);
-	ww_seat *s;
+	ww_seat *s = LIKELY(p) ? seat_at_hand(p) : NULL;
 
 	DEBUG(ww_debug_alone(m, how->until));
-	s = LIKELY(p) ? seat_at_hand(p) : NULL;
 	return LIKELY(s) ? lock_by_seat(m, s, how) : lock_by_any(m, how);
 }
 
@@ -422,30 +507,29 @@ int ww_mutex_lock(struct ww_mutex *m, struct ww_acquire_ctx *x)
 int ww_mutex_lock_until(struct ww_mutex *m, struct ww_acquire_ctx *x, const struct timespec *until)
 {
 	const struct ww_wait how = { .heeds = x || until, .until = until };
+	int r = x ? 0 : ww_admit("ww_mutex_lock", CALL_ALONE, m, NULL, until);
 
-	if (UNLIKELY(!is_time(until)))
-		return -EINVAL;
-	return x ? lock(m, x, &how) : lock_alone(m, &how);
+	return r ? r : x ? ww_lock_as(m, x, &how) : lock_alone(m, &how);
 }
 
 int ww_mutex_lock_interruptible(struct ww_mutex *m, struct ww_acquire_ctx *x) { return ww_mutex_lock_until(m, x, NULL); }
 
 /* ---- trylocks ---- */
 
-/* Waits for no seat. */
+/* Waits for no seat. A look first, since a try in vain would make the seat's next calls take the long way. */
 static int try_alone(struct ww_mutex *m)
 {
-	ww_seat *s = ww_mutex_is_locked(m) ? NULL : seat_at_once(m->pool);
+	ww_seat *s = seat_at_once(m->pool);
 
 	if (!s)
 		return 0;
 	stop_rest(s);
-	if (ww_try_(&s->handle, m->number)) {
+	if (ww_is_free_(&s->handle, m->number) || ww_try_(&s->handle, m->number)) {
 		give_seat(s);
 		return 0;
 	}
 	is_user(s);
-	own(m, NULL, s);
+	own_it(m, NULL, s);
 	return 1;
 }
 
@@ -458,27 +542,32 @@ int ww_try_by(struct ww_mutex *m, struct ww_acquire_ctx *x)
 	r = ww_try_(&x->own->handle, m->number);
 	if (r)
 		return r == -EALREADY && ww_has_for(x, m, false) ? 0 : r;
-	own(m, x, NULL);
+	own_it(m, x, NULL);
 	(void)ww_debug_result(m, x, 0, false);
 	return is_loop(x) ? ww_result_in_loop(m, x, 0) : 0;
+}
+
+/* Amid a poll a context may acquire nothing. */
+static int try_admitted(struct ww_mutex *m, struct ww_acquire_ctx *x, int r)
+{
+	return r ? r == -EBUSY ? 0 : r : x ? !ww_try_by(m, x) : try_alone(m);
 }
 
 int ww_mutex_trylock_else_(struct ww_mutex *m, struct ww_acquire_ctx *x)
 {
 	const char *why;
+	int r = try_admitted(m, x, admit(x ? CALL_LOCK : CALL_ALONE, m, x, NULL, &why));
 
-	if (UNLIKELY(!fits(m, x)) && fit(m, x, &why))
+	if (UNLIKELY(r < 0))
 		end_of(ww_class_of(m), "ww_mutex_trylock", why);
-	return x ? !ww_try_by(m, x) : try_alone(m);
+	return r;
 }
 
 int ww_mutex_trylock(struct ww_mutex *m, struct ww_acquire_ctx *x) { return ww_mutex_trylock_else_(m, x); }
 
 int ww_mutex_trylock_checked(struct ww_mutex *m, struct ww_acquire_ctx *x)
 {
-	int r = fit_or_report("ww_mutex_trylock", m, x);
-
-	return r ? r : x ? !ww_try_by(m, x) : try_alone(m);
+	return try_admitted(m, x, ww_admit("ww_mutex_trylock", x ? CALL_LOCK : CALL_ALONE, m, x, NULL));
 }
 
 /* ---- unlocks ---- */
@@ -487,21 +576,23 @@ int ww_mutex_trylock_checked(struct ww_mutex *m, struct ww_acquire_ctx *x)
  * After the step that releases the lock, another thread may own the mutex, destroy it and free its memory.  Until then
  * nobody does, since ww_mutex_destroy takes the lock.
  */
-static inline int unlock_by(struct ww_mutex *m, struct ww_acquire_ctx *x)
+int ww_unlock_by(struct ww_mutex *m, ww_seat *s)
 {
 	uint32_t number = m->number;
 	int r;
 
 	__tsan_release(m);
-	r = ww_unlock_(&x->own->handle, number);
-	return LIKELY(!r) ? 0 : ww_release_on(x->own, r);
+	r = ww_unlock_(&s->handle, number);
+	return LIKELY(!r) ? 0 : ww_release_on(s, r);
 }
 
 COLD static int unlock_alone_on(ww_seat *s, int r)
 {
 	r = ww_release_on(s, r);
-	s->ages = 0; /* without a context it has none */
-	give_seat(s);
+	if (!r) {
+		s->ages = 0; /* without a context it has none */
+		give_seat(s);
+	}
 	return r;
 }
 
@@ -523,27 +614,33 @@ static inline int unlock_alone(struct ww_mutex *m)
 	return 0;
 }
 
+/* In a loop a mutex that isn't in the context's list is a copy of one. */
+int ww_unlock_of(struct ww_mutex *m, struct ww_acquire_ctx *x)
+{
+	if (is_loop(x) && !unlist(x, m))
+		return -EINVAL;
+	DEBUG(ww_debug_released(m));
+	x->acquired--;
+	__atomic_store_n(&m->ctx, NULL, __ATOMIC_RELAXED);
+	return ww_unlock_by(m, x->own);
+}
+
 int ww_mutex_unlock_checked(struct ww_mutex *m)
 {
 	struct ww_acquire_ctx *x = holder_of(m);
 
 	if (!x)
 		return unlock_alone(m);
-	if (is_polled(x))
-		return -EBUSY;
-	DEBUG(ww_debug_released(m));
-	x->acquired--;
-	__atomic_store_n(&m->ctx, NULL, __ATOMIC_RELAXED);
-	if (is_loop(x))
-		unlist(x, m);
-	return unlock_by(m, x);
+	if (ww_debug_is_stale(m) || !x->own)
+		return -EINVAL;
+	return is_polled(x) ? -EBUSY : ww_unlock_of(m, x);
 }
 
 COLD static void end_unheld(const struct ww_mutex *m, int r)
 {
 	(void)ww_debug_unheld(m);
-	end("ww_mutex_unlock",
-	    r == -EBUSY ? "the context that holds the mutex is in another call" : "nobody holds the mutex");
+	end("ww_mutex_unlock", r == -EBUSY ? "its context waits by a poll, or is another one" :
+		"nobody holds the mutex, or it is a copy of that which is held");
 }
 
 void ww_mutex_unlock(struct ww_mutex *m)
@@ -565,12 +662,10 @@ void ww_mutex_unlock_else_(struct ww_mutex *m)
 /* In a loop the first step did nothing, so the mutex is still held. */
 void ww_mutex_unlock_further_(struct ww_mutex *m, struct ww_acquire_ctx *x, int r)
 {
-	if (is_loop(x)) {
-		unlist(x, m);
-		r = unlock_by(m, x);
-	} else {
+	if (is_loop(x))
+		r = unlist(x, m) ? ww_unlock_by(m, x->own) : -EINVAL;
+	else
 		r = ww_release_on(x->own, r);
-	}
 	if (UNLIKELY(r))
 		end_unheld(m, r);
 }

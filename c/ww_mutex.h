@@ -144,7 +144,7 @@ WW_MUST_CHECK int ww_mutex_lock_slow_interruptible(struct ww_mutex *lock, struct
 WW_MUST_CHECK int ww_mutex_trylock(struct ww_mutex *lock, struct ww_acquire_ctx *ctx);
 /* Releases it; called by the thread that acquired it. The program ends with a message if nobody holds it. */
 void ww_mutex_unlock(struct ww_mutex *lock);
-/* Whether somebody holds it: that may be out of date when it returns. */
+/* Whether somebody holds it, or it is released to who waits for it: that may be out of date when it returns. */
 bool ww_mutex_is_locked(struct ww_mutex *lock);
 
 /* ---- loops and lists: contexts that back off by themselves ---- */
@@ -188,9 +188,9 @@ bool ww_mutex_is_locked(struct ww_mutex *lock);
 /* Whether the last lock call of the context returned -EDEADLK, and it hasn't backed off since. */
 bool ww_is_contended(const struct ww_acquire_ctx *ctx);
 /*
- * Releases everything that the context acquired since ww_until_all_locked, the newest first.  A context without such a loop
- * releases each mutex with ww_mutex_unlock, also after ww_mutex_lock_all: then this call releases nothing, which the debug
- * library reports.
+ * Releases everything that the context holds, and ends what it reads: in a loop and behind it the newest first.  A context without
+ * a loop is looked for at each number of the class, so it releases what it knows by ww_mutex_unlock.  The program ends with a
+ * message while the context waits by a poll.
  */
 void ww_acquire_unlock_all(struct ww_acquire_ctx *ctx);
 /*

@@ -169,7 +169,8 @@ public:
 };
 
 // As a mutex, but contexts may read what it protects beside each other (context::lock_shared), or one of them writes it. Only
-// contexts lock it. A context may still read it in another thread when it is destroyed: the debug library reports that.
+// contexts lock it. One that a context reads still when it is destroyed, which the debug library reports, leaves the class when that
+// context ends its reads.
 class WW_SAFETY_(capability("mutex")) shared_mutex {
 	struct ww_shared_mutex it_;
 
@@ -260,8 +261,8 @@ class context {
 	{
 		int r = 0;
 
-		if (error_ || it_.acquired)
-			return error_ ? error_ : -EINVAL;
+		if (const int refused = told([&] { return it_.acquired ? -EINVAL : 0; }))
+			return refused;
 		releases unless_all{ this };
 
 		ww_tries_begin_(&it_);
@@ -274,30 +275,14 @@ class context {
 		return r;
 	}
 
+	// What a lock call returns; of a context that didn't begin, why.
+	template <class Call> int told(Call &&call) const noexcept { return error_ ? error_ : call(); }
+
 	int ask(mutex &m WW_AND_FROM_) noexcept
 	{
-		if (error_)
-			return error_;
-		if (limits_.until())
-			return ww_mutex_lock_until(m.get(), &it_, limits_.until());
-		return ww_mutex_lock(m.get(), &it_);
-	}
-
-	int read(shared_mutex &m WW_AND_FROM_) noexcept
-	{
-		if (error_)
-			return error_;
-		if (limits_.until())
-			return ww_shared_mutex_lock_shared_until(m.get(), &it_, limits_.until());
-		return ww_shared_mutex_lock_shared(m.get(), &it_);
-	}
-	int write(shared_mutex &m WW_AND_FROM_) noexcept
-	{
-		if (error_)
-			return error_;
-		if (limits_.until())
-			return ww_shared_mutex_lock_until(m.get(), &it_, limits_.until());
-		return ww_shared_mutex_lock(m.get(), &it_);
+		return told([&] {
+			return limits_.until() ? ww_mutex_lock_until(m.get(), &it_, limits_.until()) : ww_mutex_lock(m.get(), &it_);
+		});
 	}
 
 	// Calls fn under what was acquired, if that returned 0, and releases everything.
@@ -351,17 +336,17 @@ public:
 	// Also -EINTR, if another thread called cancel().
 	[[nodiscard]] int lock_interruptible(mutex &m WW_AND_FROM_) noexcept WW_SAFETY_(try_acquire_capability(false, m))
 	{
-		return ww_mutex_lock_interruptible(m.get(), &it_);
+		return told([&] { return ww_mutex_lock_interruptible(m.get(), &it_); });
 	}
 	// Also -ETIMEDOUT.
 	[[nodiscard]] int lock_until(mutex &m, const timespec &monotonic WW_AND_FROM_) noexcept
 		WW_SAFETY_(try_acquire_capability(false, m))
 	{
-		return ww_mutex_lock_until(m.get(), &it_, &monotonic);
+		return told([&] { return ww_mutex_lock_until(m.get(), &it_, &monotonic); });
 	}
 	[[nodiscard]] bool try_lock(mutex &m WW_AND_FROM_) noexcept WW_SAFETY_(try_acquire_capability(true, m))
 	{
-		return ww_mutex_trylock(m.get(), &it_);
+		return !told([&] { return ww_mutex_trylock(m.get(), &it_) ? 0 : -EBUSY; });
 	}
 	void unlock(mutex &m WW_AND_FROM_) noexcept WW_SAFETY_(release_capability(m)) WW_SAFETY_(no_thread_safety_analysis)
 	{
@@ -369,14 +354,29 @@ public:
 	}
 	// The same of shared mutexes, as by ww_shared_mutex_lock_shared. All reads end with the context, or by unlock_all(). clang's
 	// analysis knows of no upgrade: it is given by assert_reads and assert_writes what is held.
-	[[nodiscard]] int lock_shared(shared_mutex &m WW_AND_FROM_) noexcept { return read(m WW_AND_THERE_); }
+	[[nodiscard]] int lock_shared(shared_mutex &m WW_AND_FROM_) noexcept
+	{
+		return told([&] {
+			return limits_.until() ? ww_shared_mutex_lock_shared_until(m.get(), &it_, limits_.until()) :
+				ww_shared_mutex_lock_shared(m.get(), &it_);
+		});
+	}
 	[[nodiscard]] bool try_lock_shared(shared_mutex &m WW_AND_FROM_) noexcept
 	{
-		return !error_ && ww_shared_mutex_trylock_shared(m.get(), &it_);
+		return !told([&] { return ww_shared_mutex_trylock_shared(m.get(), &it_) ? 0 : -EBUSY; });
 	}
 	// Also of one that it reads: then nobody writes it in between.
-	[[nodiscard]] int lock(shared_mutex &m WW_AND_FROM_) noexcept { return write(m WW_AND_THERE_); }
-	[[nodiscard]] bool try_lock(shared_mutex &m WW_AND_FROM_) noexcept { return !error_ && ww_shared_mutex_trylock(m.get(), &it_); }
+	[[nodiscard]] int lock(shared_mutex &m WW_AND_FROM_) noexcept
+	{
+		return told([&] {
+			return limits_.until() ? ww_shared_mutex_lock_until(m.get(), &it_, limits_.until()) :
+				ww_shared_mutex_lock(m.get(), &it_);
+		});
+	}
+	[[nodiscard]] bool try_lock(shared_mutex &m WW_AND_FROM_) noexcept
+	{
+		return !told([&] { return ww_shared_mutex_trylock(m.get(), &it_) ? 0 : -EBUSY; });
+	}
 	// What it writes it reads from now on, beside others.
 	void downgrade(shared_mutex &m WW_AND_FROM_) noexcept { ww_shared_mutex_downgrade(m.get(), &it_); }
 	void assert_reads(shared_mutex &m) const noexcept WW_SAFETY_(assert_shared_capability(m))

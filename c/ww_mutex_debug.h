@@ -8,8 +8,8 @@
  *
  * Warnings, about calls that are right but dangerous, once for each line and class: a thread
  * begins a second context; it locks with NULL while it holds a mutex of the class; it waits
- * for a context while it has a context or a mutex of any class; ww_class_free fails, and what
- * is in use.  A context belongs to the thread that last acquired something with it, or began
+ * for a context while it has a context or a mutex of any class; it begins a context, and its
+ * last three ended after -EDEADLK; ww_class_free fails, and what is in use.  A context belongs to the thread that last acquired something with it, or began
  * it.  A wait with a time limit gives no warning; a wait that a cancel can end may give one.
  *
  * Deadlocks that no class detects, through several classes or locks with NULL: a thread that

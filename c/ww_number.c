@@ -8,14 +8,14 @@
 #include "ww_context.h" /* before the next one: here no call reports its line */
 /* Here are the functions that may be called in place of those that ww_number.h compiles into its callers. */
 #define WW_NO_INLINE
-#include "ww_number.h"
+#include "ww_shared.h"
 
 static const char no_such[] = "the class has no mutex of this number";
 
 /* ---- numbers ---- */
 
 /* The mutexes of a class, or NULL if there is no memory for them: it is allocated with the first number. */
-static struct ww_mutex *mutexes_of(struct ww_pool *p)
+static struct ww_shared_mutex *mutexes_of(struct ww_pool *p)
 {
 	pthread_mutex_lock(&p->numbers);
 	/* Released here, and acquired in mutex_at: a thread that sees the address sees that the memory is zeroed. */
@@ -28,9 +28,9 @@ static struct ww_mutex *mutexes_of(struct ww_pool *p)
 /* The mutex of a number, which is kept when the number is put back; NULL if the number was never taken. */
 static struct ww_mutex *mutex_at(const struct ww_pool *p, uint32_t number)
 {
-	struct ww_mutex *all = number < p->locks ? __atomic_load_n(&p->numbered, __ATOMIC_ACQUIRE) : NULL;
+	struct ww_shared_mutex *all = number < p->locks ? __atomic_load_n(&p->numbered, __ATOMIC_ACQUIRE) : NULL;
 
-	return all && pool_at(&all[number]) ? &all[number] : NULL;
+	return all && pool_at(&all[number].mutex_) ? &all[number].mutex_ : NULL;
 }
 
 /* The same by class; returns 0, or why there is none. */
@@ -42,9 +42,6 @@ static int mutex_in(struct ww_class *c, uint32_t number, struct ww_mutex **m)
 	*m = r ? NULL : mutex_at(p, number);
 	return r ? r : *m ? 0 : -EINVAL;
 }
-
-/* A bit of a mutex's `waiters`, beside their number. */
-#define IS_TAKEN ((uint32_t)1 << 31)
 
 /* A thread that knew the number before may still wait for it.  Relaxed: nobody puts the number back before this. */
 int ww_number_take(uint32_t *number, struct ww_class *c)
@@ -59,13 +56,14 @@ int ww_number_take(uint32_t *number, struct ww_class *c)
 		r = ww_take_number(p, NULL, number);
 	if (r)
 		return r;
-	m = &p->numbered[*number];
+	m = &p->numbered[*number].mutex_;
 	if (!pool_at(m)) {
 		m->number = *number;
+		__atomic_store_n(&m->waiters, IS_OF_NUMBER, __ATOMIC_RELAXED);
 		__atomic_store_n(&m->pool, p, __ATOMIC_RELEASE);
 	}
 	__atomic_fetch_add(&m->waiters, IS_TAKEN, __ATOMIC_RELAXED);
-	DEBUG(ww_debug_made(m));
+	lies_here(p, m);
 	return 0;
 }
 
@@ -80,8 +78,8 @@ int ww_number_put(uint32_t number, struct ww_class *c)
 
 	if (m && m->pool->gone)
 		return 0;
-	if (taken == IS_TAKEN && ww_is_released(m->pool, m) &&
-	    __atomic_compare_exchange_n(&m->waiters, &taken, 0, false, __ATOMIC_SEQ_CST, __ATOMIC_SEQ_CST)) {
+	if (taken == (IS_TAKEN | IS_OF_NUMBER) && !ww_is_used(shared_of(m)) &&
+	    __atomic_compare_exchange_n(&m->waiters, &taken, IS_OF_NUMBER, false, __ATOMIC_SEQ_CST, __ATOMIC_SEQ_CST)) {
 		ww_give_number(m->pool, number);
 		return 0;
 	}
@@ -89,6 +87,24 @@ int ww_number_put(uint32_t number, struct ww_class *c)
 		return -EBUSY;
 	ww_debug_fault(c, "ww_number_put", "nobody has taken the number, or it was put back before");
 	return -EINVAL;
+}
+
+/* From now on it isn't taken, so no other call puts it back. */
+void ww_number_leave(uint32_t number, struct ww_class *c)
+{
+	struct ww_mutex *m;
+
+	if (ww_number_put(number, c) != -EBUSY || mutex_in(c, number, &m))
+		return;
+	__atomic_fetch_sub(&m->waiters, IS_TAKEN, __ATOMIC_SEQ_CST);
+	ww_leave_number(m->pool, number);
+}
+
+struct ww_shared_mutex *ww_number_at(uint32_t number, struct ww_class *c)
+{
+	struct ww_mutex *m;
+
+	return mutex_in(c, number, &m) ? NULL : shared_of(m);
 }
 
 bool ww_number_is_locked(uint32_t number, struct ww_class *c)
@@ -100,37 +116,39 @@ bool ww_number_is_locked(uint32_t number, struct ww_class *c)
 
 /* ---- by a context ---- */
 
+struct ww_mutex *ww_number_of(uint32_t number, const struct ww_acquire_ctx *x)
+{
+	return x && x->own ? mutex_at(x->own->pool, number) : NULL;
+}
+
 /*
  * The mutex of a number in the context's class.  If the first step wasn't enough it can't be undone, so the program
  * ends.
  */
 struct ww_mutex *ww_number_asked(const char *call, uint32_t number, const struct ww_acquire_ctx *x, int r)
 {
-	struct ww_mutex *m = x->own ? mutex_at(x->own->pool, number) : NULL;
+	struct ww_mutex *m = ww_number_of(number, x);
 
 	if (!m && r > 0)
 		end(call, no_such);
 	if (!m)
-		ww_debug_fault(NULL, call, x->own ? no_such : "the context has ended");
+		ww_debug_fault(NULL, call, x && x->own ? no_such : "the context has ended");
 	return m;
 }
 
-/* What a lock call returned; only in a loop the mutex goes on saying who holds it. */
-int ww_number_result(struct ww_mutex *m, const struct ww_acquire_ctx *x, int r)
-{
-	if (!is_loop(x) && __atomic_load_n(&m->ctx, __ATOMIC_RELAXED) == x)
-		__atomic_store_n(&m->ctx, NULL, __ATOMIC_RELAXED);
-	return r;
-}
-
-/* If the first step was refused, nothing was done yet: the context is in a loop. */
+/*
+ * If the first step was refused, nothing was done yet: the context is in a loop, where the quick call of a mutex does.
+ * Outside that would say who holds the mutex.
+ */
 int ww_number_lock_further_(uint32_t number, struct ww_acquire_ctx *x, int r)
 {
 	struct ww_mutex *m = ww_number_asked("ww_number_lock", number, x, r);
 
 	if (!m)
 		return -EINVAL;
-	return ww_number_result(m, x, r == -EINVAL ? ww_mutex_lock(m, x) : ww_mutex_lock_further_(m, x, r));
+	if (r != -EINVAL)
+		return ww_mutex_lock_further_(m, x, r);
+	return LIKELY(is_loop(x)) ? ww_mutex_lock(m, x) : ww_mutex_lock_else_(m, x);
 }
 
 int ww_number_lock(uint32_t number, struct ww_acquire_ctx *x) { return ww_number_lock_further_(number, x, -EINVAL); }
@@ -139,39 +157,40 @@ int ww_number_lock_until(uint32_t number, struct ww_acquire_ctx *x, const struct
 {
 	struct ww_mutex *m = ww_number_asked("ww_number_lock_until", number, x, 0);
 
-	return m ? ww_number_result(m, x, ww_mutex_lock_until(m, x, until)) : -EINVAL;
+	return m ? ww_mutex_lock_until(m, x, until) : -EINVAL;
 }
 
 int ww_number_trylock(uint32_t number, struct ww_acquire_ctx *x)
 {
 	struct ww_mutex *m = ww_number_asked("ww_number_trylock", number, x, 0);
 
-	return m ? ww_number_result(m, x, ww_mutex_trylock(m, x)) : 0;
+	return m ? (is_loop(x) ? ww_mutex_trylock(m, x) : ww_mutex_trylock_else_(m, x)) : 0;
 }
 
 int ww_number_trylock_else_(uint32_t number, struct ww_acquire_ctx *x) { return ww_number_trylock(number, x); }
 
+/* What is owed is held, too, unless there may be readers, for whom the body's call is to wait. */
 bool ww_number_is_held(uint32_t number, const struct ww_acquire_ctx *x)
 {
-	return x->own && ww_has_(&x->own->handle, number) == 0;
+	const struct ww_mutex *m = ww_number_of(number, x);
+	unsigned is = m ? relation(x, m, HAS_IT | OWES_IT) : 0;
+
+	return is & HAS_IT || (is & OWES_IT && !__atomic_load_n(&shared_of(m)->readers_, __ATOMIC_RELAXED));
 }
 
 int ww_number_unlock(uint32_t number, struct ww_acquire_ctx *x)
 {
 	struct ww_mutex *m = ww_number_asked("ww_number_unlock", number, x, 0);
-	int r;
 
 	if (!m)
 		return -EINVAL;
 	if (is_polled(x))
 		return -EBUSY;
-	r = ww_has_(&x->own->handle, number);
-	if (r && !is_let_go(x->own, r)) {
+	if (!relation(x, m, HAS_IT | OWES_IT) && !is_let_go(x->own, ww_has_(&x->own->handle, number))) {
 		ww_debug_fault(x->own->pool->class_, "ww_number_unlock", "the context doesn't hold the mutex");
 		return -EINVAL;
 	}
-	__atomic_store_n(&m->ctx, x, __ATOMIC_RELAXED);
-	return ww_mutex_unlock_checked(m);
+	return ww_unlock_of(m, x);
 }
 
 /* If r is an error, nothing was done yet, likewise. */
@@ -181,21 +200,6 @@ int ww_number_unlock_further_(uint32_t number, struct ww_acquire_ctx *x, int r)
 		return ww_number_unlock(number, x);
 	x->acquired--;
 	return ww_release_on(x->own, r);
-}
-
-void ww_number_unlock_all(struct ww_acquire_ctx *x)
-{
-	ww_seat *s = x->own;
-
-	if (s && is_polled(x))
-		end_of(s->pool->class_, "ww_number_unlock_all", WAITS_BY_POLL);
-	if (s && is_loop(x)) {
-		ww_acquire_unlock_all(x);
-		return;
-	}
-	for (uint32_t n = 0; s && ww_held_(&s->handle) && n < s->pool->locks; n++)
-		if (ww_number_is_held(n, x))
-			ww_number_unlock(n, x);
 }
 
 /* ---- without one ---- */

@@ -20,10 +20,23 @@ extern "C" {
  */
 WW_MUST_CHECK int ww_number_take(uint32_t *number, struct ww_class *ww_class);
 /*
- * Frees a number that was taken.  -EBUSY: somebody holds it or waits for it, and nothing has changed; -EINVAL: it isn't taken.
+ * Frees a number that was taken.  -EBUSY: somebody holds it or waits for it, or a context that has read it (ww_shared.h) hasn't
+ * ended its reads, and nothing has changed; -EINVAL: it isn't taken.
  * Once this returns 0, no other thread accesses the mutex any more.
  */
 int ww_number_put(uint32_t number, struct ww_class *ww_class);
+
+/*
+ * The same for who can't wait until nobody uses it, as a destructor: it comes free by itself once nobody holds it, waits for it or
+ * reads it. Nobody may begin to.
+ */
+void ww_number_leave(uint32_t number, struct ww_class *ww_class);
+/*
+ * The library's mutex of a number that is taken, for the calls of ww_mutex.h and ww_shared.h; but it is unlocked by its number.  It
+ * stays where it is until the class is freed.  NULL: the class has no such number.
+ */
+struct ww_shared_mutex;
+struct ww_shared_mutex *ww_number_at(uint32_t number, struct ww_class *ww_class);
 
 /*
  * As ww_mutex_lock with a context, in ww_until_all_locked too.  -EDEADLK: release everything that the context holds, then
@@ -37,11 +50,6 @@ WW_MUST_CHECK int ww_number_lock_until(uint32_t number, struct ww_acquire_ctx *c
 WW_MUST_CHECK int ww_number_trylock(uint32_t number, struct ww_acquire_ctx *ctx);
 /* Releases it. -EINVAL: the context doesn't hold it. */
 int ww_number_unlock(uint32_t number, struct ww_acquire_ctx *ctx);
-/*
- * Releases everything that the context holds.  Outside loops that may include no struct ww_mutex, since the call checks each
- * number of the class.
- */
-void ww_number_unlock_all(struct ww_acquire_ctx *ctx);
 /* Whether the context holds it. */
 bool ww_number_is_held(uint32_t number, const struct ww_acquire_ctx *ctx);
 /* Whether anybody holds it, or waits for it: that may be out of date when it returns. */
@@ -60,11 +68,11 @@ void ww_number_unlock_alone(uint32_t number, struct ww_seat *by);
 #if defined(WW_DEBUG) && !defined(WW_CLASS_H)
 #define ww_number_take(...) (WW_HERE_, ww_number_take(__VA_ARGS__))
 #define ww_number_put(...) (WW_HERE_, ww_number_put(__VA_ARGS__))
+#define ww_number_leave(...) (WW_HERE_, ww_number_leave(__VA_ARGS__))
 #define ww_number_lock(...) (WW_HERE_, ww_number_lock(__VA_ARGS__))
 #define ww_number_lock_until(...) (WW_HERE_, ww_number_lock_until(__VA_ARGS__))
 #define ww_number_trylock(...) (WW_HERE_, ww_number_trylock(__VA_ARGS__))
 #define ww_number_unlock(...) (WW_HERE_, ww_number_unlock(__VA_ARGS__))
-#define ww_number_unlock_all(...) (WW_HERE_, ww_number_unlock_all(__VA_ARGS__))
 #define ww_number_unlock_alone(...) (WW_HERE_, ww_number_unlock_alone(__VA_ARGS__))
 #endif
 

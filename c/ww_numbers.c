@@ -4,7 +4,8 @@
  * A mutex takes a number of its class as it is made, or at its first lock if WW_MUTEX_INIT made it, and puts it back
  * as it is destroyed.  The words of four numbers share a cache line.  A mutex's address says which line it has
  * (ww_likely_), if that has one left, and else it has the next one: so who locks it need not read its number to fetch
- * its words.
+ * its words.  A number whose mutex is gone while somebody uses it still is left: whoever finds no other looks whether it
+ * is free by then.
  */
 #define _GNU_SOURCE
 #include "ww_class.h"
@@ -80,20 +81,29 @@ static uint32_t take(struct ww_pool *p, const struct ww_mutex *m)
 	return number;
 }
 
-/* Of desks' numbers there are `made`, which aren't counted as taken.  The debug library's messages say the lowest numbers. */
+/* Of desks' numbers there are `made`, which aren't counted as taken. */
+static bool takes(struct ww_pool *p, const struct ww_mutex *m, uint32_t *number)
+{
+	bool is_there;
+
+	pthread_mutex_lock(&p->numbers);
+	is_there = p->taken + p->made < p->mutexes;
+	if (is_there)
+		*number = take(p, m);
+	pthread_mutex_unlock(&p->numbers);
+	return is_there;
+}
+
+/* The debug library's messages say the lowest numbers. */
 int ww_take_number(struct ww_pool *p, const struct ww_mutex *m, uint32_t *number)
 {
-	bool is_left;
-
 	DEBUG(m = NULL);
 	if (p->gone)
 		return -EINVAL;
-	pthread_mutex_lock(&p->numbers);
-	is_left = p->taken + p->made < p->mutexes;
-	if (is_left)
-		*number = take(p, m);
-	pthread_mutex_unlock(&p->numbers);
-	return is_left ? 0 : -ENOSPC;
+	if (takes(p, m, number))
+		return 0;
+	ww_give_left(p);
+	return takes(p, m, number) ? 0 : -ENOSPC;
 }
 
 void ww_give_number(struct ww_pool *p, uint32_t number)
@@ -104,6 +114,34 @@ void ww_give_number(struct ww_pool *p, uint32_t number)
 		p->low = number / IN_A_LINE;
 	__atomic_fetch_sub(&p->taken, 1, __ATOMIC_RELEASE);
 	pthread_mutex_unlock(&p->numbers);
+}
+
+void ww_leave_number(struct ww_pool *p, uint32_t number)
+{
+	pthread_mutex_lock(&p->numbers);
+	p->left[number / 64] |= (uint64_t)1 << number % 64;
+	pthread_mutex_unlock(&p->numbers);
+}
+
+/* What it takes out of a word no other thread has. */
+COLD void ww_give_left(struct ww_pool *p)
+{
+	for (uint32_t k = 0; k < p->locks; k += 64) {
+		uint64_t bits;
+
+		pthread_mutex_lock(&p->numbers);
+		bits = p->left[k / 64];
+		p->left[k / 64] = 0;
+		pthread_mutex_unlock(&p->numbers);
+		for (; bits; bits &= bits - 1) {
+			uint32_t number = k + (uint32_t)__builtin_ctzll(bits);
+
+			if (ww_is_used_by_number(p, number))
+				ww_leave_number(p, number);
+			else
+				ww_give_number(p, number);
+		}
+	}
 }
 
 /*
@@ -123,8 +161,8 @@ COLD int ww_number_at_first(struct ww_mutex *m)
 			r = ww_take_number(c->pool, m, &number);
 		if (!r) {
 			__atomic_store_n(&m->number, number, __ATOMIC_RELAXED); /* who locks a list may look for it already */
+			lies_here(c->pool, m);
 			__atomic_store_n(&m->pool, c->pool, __ATOMIC_RELEASE);
-			DEBUG(ww_debug_made(m));
 		}
 	}
 	pthread_mutex_unlock(&ww_opening);

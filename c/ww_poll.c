@@ -13,10 +13,19 @@ static const struct timespec past;
 
 /* ---- lock calls ---- */
 
+/* Whether the call releases it at once: what another has that it waits for, or a desk where it looks for who reads. */
+static bool visits(const struct ww_acquire_ctx *x, const struct ww_mutex *m)
+{
+	return x->call.what == TO_AWAIT || (x->call.what == TO_WRITE && m != x->call.of);
+}
+
 /* Makes all of a poll after its first step, which returned r; or, if it slept, from there. */
 static int poll_on(struct ww_mutex *m, struct ww_acquire_ctx *x, const struct ww_waker *waker, int r)
 {
-	const struct ww_wait how = { .heeds = true, .until = waker ? NULL : &past, .polls = true, .waker = waker };
+	const struct ww_wait how = {
+		.heeds = true, .until = waker ? NULL : &past, .polls = true, .waker = waker,
+		.asks = m != x->call.of ? x->call.of : NULL, .visits = visits(x, m),
+	};
 
 	if (r > 0) {
 		x->polled = m;
@@ -29,46 +38,68 @@ static int poll_on(struct ww_mutex *m, struct ww_acquire_ctx *x, const struct ww
 	return ww_debug_result(m, x, r, true);
 }
 
-static int first_poll(struct ww_mutex *m, struct ww_acquire_ctx *x, const struct ww_waker *waker)
+int ww_may_poll(const char *call, struct ww_mutex *m, struct ww_acquire_ctx *x, unsigned what)
 {
-	int r = ww_may_lock("ww_mutex_lock_poll", m, x);
+	int r;
 
-	if (!r && is_loop(x))
-		r = -EINVAL;
+	if (x && phase_of(x) == IN_POLL && x->call.of == m && x->call.what == what)
+		return 0;
+	r = ww_admit(call, CALL_POLL, m, x, NULL);
 	if (r)
 		return r;
 	DEBUG(ww_debug_is_polled(x->own));
-	return poll_on(m, x, waker, ww_lock_(&x->own->handle, m->number, false));
+	x->call = (struct ww_call){ m, what };
+	return 0;
 }
 
-int ww_mutex_lock_poll(struct ww_mutex *m, struct ww_acquire_ctx *x, const struct ww_waker *waker)
+int ww_poll_on(struct ww_mutex *m, struct ww_acquire_ctx *x, const struct ww_waker *waker)
 {
-	if (!x->own || !is_polled(x))
-		return first_poll(m, x, waker);
-	if (x->polled != m)
-		return -EBUSY;
+	if (!is_polled(x))
+		return poll_on(m, x, waker, ww_lock_(&x->own->handle, m->number, false));
 	ww_disarm(x->own);
 	return poll_on(m, x, waker, -EINPROGRESS);
 }
 
-/* If it waits, another thread may already use the context. */
-static int result_of_number(struct ww_mutex *m, struct ww_acquire_ctx *x, int r)
+int ww_mutex_lock_poll(struct ww_mutex *m, struct ww_acquire_ctx *x, const struct ww_waker *waker)
 {
-	return r == -EINPROGRESS ? r : ww_number_result(m, x, r);
+	int r = ww_may_poll("ww_mutex_lock_poll", m, x, TO_LOCK);
+
+	return r ? r : ww_poll_on(m, x, waker);
 }
 
 int ww_number_lock_poll(uint32_t number, struct ww_acquire_ctx *x, const struct ww_waker *waker)
 {
 	struct ww_mutex *m = ww_number_asked("ww_number_lock_poll", number, x, 0);
 
-	return m ? result_of_number(m, x, ww_mutex_lock_poll(m, x, waker)) : -EINVAL;
+	return m ? ww_mutex_lock_poll(m, x, waker) : -EINVAL;
 }
 
 int ww_number_lock_poll_further_(uint32_t number, struct ww_acquire_ctx *x, const struct ww_waker *waker, int r)
 {
 	struct ww_mutex *m = ww_number_asked("ww_number_lock_poll", number, x, r);
 
-	return m ? result_of_number(m, x, poll_on(m, x, waker, r)) : -EINVAL;
+	if (!m)
+		return -EINVAL;
+	x->call = (struct ww_call){ m, TO_LOCK };
+	return poll_on(m, x, waker, r);
+}
+
+int ww_acquire_end_wait(struct ww_acquire_ctx *x)
+{
+	struct ww_mutex *m = x->polled, *asked = x->call.of;
+	unsigned what = x->call.what;
+	int r;
+
+	if (!x->own || !is_polled(x))
+		return x->own ? 0 : -EINVAL;
+	r = ww_poll_on(m, x, NULL);
+	if (!r)
+		(void)(visits(x, m) ? ww_unlock_by(m, x->own) : ww_unlock_of(m, x));
+	if (what == TO_WRITE && m != asked)
+		(void)ww_unlock_of(asked, x);
+	if (what == TO_READ && m == asked && !x->own->desk->reads)
+		(void)ww_unlock_of(&x->own->desk->mutex, x);
+	return r == -ETIMEDOUT ? 0 : r;
 }
 
 /* ---- contexts ---- */
@@ -105,6 +136,14 @@ static int seek_on(struct ww_seek *me, const struct ww_waker *waker, ww_seat **s
 		*s = me->seat_;
 	*me = (struct ww_seek){ 0 };
 	return !served ? -ETIMEDOUT : *s ? 0 : -EINTR;
+}
+
+void ww_seek_end(struct ww_seek *me)
+{
+	ww_seat *s;
+
+	if (me->of_ && !seek_on(me, NULL, &s))
+		give_seat(s);
 }
 
 static int seek(struct ww_class *c, struct ww_seek *me, const struct ww_waker *waker, ww_seat **s)

@@ -54,6 +54,8 @@ struct ww_seek {
  */
 WW_MUST_CHECK int ww_acquire_init_poll(struct ww_acquire_ctx *ctx, struct ww_class *ww_class, struct ww_seek *seek,
 				       const struct ww_waker *waker);
+/* Ends a wait for a context, if one goes on, and begins none: for who drops a task, which may be in such a wait. */
+void ww_seek_end(struct ww_seek *seek);
 /*
  * As ww_mutex_lock_interruptible, and ww_number_lock_until with NULL, with any context; they also return -EINVAL in
  * ww_until_all_locked and after it.  After -EDEADLK release everything, and poll the same mutex first.  Without a waker
@@ -62,6 +64,12 @@ WW_MUST_CHECK int ww_acquire_init_poll(struct ww_acquire_ctx *ctx, struct ww_cla
  */
 WW_MUST_CHECK int ww_mutex_lock_poll(struct ww_mutex *lock, struct ww_acquire_ctx *ctx, const struct ww_waker *waker);
 WW_MUST_CHECK int ww_number_lock_poll(uint32_t number, struct ww_acquire_ctx *ctx, const struct ww_waker *waker);
+/*
+ * Ends whatever wait a poll has begun for this context, to lock, to read or to write.  What the call acquired on its way is
+ * released, also what it asked for if that came first; what was held before still is.  It returns 0; -EDEADLK or -EINTR if that
+ * came first, as the poll would have returned it; -EINVAL: the context has ended.
+ */
+int ww_acquire_end_wait(struct ww_acquire_ctx *ctx);
 /*
  * After -EINPROGRESS: true if the waker wasn't called and won't be; a poll must follow nevertheless.  False: it was called,
  * or is about to be.  So a waker can own a reference.  seek is that of a wait for a context, else NULL.
@@ -88,6 +96,7 @@ struct ww_woken *ww_event_take(struct ww_event *event);
 #if defined(WW_DEBUG) && !defined(WW_CLASS_H)
 #define ww_acquire_init_poll(...) (WW_HERE_, ww_acquire_init_poll(__VA_ARGS__))
 #define ww_mutex_lock_poll(...) (WW_HERE_, ww_mutex_lock_poll(__VA_ARGS__))
+#define ww_acquire_end_wait(...) (WW_HERE_, ww_acquire_end_wait(__VA_ARGS__))
 #define ww_number_lock_poll(...) (WW_HERE_, ww_number_lock_poll(__VA_ARGS__))
 #endif
 

@@ -2,8 +2,24 @@
  * ww_queue.c - the queue of those that found no seat free: how they wait, how they are called and get a seat, what
  * ends their waits, and what is said of waits that last.
  *
- * The tables at the head of ww_seat.c have what becomes of a seat that is given while somebody waits, and of a task
- * that waits.
+ * Threads and tasks that wait are of one kind (struct ww_seek).  A thread's waker is there until it is called; a task may
+ * take its own back, and polls then, which leaves another one.  What is done with a waiter is the same in both cases: the
+ * waker that isn't there is nobody's, and the poll finds what was done.
+ *
+ *	served_		its waker is		what comes next, and by what
+ *	WAITS		there, or taken back	CALLED: a task's, the first in the queue, for a seat that was given (call_first)
+ *						SERVED: a seat is handed to it (ww_serve, ww_hands_over), or NULL, which
+ *						ends its wait (end_seeking, ww_is_served)
+ *						out of the queue: it gives up (ww_leave_queue)
+ *	CALLED		called, or taken back	SERVED: its poll finds a seat; or it is handed one, or its wait ends there
+ *						CALLED: its poll finds none among a few, and calls its own waker
+ *						WAITS: it has looked often; but first it says that nobody is called, and
+ *						looks at all seats
+ *						out of the queue, likewise; whoever was CALLED passes that on (take_out)
+ *	SERVED		called, or taken back	it isn't in the queue any more: seat_ is its own, or its wait has ended
+ *
+ * Who isn't the first in the queue WAITS.  Each change is made under the lock `queue`, and a waker called after it.
+ * tests/seats.py tries all that tasks may do by this table and that of seats at the head of ww_seat.c.
  */
 #define _GNU_SOURCE
 #include "ww_seat.h"
@@ -402,23 +418,24 @@ COLD int ww_seek_seat(struct ww_pool *p, const struct timespec *until, bool heed
 
 bool ww_ends_waits(const struct ww_pool *p) { return __atomic_load_n(&p->ends_waits, __ATOMIC_SEQ_CST); }
 
-/* Ends the waits in a queue; whoever was called for a seat looks by itself.  A waker is called with nothing locked. */
+/* Ends each wait in a queue that heeds it.  A waker is called with nothing locked. */
 static void end_seeking(struct ww_seats *of)
 {
-	struct ww_waker waker;
+	bool is_one;
 
 	do {
 		struct ww_seek **at = &of->first;
+		struct ww_waker waker = { 0 };
 
-		waker = (struct ww_waker){ 0 };
 		pthread_mutex_lock(&of->pool->queue);
 		while (*at && !((*at)->heeds_ && (*at)->served_ != CALLED))
 			at = &(*at)->next_;
-		if (*at)
+		is_one = *at;
+		if (is_one)
 			waker = hand_to(of, at, NULL);
 		pthread_mutex_unlock(&of->pool->queue);
 		call_waker(waker);
-	} while (waker.wake);
+	} while (is_one);
 }
 
 /* Said before anybody is woken, who looks at it after that. */

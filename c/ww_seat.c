@@ -47,14 +47,7 @@
  *				IS_SHARED: else (gives); anybody uses it, and the first in the queue is called, unless
  *				it was (calls)
  *
- * A task that waits is one of these, and who isn't the first in the queue WAITS:
- *
- *	WAITS	and its waker is there
- *	CALLED	its waker was called; it looks for a seat.  If it finds none among a few, it looks again, by its own
- *		waker.  Having looked often it WAITS again, but then it first says that nobody is called, and looks at
- *		all of them
- *	SERVED	it has a seat, and isn't in the queue any more; as a thread is, behind WAITS.  If it was CALLED, the
- *		next one is
+ * What becomes of a waiter is at the head of ww_queue.c.
  *
  * So wherever nobody is amid a call, none of the seats that may be claimed is free while somebody waits, unless the
  * first was called: who drops a call has looked at all, and who leaves passes it on.  tests/seats.py tries all that

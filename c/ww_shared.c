@@ -38,7 +38,8 @@
 #define _GNU_SOURCE
 #include "ww_context.h"
 #include "ww_shared.h"
-#include <string.h>
+#include <sys/mman.h>
+#include <unistd.h>
 
 /* How often a writer looks at a mark before it waits: a reader may be about to take it back. */
 #ifndef WW_LOOKS
@@ -48,7 +49,9 @@
 #ifndef WW_BITS
 #define WW_BITS MANY_BITS
 #endif
-enum { WORD = 64 };
+
+/* From how many bytes on a desk is large. */
+enum { LARGE = 64 << 10 };
 
 /* How a call waits: as its context does, or until a time, or a cancel, or not at all, or by polls. */
 struct limit {
@@ -64,30 +67,25 @@ static inline int acquire(struct ww_mutex *m, struct ww_acquire_ctx *x, struct l
 	if (LIKELY(limit.how == WAITS_ON))
 		return ww_mutex_lock(m, x);
 	if (limit.how == POLLS)
-		return ww_mutex_lock_poll(m, x, limit.waker);
+		return ww_poll_on(m, x, limit.waker);
 	return limit.how == ENDS ? ww_mutex_lock_until(m, x, limit.until) : ww_mutex_trylock_checked(m, x) == 1 ? 0 : -EBUSY;
 }
 
-/* Whether this context holds it, and has asked for it: only its own thread changes that. */
-static inline bool has(const struct ww_acquire_ctx *x, const struct ww_mutex *m) { return holder_of(m) == x && !owes_it(x, m); }
-
 /* ---- desks ---- */
-
-static inline uint64_t mark_of(uint32_t number) { return (uint64_t)1 << number % WORD; }
 
 /* Who has the desk marks a mutex of this number; `had` is what was there. */
 static inline void mark(struct ww_desk *d, uint32_t number, uint64_t had)
 {
 	if (!had)
-		d->dirty[d->soiled++] = number / WORD;
+		d->dirty[d->soiled++] = number / MARKS_IN_A_WORD;
 	/* Before it looks whether the mutex is free: see above. */
-	__atomic_exchange_n(&d->marks[number / WORD], had | mark_of(number), __ATOMIC_SEQ_CST);
+	__atomic_exchange_n(&d->marks[number / MARKS_IN_A_WORD], had | mark_of(number), __ATOMIC_SEQ_CST);
 }
 
 /* Takes that back. Released, as wiped: whoever finds no mark comes after what was read. */
 static inline void unmark(struct ww_desk *d, uint32_t number, uint64_t had)
 {
-	__atomic_store_n(&d->marks[number / WORD], had, __ATOMIC_RELEASE);
+	__atomic_store_n(&d->marks[number / MARKS_IN_A_WORD], had, __ATOMIC_RELEASE);
 	if (!had)
 		d->soiled--;
 }
@@ -98,17 +96,27 @@ static inline void wipe(struct ww_desk *d)
 		__atomic_store_n(&d->marks[d->dirty[--d->soiled]], 0, __ATOMIC_RELEASE);
 }
 
+/* Zeros go back to the system, for which the heap may have written them. */
+static void return_zeros(uintptr_t from, size_t size)
+{
+	uintptr_t page = (uintptr_t)sysconf(_SC_PAGESIZE), first = (from + page - 1) / page * page;
+
+	if (size >= LARGE)
+		madvise((void *)first, (from + size) / page * page - first, MADV_DONTNEED);
+}
+
+/* Of a large class only the pages take memory that are written later. */
 static struct ww_desk *memory_of_desk(const struct ww_pool *p)
 {
-	size_t words = (p->locks + WORD - 1) / WORD;
-	size_t size = sizeof(struct ww_desk) + words * (sizeof(uint64_t) + sizeof(uint32_t));
-	struct ww_desk *d;
+	size_t words = (p->locks + MARKS_IN_A_WORD - 1) / MARKS_IN_A_WORD, line = _Alignof(struct ww_desk);
+	size_t size = line + sizeof(struct ww_desk) + words * (sizeof(uint64_t) + sizeof(uint32_t));
+	uintptr_t memory = (uintptr_t)calloc(1, size);
+	struct ww_desk *d = (struct ww_desk *)(memory + line - memory % line);
 
-	size = (size + _Alignof(struct ww_desk) - 1) / _Alignof(struct ww_desk) * _Alignof(struct ww_desk);
-	d = aligned_alloc(_Alignof(struct ww_desk), size);
-	if (!d)
+	if (!memory)
 		return NULL;
-	memset(d, 0, size);
+	return_zeros(memory, size);
+	d->memory = (void *)memory;
 	d->dirty = (uint32_t *)(void *)&d->marks[words];
 	return d;
 }
@@ -121,17 +129,17 @@ COLD static int make_desk(ww_seat *s)
 {
 	struct ww_pool *p = s->pool;
 	struct ww_desk *d = memory_of_desk(p);
-	int r = d ? ww_take_number(p, &d->mutex, &d->mutex.number) : -ENOMEM;
+	int r = d ? ww_take_number(p, NULL, &d->mutex.number) : -ENOMEM;
 	uint32_t k;
 
 	if (r) {
-		free(d);
+		free(d ? d->memory : NULL);
 		return r;
 	}
 	d->mutex.pool = p;
 	d->mutex.waiters = IS_DESK;
 	d->seat = (uint32_t)(s - p->seats);
-	DEBUG(ww_debug_made(&d->mutex));
+	lies_here(p, &d->mutex);
 	pthread_mutex_lock(&p->numbers);
 	__atomic_fetch_sub(&p->taken, 1, __ATOMIC_RELEASE);
 	k = p->made++ % WW_BITS;
@@ -143,11 +151,22 @@ COLD static int make_desk(ww_seat *s)
 	return 0;
 }
 
-/* Whether the context is at its desk, which no loop owes. */
-static inline bool sits(const struct ww_acquire_ctx *x, const struct ww_desk *d) { return d && holder_of(&d->mutex) == x; }
+/* Takes a desk on the way to a mutex: its own, or another's, for a moment. */
+static int take_desk(struct ww_desk *d, struct ww_mutex *m, struct ww_acquire_ctx *x, struct limit limit)
+{
+	struct ww_mutex *desk = &d->mutex;
+	struct ww_wait how = { .heeds = limit.how == ENDS || x->state & WW_INTERRUPTIBLE, .asks = m, .visits = d != x->own->desk };
 
-/* It comes there. */
-static inline int sit(struct ww_acquire_ctx *x, struct limit limit)
+	if (limit.how == POLLS)
+		return ww_poll_on(desk, x, limit.waker);
+	if (limit.how == TRIES_ONCE)
+		return how.visits ? ww_try_(&x->own->handle, d->mutex.number) : ww_mutex_trylock_checked(desk, x) == 1 ? 0 : -EBUSY;
+	how.until = limit.until;
+	return ww_lock_as(desk, x, &how);
+}
+
+/* The context comes to its desk. */
+static inline __attribute__((always_inline)) int sit(struct ww_mutex *m, struct ww_acquire_ctx *x, struct limit limit)
 {
 	int r = LIKELY(x->own->desk) ? 0 : make_desk(x->own);
 	struct ww_desk *d = x->own->desk;
@@ -155,10 +174,17 @@ static inline int sit(struct ww_acquire_ctx *x, struct limit limit)
 	if (UNLIKELY(r))
 		return r;
 	__atomic_store_n(&d->reads, 0, __ATOMIC_RELAXED);
-	r = acquire(&d->mutex, x, limit);
-	if (LIKELY(!r))
-		wipe(d);
-	return r;
+	if (LIKELY(x->pool != NO_POOL) && !(limit.how == POLLS && is_polled(x)) && LIKELY(!ww_try_(&x->own->handle, d->mutex.number))) {
+		own_it(&d->mutex, x, NULL);
+		(void)ww_debug_result(&d->mutex, x, 0, false);
+	} else {
+		r = take_desk(d, m, x, limit);
+	}
+	if (UNLIKELY(r))
+		return r;
+	wipe(d);
+	x->state &= ~(unsigned)IS_TOLD;
+	return 0;
 }
 
 /* Whether a task waits for it, which may be one that this thread has to run. */
@@ -192,11 +218,13 @@ COLD static bool sit_for_certain(struct ww_acquire_ctx *x, struct ww_desk *d)
 static inline void reads_more(struct ww_desk *d) { __atomic_store_n(&d->reads, d->reads + 1, __ATOMIC_RELEASE); }
 
 /* Once so many are left, which may be none. */
-static void reads_on(struct ww_desk *d, uint32_t left)
+static void reads_on(struct ww_acquire_ctx *x, uint64_t left)
 {
+	struct ww_desk *d = x->own->desk;
+
 	__atomic_store_n(&d->reads, left, __ATOMIC_RELAXED);
 	if (!left)
-		ww_mutex_unlock(&d->mutex);
+		(void)ww_unlock_of(&d->mutex, x);
 }
 
 /* ---- mutexes ---- */
@@ -213,307 +241,296 @@ void ww_shared_mutex_init(struct ww_shared_mutex *m, struct ww_class *c)
 	ww_mutex_init(&m->mutex_, c);
 }
 
-/*
- * Whether a context reads it, by this desk: its seat has the desk, and there is a read, since the desk is the seat's,
- * and so the mark is from there.  A writer that has the desk for a moment may find marks from before.  What this sees
- * of the desk's word comes after all that was read by it before.
- */
-static bool reads_it(const struct ww_pool *p, struct ww_desk *d, uint32_t number)
+static bool is_used(struct ww_shared_mutex *m)
 {
-	int32_t seen = ww_look_(&p->seats[seats_of(p)].handle, d->mutex.number);
+	struct ww_pool *p = pool_at(&m->mutex_);
+	bool is = p && !p->gone && ww_is_used(m);
 
-	__tsan_acquire(&d->mutex);
-	return seen == (int32_t)d->seat + 1 && __atomic_load_n(&d->reads, __ATOMIC_ACQUIRE) &&
-	       __atomic_load_n(&d->marks[number / WORD], __ATOMIC_ACQUIRE) & mark_of(number);
-}
-
-/* By a look of the spare seat, as ww_is_released. */
-static bool is_read(struct ww_pool *p, const struct ww_shared_mutex *m)
-{
-	bool is = false;
-
-	pthread_mutex_lock(&p->spare);
-	for (uint64_t bits = __atomic_load_n(&m->readers_, __ATOMIC_SEQ_CST); bits && !is; bits &= bits - 1)
-		for (struct ww_desk *d = __atomic_load_n(&p->desks[__builtin_ctzll(bits)], __ATOMIC_SEQ_CST); d && !is;
-	     d = d->next)
-			is = reads_it(p, d, m->mutex_.number);
-	pthread_mutex_unlock(&p->spare);
+	if (is)
+		ww_debug_fault(p->class_, "ww_shared_mutex_destroy", "a context reads the mutex, holds it, or waits for it");
 	return is;
 }
 
+/* Its memory goes: a context that has read it and reads on names the number alone. */
 int ww_shared_mutex_end_(struct ww_shared_mutex *m)
 {
-	struct ww_pool *p = pool_at(&m->mutex_);
-
-	if (p && !p->gone && is_read(p, m)) {
-		ww_debug_fault(p->class_, "ww_shared_mutex_destroy", "a context reads the mutex");
-		return -EBUSY;
-	}
-	return ww_mutex_end_(&m->mutex_);
+	return is_used(m) ? ww_mutex_leave(&m->mutex_) : ww_mutex_end_(&m->mutex_);
 }
 
-int ww_shared_mutex_destroy(struct ww_shared_mutex *m)
-{
-	int r = ww_shared_mutex_end_(m);
-
-	return r ? r : ww_mutex_destroy(&m->mutex_);
-}
+int ww_shared_mutex_destroy(struct ww_shared_mutex *m) { return is_used(m) ? -EBUSY : ww_mutex_destroy(&m->mutex_); }
 
 size_t ww_shared_mutex_size(void) { return sizeof(struct ww_shared_mutex); }
 
 bool ww_shared_mutex_is_written_by(const struct ww_shared_mutex *m, const struct ww_acquire_ctx *x)
 {
-	return ww_mutex_is_held_by(&m->mutex_, x);
-}
-
-static inline bool is_marked(const struct ww_desk *d, uint32_t number)
-{
-	return __atomic_load_n(&d->marks[number / WORD], __ATOMIC_RELAXED) & mark_of(number);
+	return relation(x, &m->mutex_, HAS_IT) & HAS_IT;
 }
 
 bool ww_shared_mutex_is_read_by(const struct ww_shared_mutex *m, const struct ww_acquire_ctx *x)
 {
-	return ww_number_is_read(m->mutex_.number, x);
+	return relation(x, &m->mutex_, READS_IT) & READS_IT;
+}
+
+/* ---- which calls may go on ---- */
+
+/* Where the quick way doesn't do; `what` it asks for is told apart by polls. */
+COLD static int admit(const char *call, struct ww_shared_mutex *m, struct ww_acquire_ctx *x, struct limit limit, unsigned what)
+{
+	const struct timespec *until = limit.how == ENDS ? limit.until : NULL;
+	int r = limit.how == POLLS ? ww_may_poll(call, &m->mutex_, x, what) : ww_admit(call, CALL_LOCK, &m->mutex_, x, until);
+
+	return !r && what == TO_READ && x->state & IS_TOLD && sits(x) ? ww_debug_result(&m->mutex_, x, -EINVAL, true) : r;
+}
+
+/* Whether it may, as a call without a time may of a mutex that fits. */
+static inline bool may_at_once(const struct ww_shared_mutex *m, const struct ww_acquire_ctx *x, struct limit limit)
+{
+	return limit.how != POLLS && (limit.how != ENDS || LIKELY(!limit.until)) && LIKELY(x) && LIKELY(pool_at(&m->mutex_) == x->pool) &&
+	       LIKELY(!(x->state & (IS_POLLED | IS_TOLD)));
 }
 
 /* ---- reads ---- */
-
-/* Where the quick way doesn't do: whether the context may read this. */
-COLD static int may_read(struct ww_mutex *m, struct ww_acquire_ctx *x)
-{
-	int r = x ? ww_may_lock("ww_shared_mutex_lock_shared", m, x) : -EINVAL;
-
-	return !r && ww_is_contended(x) && sits(x, x->own->desk) ? -EINVAL : r;
-}
 
 /*
  * The lines of a reader, above; it looks first whether somebody seems to have the mutex, which is a hint.  What it
  * reads comes after what the last writer wrote.
  */
-static inline bool reads_at_once(struct ww_mutex *m, uint64_t *readers, struct ww_acquire_ctx *x, struct ww_desk *d)
+static inline bool reads_at_once(struct ww_shared_mutex *m, struct ww_acquire_ctx *x, struct ww_desk *d)
 {
-	uint32_t number = m->number;
-	uint64_t had = __atomic_load_n(&d->marks[number / WORD], __ATOMIC_RELAXED);
+	uint32_t number = m->mutex_.number;
+	uint64_t had = __atomic_load_n(&d->marks[number / MARKS_IN_A_WORD], __ATOMIC_RELAXED);
 
 	if (had & mark_of(number))
 		return true; /* it reads it already */
-	if (UNLIKELY(holder_of(m)))
+	if (UNLIKELY(holder_of(&m->mutex_)))
 		return false;
-	if (UNLIKELY(!(__atomic_load_n(readers, __ATOMIC_SEQ_CST) & d->bit)))
-		__atomic_fetch_or(readers, d->bit, __ATOMIC_SEQ_CST);
+	if (UNLIKELY(!(__atomic_load_n(&m->readers_, __ATOMIC_SEQ_CST) & d->bit)))
+		__atomic_fetch_or(&m->readers_, d->bit, __ATOMIC_SEQ_CST);
 	mark(d, number, had);
-	if (LIKELY(!ww_is_free_(&x->own->handle, number)) && LIKELY(__atomic_load_n(readers, __ATOMIC_SEQ_CST) & d->bit) &&
+	if (LIKELY(!ww_is_free_(&x->own->handle, number)) && LIKELY(__atomic_load_n(&m->readers_, __ATOMIC_SEQ_CST) & d->bit) &&
 	    LIKELY(!ww_is_free_(&x->own->handle, number))) {
-		__tsan_acquire(m);
+		__tsan_acquire(&m->mutex_);
 		return true;
 	}
 	unmark(d, number, had);
 	return false;
 }
 
-/* Who has the mutex reads it from now on, too. */
-static void read_held(struct ww_mutex *m, uint64_t *readers, struct ww_desk *d)
+/* Who has the mutex reads it from now on, too: before it is released, so that nobody finds neither. */
+static void read_held(struct ww_shared_mutex *m, struct ww_desk *d)
 {
-	uint32_t number = m->number;
+	uint32_t number = m->mutex_.number;
 
-	__atomic_fetch_or(readers, d->bit, __ATOMIC_SEQ_CST);
-	if (!is_marked(d, number))
-		mark(d, number, __atomic_load_n(&d->marks[number / WORD], __ATOMIC_RELAXED));
+	__atomic_fetch_or(&m->readers_, d->bit, __ATOMIC_SEQ_CST);
+	if (!has_mark(d, number))
+		mark(d, number, __atomic_load_n(&d->marks[number / MARKS_IN_A_WORD], __ATOMIC_RELAXED));
+	reads_more(d);
 }
 
-/* It couldn't be read at once; maybe this context has the mutex, which then goes on having it. */
-COLD static int reads_in_turn(struct ww_mutex *m, uint64_t *readers, struct ww_acquire_ctx *x, struct ww_desk *d,
-			      struct limit limit)
+/*
+ * It couldn't be read at once; maybe this context has the mutex, which then goes on having it.  By number it is told so
+ * outside loops: a reference that writes is no beginning of one that reads.
+ */
+COLD static int reads_in_turn(struct ww_shared_mutex *m, struct ww_acquire_ctx *x, struct limit limit)
 {
-	bool writes = has(x, m);
-	int r = writes ? 0 : acquire(m, x, limit);
+	bool writes = relation(x, &m->mutex_, HAS_IT) & HAS_IT;
+	int r = !writes ? acquire(&m->mutex_, x, limit) : is_of_number(&m->mutex_) && !is_loop(x) ? -EALREADY : 0;
 
-	if (r)
-		return r;
-	read_held(m, readers, d);
-	if (!writes)
-		ww_mutex_unlock(m);
-	return 0;
-}
-
-static __attribute__((noinline)) int read_by(struct ww_mutex *m, uint64_t *readers, struct ww_acquire_ctx *x,
-					     struct limit limit)
-{
-	int r = LIKELY(x) && LIKELY(pool_at(m) == x->pool) ? 0 : may_read(m, x);
-	struct ww_desk *d;
-
-	if (UNLIKELY(!r && is_polled(x)) && limit.how != POLLS)
-		return -EBUSY;
-	if (LIKELY(!r) && !sits(x, x->own->desk))
-		r = sit(x, limit);
-	if (UNLIKELY(r))
-		return r;
-	d = x->own->desk;
-	if (is_polled(x) || UNLIKELY(!reads_at_once(m, readers, x, d)))
-		r = reads_in_turn(m, readers, x, d, limit);
-	if (LIKELY(!r))
-		reads_more(d);
-	else if (r != -EINPROGRESS)
-		reads_on(d, d->reads);
+	if (!r) {
+		read_held(m, x->own->desk);
+		if (!writes)
+			(void)ww_unlock_of(&m->mutex_, x);
+	} else if (r != -EINPROGRESS) {
+		reads_on(x, x->own->desk->reads);
+	}
 	return r;
 }
 
-/* First the quick way, which is enough where nobody writes. */
-int ww_shared_mutex_lock_shared(struct ww_shared_mutex *m, struct ww_acquire_ctx *x)
+static inline __attribute__((always_inline)) int read_by(struct ww_shared_mutex *m, struct ww_acquire_ctx *x, struct limit limit)
 {
-	struct ww_desk *d = LIKELY(x) && LIKELY(pool_at(&m->mutex_) == x->pool) && !is_polled(x) ? x->own->desk : NULL;
-	int r = LIKELY(d) && !sits(x, d) ? sit(x, (struct limit){ 0 }) : 0;
+	int r = may_at_once(m, x, limit) ? 0 : admit("ww_shared_mutex_lock_shared", m, x, limit, TO_READ);
+	struct ww_desk *d;
 
-	if (UNLIKELY(!d) || UNLIKELY(r) || UNLIKELY(!reads_at_once(&m->mutex_, &m->readers_, x, d)))
-		return r ? r : read_by(&m->mutex_, &m->readers_, x, (struct limit){ 0 });
+	if (UNLIKELY(r))
+		return r;
+	d = x->own->desk;
+	if (!sits(x)) {
+		r = sit(&m->mutex_, x, limit);
+		if (UNLIKELY(r))
+			return r;
+		d = x->own->desk;
+	}
+	if ((limit.how == POLLS && is_polled(x)) || UNLIKELY(!reads_at_once(m, x, d)))
+		return reads_in_turn(m, x, limit);
 	reads_more(d);
 	return 0;
 }
 
+int ww_shared_mutex_lock_shared(struct ww_shared_mutex *m, struct ww_acquire_ctx *x) { return read_by(m, x, (struct limit){ 0 }); }
+
 int ww_shared_mutex_lock_shared_until(struct ww_shared_mutex *m, struct ww_acquire_ctx *x, const struct timespec *until)
 {
-	return is_time(until) ? read_by(&m->mutex_, &m->readers_, x, (struct limit){ ENDS, { until } }) : -EINVAL;
+	return read_by(m, x, (struct limit){ ENDS, { until } });
 }
 
 int ww_shared_mutex_trylock_shared(struct ww_shared_mutex *m, struct ww_acquire_ctx *x)
 {
-	return !read_by(&m->mutex_, &m->readers_, x, (struct limit){ TRIES_ONCE, { NULL } });
+	return !read_by(m, x, (struct limit){ TRIES_ONCE, { NULL } });
 }
 
 /* ---- writes ---- */
 
-/* Waits for whoever reads it by this desk. */
-static int await_desk(uint32_t number, struct ww_desk *d, struct ww_acquire_ctx *x, struct limit limit)
+/* It comes to somebody's desk, and leaves it without a mark. */
+static int wipe_desk(struct ww_mutex *m, struct ww_desk *d, struct ww_acquire_ctx *x, struct limit limit)
 {
-	for (unsigned looks = 1; __atomic_load_n(&d->marks[number / WORD], __ATOMIC_SEQ_CST) & mark_of(number); looks++) {
-		int r;
+	int r = take_desk(d, m, x, limit);
 
-		if (looks < WW_LOOKS) {
-			ww_pause(1);
-			continue;
-		}
-		r = acquire(&d->mutex, x, limit);
-		if (r)
-			return r;
-		wipe(d);
-		ww_mutex_unlock(&d->mutex);
-	}
+	if (r)
+		return r;
+	wipe(d);
+	(void)ww_unlock_by(&d->mutex, x->own);
 	return 0;
+}
+
+/* Waits for whoever reads it by this desk. */
+static int await_desk(struct ww_mutex *m, struct ww_desk *d, struct ww_acquire_ctx *x, struct limit limit)
+{
+	uint64_t *marks = &d->marks[m->number / MARKS_IN_A_WORD];
+	int r = 0;
+
+	for (unsigned looks = 1; !r && __atomic_load_n(marks, __ATOMIC_SEQ_CST) & mark_of(m->number); looks++) {
+		if (looks < WW_LOOKS)
+			ww_pause(1);
+		else
+			r = wipe_desk(m, d, x, limit);
+	}
+	return r;
 }
 
 /* The lines of a writer, above, which has the mutex. By its own desk nobody else reads. */
-COLD static int await_readers(struct ww_mutex *m, uint64_t *readers, struct ww_acquire_ctx *x, struct limit limit)
+COLD static int await_readers(struct ww_shared_mutex *m, struct ww_acquire_ctx *x, struct limit limit)
 {
-	for (uint64_t bits = __atomic_load_n(readers, __ATOMIC_SEQ_CST); bits; bits &= bits - 1) {
+	bool reads = relation(x, &m->mutex_, READS_IT) & READS_IT;
+
+	for (uint64_t bits = __atomic_load_n(&m->readers_, __ATOMIC_SEQ_CST); bits; bits &= bits - 1) {
 		struct ww_desk *d = __atomic_load_n(&x->own->pool->desks[__builtin_ctzll(bits)], __ATOMIC_SEQ_CST);
-		bool own = false;
 
 		for (; d; d = d->next) {
-			int r = d != x->own->desk ? await_desk(m->number, d, x, limit) : 0;
+			int r = d != x->own->desk ? await_desk(&m->mutex_, d, x, limit) : 0;
 
 			if (r)
 				return r;
-			own |= d == x->own->desk && sits(x, d) && is_marked(d, m->number);
 		}
-		if (!own)
-			__atomic_fetch_and(readers, ~(bits & -bits), __ATOMIC_SEQ_CST);
+		if (!reads || !(x->own->desk->bit & bits & -bits))
+			__atomic_fetch_and(&m->readers_, ~(bits & -bits), __ATOMIC_SEQ_CST);
 	}
 	return 0;
 }
 
-static inline int write_by(struct ww_mutex *m, uint64_t *readers, struct ww_acquire_ctx *x, struct limit limit)
+/* Who has the mutex, and got no further, releases it, unless it waits by a poll. */
+static inline int kept(struct ww_shared_mutex *m, struct ww_acquire_ctx *x, int r)
 {
+	if (r && r != -EINPROGRESS)
+		(void)ww_unlock_of(&m->mutex_, x);
+	return r;
+}
+
+/* From where it has the mutex on. */
+static inline int write_on(struct ww_shared_mutex *m, struct ww_acquire_ctx *x, struct limit limit)
+{
+	return LIKELY(!__atomic_load_n(&m->readers_, __ATOMIC_SEQ_CST)) ? 0 : kept(m, x, await_readers(m, x, limit));
+}
+
+/* A poll goes on at the desk for which it waits. What the context writes already, in a loop that may ask twice, it writes on. */
+static int write_slowly(struct ww_shared_mutex *m, struct ww_acquire_ctx *x, struct limit limit)
+{
+	int r = admit("ww_shared_mutex_lock", m, x, limit, TO_WRITE);
 	bool writes;
+
+	if (r)
+		return r;
+	if (is_polled(x) && x->polled != &m->mutex_) {
+		r = wipe_desk(&m->mutex_, (struct ww_desk *)(void *)x->polled, x, limit);
+		return r ? kept(m, x, r) : write_on(m, x, limit);
+	}
+	writes = is_loop(x) && relation(x, &m->mutex_, HAS_IT) & HAS_IT;
+	r = acquire(&m->mutex_, x, limit);
+	return r || writes ? r : write_on(m, x, limit);
+}
+
+static inline int write_by(struct ww_shared_mutex *m, struct ww_acquire_ctx *x, struct limit limit)
+{
 	int r;
 
-	if (UNLIKELY(!x))
-		return -EINVAL;
-	writes = has(x, m);
-	r = acquire(m, x, limit);
-	if (UNLIKELY(r) || LIKELY(!__atomic_load_n(readers, __ATOMIC_SEQ_CST)) || writes)
-		return r;
-	r = await_readers(m, readers, x, limit);
-	if (r == -EINPROGRESS)
-		return r;
-	if (r)
-		ww_mutex_unlock(m);
-	return r;
+	if (UNLIKELY(!may_at_once(m, x, limit)) || UNLIKELY(x->state & WW_IGNORE_DUPLICATES))
+		return write_slowly(m, x, limit);
+	r = acquire(&m->mutex_, x, limit);
+	return UNLIKELY(r) ? r : write_on(m, x, limit);
 }
 
 int ww_shared_mutex_lock(struct ww_shared_mutex *m, struct ww_acquire_ctx *x)
 {
-	return write_by(&m->mutex_, &m->readers_, x, (struct limit){ 0 });
+	return write_by(m, x, (struct limit){ 0 });
 }
 
 int ww_shared_mutex_lock_until(struct ww_shared_mutex *m, struct ww_acquire_ctx *x, const struct timespec *until)
 {
-	return write_by(&m->mutex_, &m->readers_, x, (struct limit){ ENDS, { until } });
+	return write_by(m, x, (struct limit){ ENDS, { until } });
 }
 
 int ww_shared_mutex_trylock(struct ww_shared_mutex *m, struct ww_acquire_ctx *x)
 {
-	return !write_by(&m->mutex_, &m->readers_, x, (struct limit){ TRIES_ONCE, { NULL } });
+	return !write_by(m, x, (struct limit){ TRIES_ONCE, { NULL } });
 }
 
 void ww_shared_mutex_downgrade(struct ww_shared_mutex *m, struct ww_acquire_ctx *x)
 {
-	struct ww_desk *d;
-
-	if (UNLIKELY(!x || !x->own || is_polled(x) || !has(x, &m->mutex_)))
+	if (UNLIKELY(!x || !x->own || is_polled(x) || !(relation(x, &m->mutex_, HAS_IT) & HAS_IT)))
 		end("ww_shared_mutex_downgrade",
 	    x && x->own && is_polled(x) ? WAITS_BY_POLL : "the context doesn't write the mutex");
 	if (!x->own->desk && make_desk(x->own))
 		return;
-	d = x->own->desk;
-	if (!sits(x, d) && !sit_for_certain(x, d))
+	if (!sits(x) && !sit_for_certain(x, x->own->desk))
 		return;
-	read_held(&m->mutex_, &m->readers_, d);
-	reads_more(d);
-	ww_mutex_unlock(&m->mutex_);
+	read_held(m, x->own->desk);
+	(void)ww_unlock_of(&m->mutex_, x);
 }
 
 int ww_shared_mutex_unlock(struct ww_shared_mutex *m, struct ww_acquire_ctx *x)
 {
 	if (is_polled(x))
 		return -EBUSY;
-	if (has(x, &m->mutex_))
-		return ww_mutex_unlock_checked(&m->mutex_);
-	if (!ww_shared_mutex_is_read_by(m, x)) {
+	if (holder_of(&m->mutex_) && relation(x, &m->mutex_, HAS_IT) & HAS_IT)
+		return ww_unlock_of(&m->mutex_, x);
+	if (!(relation(x, &m->mutex_, READS_IT) & READS_IT)) {
 		ww_debug_fault(NULL, "ww_shared_mutex_unlock", "the context neither reads nor writes the mutex");
 		return -EINVAL;
 	}
-	reads_on(x->own->desk, x->own->desk->reads - 1);
+	reads_on(x, x->own->desk->reads - 1);
 	return 0;
-}
-
-/*
- * A context that goes by numbers may have moved since it came to its desk: from now on that says where it is. Amid no
- * wait.
- */
-static void comes_along(struct ww_acquire_ctx *x)
-{
-	struct ww_desk *d = x->own && !is_polled(x) ? x->own->desk : NULL;
-
-	if (d && !sits(x, d) && (uint32_t)(ww_look_(&x->own->handle, d->mutex.number) & (WW_OLDER_ - 1)) == d->seat + 1)
-		__atomic_store_n(&d->mutex.ctx, x, __ATOMIC_RELAXED);
 }
 
 void ww_acquire_end_reads(struct ww_acquire_ctx *x)
 {
-	comes_along(x);
-	if (x->own && sits(x, x->own->desk))
-		reads_on(x->own->desk, 0);
+	if (x->own && is_polled(x))
+		end("ww_acquire_end_reads", WAITS_BY_POLL);
+	if (x->own && sits(x))
+		reads_on(x, 0);
 }
 
-static struct ww_mutex *contended_by(const struct ww_acquire_ctx *x) { return x ? x->contending_lock : NULL; }
+/* At which it got -EDEADLK. */
+static struct ww_mutex *contended_by(const struct ww_acquire_ctx *x)
+{
+	return x && x->own && x->state & IS_TOLD ? x->contending_lock : NULL;
+}
 
 int ww_shared_mutex_await(struct ww_acquire_ctx *x, const struct timespec *until)
 {
 	struct ww_mutex *m = contended_by(x);
-	int r = ww_mutex_lock_slow_until(m, x, until);
+	int r = ww_lock_slowly(m, x, (struct ww_wait){ .heeds = true, .until = until, .visits = true });
 
 	if (!r)
-		ww_mutex_unlock(m);
+		(void)ww_unlock_by(m, x->own);
 	return r;
 }
 
@@ -540,7 +557,7 @@ void ww_debug_reads(const struct ww_pool *p, uint32_t number, FILE *to)
 		return;
 	fprintf(to, "\nseat %u reads mutex", d->seat);
 	for (uint32_t n = 0; n < p->locks; n++)
-		if (is_marked(d, n)) {
+		if (has_mark(d, n)) {
 			fprintf(to, "%s %u", before, n);
 			before = ",";
 		}
@@ -567,24 +584,19 @@ static int lock_items(struct ww_acquire_ctx *x, const void *items, size_t count)
 /* If it fails, the reads that it has made end, but for the desk where the context read before. */
 int ww_shared_mutex_lock_all(struct ww_acquire_ctx *x, const struct ww_shared_item *items, size_t count)
 {
+	int r = ww_admit("ww_shared_mutex_lock_all", CALL_LIST, NULL, x, NULL);
+	uint64_t before;
 	bool sat;
-	uint32_t before;
-	int r;
 
-	if (UNLIKELY(!x || !x->own || is_loop(x))) {
-		ww_debug_fault(NULL, "ww_shared_mutex_lock_all",
-			       "the context has ended, or is in or behind ww_until_all_locked");
-		return -EINVAL;
-	}
-	if (is_polled(x))
-		return -EBUSY;
-	sat = sits(x, x->own->desk);
+	if (r)
+		return r;
+	sat = sits(x);
 	before = sat ? x->own->desk->reads : 0;
 	x->newest = NULL;
 	may_be_older(x);
 	r = ww_lock_list(x, lock_items, items, count, 0);
 	if (r && sat)
-		reads_on(x->own->desk, before);
+		reads_on(x, before);
 	return r;
 }
 
@@ -597,123 +609,66 @@ int ww_shared_mutex_lock_all(struct ww_acquire_ctx *x, const struct ww_shared_it
  * thread may go on with the context.
  */
 
-/* What `poller` is: of a write the mutex, of a read an odd address, and NULL of one that awaits another context. */
-static const void *reader_of(const struct ww_mutex *m) { return (const char *)m + 1; }
-
-static inline bool waits_at_desk(const struct ww_acquire_ctx *x)
-{
-	return __atomic_load_n(&x->polled->waiters, __ATOMIC_RELAXED) & IS_DESK;
-}
-
-/* Only the same call goes on with a wait. */
-static int may_poll(struct ww_acquire_ctx *x, const struct ww_mutex *m, const void *poller)
-{
-	if (UNLIKELY(!x || (x->own && is_loop(x))))
-		return -EINVAL;
-	if (is_polled(x))
-		return x->poller == poller && (x->polled == m || waits_at_desk(x)) ? 0 : -EBUSY;
-	x->poller = poller;
-	return 0;
-}
-
-static int read_poll(struct ww_mutex *m, uint64_t *readers, struct ww_acquire_ctx *x, const struct ww_waker *waker)
-{
-	int r = may_poll(x, m, reader_of(m));
-
-	if (!r && is_polled(x) && x->polled == m) /* it waits for its turn, so it is at its desk */
-		__atomic_store_n(&x->own->desk->mutex.ctx, x, __ATOMIC_RELAXED);
-	else if (!r)
-		comes_along(x);
-	return r ? r : read_by(m, readers, x, (struct limit){ POLLS, .waker = waker });
-}
-
-/*
- * It waits for whoever has this desk, and then for the other readers.  The context may have moved since it got the
- * mutex; and of a number, any other call by it that was refused has taken away that it holds this.
- */
-static int await_polled(struct ww_mutex *m, uint64_t *readers, struct ww_acquire_ctx *x, struct limit limit)
-{
-	struct ww_desk *d = (struct ww_desk *)(void *)x->polled;
-	int r;
-
-	__atomic_store_n(&m->ctx, x, __ATOMIC_RELAXED);
-	r = acquire(&d->mutex, x, limit);
-	if (!r) {
-		wipe(d);
-		ww_mutex_unlock(&d->mutex);
-		r = await_readers(m, readers, x, limit);
-	}
-	if (r && r != -EINPROGRESS)
-		ww_mutex_unlock(m);
-	return r;
-}
-
-static int write_poll(struct ww_mutex *m, uint64_t *readers, struct ww_acquire_ctx *x, const struct ww_waker *waker)
-{
-	const struct limit limit = { POLLS, .waker = waker };
-	int r = may_poll(x, m, m);
-
-	if (r)
-		return r;
-	comes_along(x);
-	return is_polled(x) && x->polled != m ? await_polled(m, readers, x, limit) : write_by(m, readers, x, limit);
-}
-
 int ww_shared_mutex_lock_shared_poll(struct ww_shared_mutex *m, struct ww_acquire_ctx *x, const struct ww_waker *waker)
 {
-	return read_poll(&m->mutex_, &m->readers_, x, waker);
+	return read_by(m, x, (struct limit){ POLLS, .waker = waker });
 }
 
 int ww_shared_mutex_lock_poll(struct ww_shared_mutex *m, struct ww_acquire_ctx *x, const struct ww_waker *waker)
 {
-	return write_poll(&m->mutex_, &m->readers_, x, waker);
+	return write_by(m, x, (struct limit){ POLLS, .waker = waker });
 }
 
 int ww_shared_mutex_await_poll(struct ww_acquire_ctx *x, const struct ww_waker *waker)
 {
 	struct ww_mutex *m = contended_by(x);
-	int r = may_poll(x, m, NULL);
+	int r = ww_may_poll("ww_shared_mutex_await_poll", m, x, TO_AWAIT);
 
 	if (!r)
-		r = ww_mutex_lock_poll(m, x, waker);
+		r = ww_poll_on(m, x, waker);
 	if (!r)
-		ww_mutex_unlock(m);
+		(void)ww_unlock_by(m, x->own);
 	return r;
 }
 
-/* ---- by number: outside loops the library's mutex doesn't say who holds it, as in ww_number.c ---- */
+/* ---- by number ---- */
 
-int ww_number_lock_shared(uint32_t number, uint64_t *readers, struct ww_acquire_ctx *x, const struct timespec *until)
+static struct ww_shared_mutex *asked(const char *call, uint32_t number, const struct ww_acquire_ctx *x)
 {
-	struct ww_mutex *m = ww_number_asked("ww_number_lock_shared", number, x, 0);
-
-	return m && is_time(until) ? read_by(m, readers, x, (struct limit){ ENDS, { until } }) : -EINVAL;
+	return shared_of(ww_number_asked(call, number, x, 0));
 }
 
-int ww_number_lock_exclusive(uint32_t number, uint64_t *readers, struct ww_acquire_ctx *x, const struct timespec *until)
+int ww_number_lock_shared(uint32_t number, struct ww_acquire_ctx *x, const struct timespec *until)
 {
-	struct ww_mutex *m = ww_number_asked("ww_number_lock_exclusive", number, x, 0);
+	struct ww_shared_mutex *m = asked("ww_number_lock_shared", number, x);
 
-	return m ? ww_number_result(m, x, write_by(m, readers, x, (struct limit){ ENDS, { until } })) : -EINVAL;
+	return LIKELY(m) ? read_by(m, x, (struct limit){ ENDS, { until } }) : -EINVAL;
 }
 
-int ww_number_lock_shared_poll(uint32_t number, uint64_t *readers, struct ww_acquire_ctx *x, const struct ww_waker *waker)
+int ww_number_lock_exclusive(uint32_t number, struct ww_acquire_ctx *x, const struct timespec *until)
 {
-	struct ww_mutex *m = ww_number_asked("ww_number_lock_shared_poll", number, x, 0);
+	struct ww_shared_mutex *m = asked("ww_number_lock_exclusive", number, x);
 
-	return m ? read_poll(m, readers, x, waker) : -EINVAL;
+	return m ? ww_shared_mutex_lock_until(m, x, until) : -EINVAL;
 }
 
-/* If it waits, another thread may already use the context. */
-int ww_number_lock_exclusive_poll(uint32_t number, uint64_t *readers, struct ww_acquire_ctx *x, const struct ww_waker *waker)
+int ww_number_lock_shared_poll(uint32_t number, struct ww_acquire_ctx *x, const struct ww_waker *waker)
 {
-	struct ww_mutex *m = ww_number_asked("ww_number_lock_exclusive_poll", number, x, 0);
-	int r = m ? write_poll(m, readers, x, waker) : -EINVAL;
+	struct ww_shared_mutex *m = asked("ww_number_lock_shared_poll", number, x);
 
-	return m && r != -EINPROGRESS ? ww_number_result(m, x, r) : r;
+	return m ? ww_shared_mutex_lock_shared_poll(m, x, waker) : -EINVAL;
+}
+
+int ww_number_lock_exclusive_poll(uint32_t number, struct ww_acquire_ctx *x, const struct ww_waker *waker)
+{
+	struct ww_shared_mutex *m = asked("ww_number_lock_exclusive_poll", number, x);
+
+	return m ? ww_shared_mutex_lock_poll(m, x, waker) : -EINVAL;
 }
 
 bool ww_number_is_read(uint32_t number, const struct ww_acquire_ctx *x)
 {
-	return x->own && sits(x, x->own->desk) && is_marked(x->own->desk, number);
+	const struct ww_mutex *m = ww_number_of(number, x);
+
+	return m && relation(x, m, READS_IT) & READS_IT;
 }

@@ -90,14 +90,12 @@ WW_MUST_CHECK int ww_shared_mutex_await(struct ww_acquire_ctx *ctx, const struct
 bool ww_shared_mutex_is_written_by(const struct ww_shared_mutex *lock, const struct ww_acquire_ctx *ctx);
 bool ww_shared_mutex_is_read_by(const struct ww_shared_mutex *lock, const struct ww_acquire_ctx *ctx);
 /*
- * By number (ww_number.h), with a word beside the data that is 0 at first, and moves with them.  These have the limits of
- * ww_shared_mutex_lock_shared_until and ww_shared_mutex_lock_until; the other calls of such a number are these alone, but
- * ww_number_unlock ends a write, and ww_acquire_end_reads all reads.  Reading what it writes is -EALREADY outside loops.
+ * By number (ww_number.h), with the limits of ww_shared_mutex_lock_shared_until and ww_shared_mutex_lock_until.  The other calls of
+ * such a number are these alone, but ww_number_unlock ends a write, and ww_acquire_end_reads all reads.  Reading what it writes is
+ * -EALREADY outside loops.
  */
-WW_MUST_CHECK int ww_number_lock_shared(uint32_t number, uint64_t *readers, struct ww_acquire_ctx *ctx,
-					const struct timespec *monotonic);
-WW_MUST_CHECK int ww_number_lock_exclusive(uint32_t number, uint64_t *readers, struct ww_acquire_ctx *ctx,
-					   const struct timespec *monotonic);
+WW_MUST_CHECK int ww_number_lock_shared(uint32_t number, struct ww_acquire_ctx *ctx, const struct timespec *monotonic);
+WW_MUST_CHECK int ww_number_lock_exclusive(uint32_t number, struct ww_acquire_ctx *ctx, const struct timespec *monotonic);
 bool ww_number_is_read(uint32_t number, const struct ww_acquire_ctx *ctx);
 /* One of a list: a shared mutex that is read or written, or another mutex; the others are NULL. */
 struct ww_shared_item {
@@ -121,10 +119,8 @@ WW_MUST_CHECK int ww_shared_mutex_lock_shared_poll(struct ww_shared_mutex *lock,
 						   const struct ww_waker *waker);
 WW_MUST_CHECK int ww_shared_mutex_lock_poll(struct ww_shared_mutex *lock, struct ww_acquire_ctx *ctx, const struct ww_waker *waker);
 WW_MUST_CHECK int ww_shared_mutex_await_poll(struct ww_acquire_ctx *ctx, const struct ww_waker *waker);
-WW_MUST_CHECK int ww_number_lock_shared_poll(uint32_t number, uint64_t *readers, struct ww_acquire_ctx *ctx,
-					     const struct ww_waker *waker);
-WW_MUST_CHECK int ww_number_lock_exclusive_poll(uint32_t number, uint64_t *readers, struct ww_acquire_ctx *ctx,
-						const struct ww_waker *waker);
+WW_MUST_CHECK int ww_number_lock_shared_poll(uint32_t number, struct ww_acquire_ctx *ctx, const struct ww_waker *waker);
+WW_MUST_CHECK int ww_number_lock_exclusive_poll(uint32_t number, struct ww_acquire_ctx *ctx, const struct ww_waker *waker);
 /* For C++, as ww_mutex_end_. */
 int ww_shared_mutex_end_(struct ww_shared_mutex *lock);
 /* The size of the structure in this library, for languages that don't read this header. */

@@ -42,7 +42,7 @@ static int transfer(struct account *from, struct account *to)
 		to->money += 1;
 		ww_number_unlock(other->lock, &ctx);
 	}
-	ww_number_unlock_all(&ctx);
+	ww_acquire_unlock_all(&ctx);
 	ww_acquire_fini(&ctx);
 	return r;
 }

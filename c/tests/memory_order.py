@@ -5,7 +5,7 @@ It reads each access by __atomic_* in the sources of FOLDER, c/ by itself, and h
 them by field and function: so an order can't change unseen, nor an access come or go, nor two change places. A second table
 says what covers the plain accesses of what threads share: a lock, or that one thread alone writes. Who changes a table changes
 the programs that have the field. And the table at the head of ww_class.h has each field that several threads write, and names for
-it a program of the search, or a test, that there is. Then it draws all executions of small programs (which write each read reads, in which order
+it a program of the search, or a test, that there is; and shake.h has a pause before each kind of access. Then it draws all executions of small programs (which write each read reads, in which order
 the writes of each place come), and asks of each whether a memory model allows it: C's, as RC11 repairs it, with the release
 sequences of C++20, which tells data races too; and AArch64's, the axiomatic one, over the code that gcc and clang make, with
 load and store exclusive and with single instructions (LSE). First come programs whose answers are well known, and such that
@@ -279,29 +279,28 @@ SHORT = {"RELAXED": "rlx", "ACQUIRE": "acq", "RELEASE": "rel", "ACQ_REL": "ar", 
 TABLE = {
     # A token that was given is taken away before its thread looks at the state again, which the giver changed before.
     "token": {
-        "park": "load sc, load sc, store sc", "ww_unpark": "load sc, compare_exchange sc/sc",
+        "park": "load sc, load sc, store sc", "leave_token": "load sc, compare_exchange sc/sc",
         "is_parked": "load sc", "arm": "compare_exchange sc/sc, store sc", "ww_disarm": "compare_exchange sc/sc",
     },
     # Tasks that were woken, and what they wrote before.
     "first_": {"ww_event_wake": "load rlx, compare_exchange rel/rlx", "ww_event_take": "exchange acq"},
     # What a waker is, as long as the token says that it is to be called.
-    "wake": {"arm": "store rlx", "ww_unpark": "load rlx"},
-    "loop": {"arm": "store rlx", "ww_unpark": "load rlx"},
-    "task": {"arm": "store rlx", "ww_unpark": "load rlx"},
+    "wake": {"arm": "store rlx", "leave_token": "load rlx"},
+    "loop": {"arm": "store rlx", "leave_token": "load rlx"},
+    "task": {"arm": "store rlx", "leave_token": "load rlx"},
     # Said before the waiter is woken, which looks at it after it took its token away.
     "asked": {"is_due": "load sc"},
     "cancelled": {"of_seat": "store rlx", "ww_acquire_cancel": "exchange sc", "lock_ends": "exchange sc"},
     # A canceller may look while a context begins or ends: a cancel that isn't ordered after ww_acquire_init is no right call.
-    "own": {"of_seat": "store rlx", "no_more": "store rlx", "ww_acquire_cancel": "load rlx"},
+    "own": {"of_seat": "store rlx", "no_more": "store rlx", "ww_acquire_cancel": "load rlx", "ww_mutex_is_held_by": "load rlx"},
     # A mutex's holder alone writes these, and the lock orders holders; whoever else looks has only a glance, or takes the lock.
     "ctx": {
-        "comes_along": "store rlx", "await_polled": "store rlx", "read_poll": "store rlx",
-        "ww_mutex_is_held_by": "load rlx", "WW_HOLDS_": "store rlx", "WW_HOLDS_NO_MORE_": "store rlx",
-        "ww_mutex_unlock": "load rlx", "holder_of": "load rlx", "own": "store rlx", "release_all": "store rlx",
-        "ww_mutex_unlock_checked": "store rlx", "ww_number_result": "load rlx, store rlx", "ww_number_unlock": "store rlx",
+        "WW_HOLDS_": "store rlx", "WW_HOLDS_NO_MORE_": "store rlx",
+        "ww_mutex_unlock": "load rlx", "holder_of": "load rlx", "own_it": "store rlx, store rlx", "release_all": "store rlx",
+        "ww_unlock_of": "store rlx",
     },
     # By it others look who uses the seat, which was said before.
-    "alone": {"seat_of": "load acq", "own": "store rel", "unlock_alone": "store rlx"},
+    "alone": {"seat_of": "load acq", "own_it": "store rel", "unlock_alone": "store rlx"},
     # By what lies there before, the words that a list fetches ahead are of no use, and nothing else.
     "number": {"ww_number_at_first": "store rlx", "fetch_ahead": "load rlx"},
     "is_large": {"ww_open_numbers": "store rlx", "take": "store rlx", "begin_list": "load rlx"},
@@ -312,37 +311,41 @@ TABLE = {
     # A waiter says first that it holds the mutex, and then that it waits no more; who destroys looks the other way round.
     # Of one that is known by its number also that this is taken, which nobody asks for before.
     "waiters": {
-        "ww_mutex_end_": "load sc", "begin_wait": "fetch_add sc", "end_wait": "fetch_sub sc",
+        "end_by": "load sc", "ww_is_used": "load sc", "ww_is_used_by_number": "load sc", "ww_number_leave": "fetch_sub sc", "count_waiter": "fetch_add sc, fetch_add sc",
         "lock_by_any": "fetch_add sc, fetch_sub sc", "ww_number_put": "load sc, compare_exchange sc/sc",
-        "ww_number_take": "fetch_add rlx",
-        "wait_first": "load rlx", # whether it is a desk's, which it always is
-        "waits_at_desk": "load rlx", # likewise
+        "ww_number_take": "store rlx, fetch_add rlx",
+        "is_desk": "load rlx", # which it always is
+        "is_of_number": "load rlx", # likewise
         "is_awaited_by_task": "load rlx", # in a loop
     },
     # A reader marks, and then looks whether the mutex is free; a writer has that, and then looks for bits, desks and marks. Of bits
     # the same: who finds its mutex free again, after another had it, finds the bit that this one cleared gone.
-    "readers_": {"is_read": "load sc"},
-    "readers": {
+    "readers_": {
         "reads_at_once": "load sc, fetch_or sc, load sc", "read_held": "fetch_or sc",
-        "await_readers": "load sc, fetch_and sc", "write_by": "load sc",
+        "await_readers": "load sc, fetch_and sc", "write_on": "load sc", "ww_is_used": "load sc",
+        "ww_number_is_held": "load rlx", # by who has the mutex
     },
     "desks": {"make_desk": "store sc", "is_read": "load sc", "await_readers": "load sc", "desk_at": "load sc"},
     # What was read comes before a mark that is gone. Others than its own thread look at marks alone.
     "marks": {
-        "mark": "exchange sc", "unmark": "store rel", "wipe": "store rel", "await_desk": "load sc", "reads_it": "load acq",
-        "is_marked": "load rlx", "reads_at_once": "load rlx", "read_held": "load rlx",
+        "mark": "exchange sc", "unmark": "store rel", "wipe": "store rel", "await_desk": "load sc", "is_read_at": "load acq",
+        "has_mark": "load rlx", "reads_at_once": "load rlx", "read_held": "load rlx",
     },
     # Whoever sees a read sees that the marks from before it are gone.
     "reads": {
-        "sit": "store rlx", "sit_for_certain": "store rlx", "reads_more": "store rel", "reads_it": "load acq",
+        "sit": "store rlx", "sit_for_certain": "store rlx", "reads_more": "store rel", "is_read_at": "load acq",
         "reads_on": "store rlx", "ww_debug_reads": "load rlx",
     },
     # All of an open class; and of a mutex the number, which its first lock may just have given it.
     "pool": {
         "pool_of": "load acq, load acq", "pool_at": "load acq", "open_now": "store rel", "ww_number_at_first": "store rel",
         "ww_class_free": "store rel", "is_open": "load rlx", "ww_acquire_init": "load acq", "begin_by_any": "load acq", "ww_acquire_init_poll": "load acq", "ww_mutex_lock": "load acq",
-        "ww_mutex_trylock": "load acq", "ww_mutex_end_": "store rel", "ww_number_take": "store rel",
+        "ww_mutex_trylock": "load acq", "end_by": "store rel", "ww_number_take": "store rel",
     },
+    # The proved library's, of which a lock's owner sees at least what it wrote there itself.
+    "owners": {"release_by_numbers": "load rlx"},
+    # Where a mutex lies: who holds it comes after that.
+    "lies_at": {"lies_here": "store rlx", "lies_nowhere": "store rlx", "mutex_with": "load rlx"},
     # The mutexes of numbers, which are empty then.
     "numbered": {"mutex_at": "load acq", "mutexes_of": "store rel"},
     "last_thread": {"my_thread": "add_fetch rlx"},
@@ -410,7 +413,6 @@ TABLE = {
         "user_of": "load rlx", "is_parked": "load rlx", "ww_debug_is_polled": "store rlx", "ww_debug_begun": "store rlx", "ww_debug_ended": "store rlx",
     },
     "is_said": {"tell_if_unseen": "exchange rlx", "trace": "exchange rlx"},
-    "lies_at": {"ww_debug_made": "store rlx", "is_copy": "load rlx", "why_unheld": "load rlx, load rlx"},
     "reported": {"is_new": "compare_exchange rlx/rlx"},
     "check_interval": {"ww_debug_check_interval": "store rlx", "ww_debug_waits": "load rlx", "ww_debug_sleeps": "load rlx"},
     "stamps": {"ww_debug_begun": "add_fetch rlx"},
@@ -419,7 +421,7 @@ TABLE = {
     "refused": {"has": "load rlx", "refuse": "store rlx", "ww_debug_result": "store rlx", "ww_debug_ended": "store rlx"},
     "stamp": {
         "use": "load rlx", "unuse_if_free": "load rlx", "has": "load rlx", "ww_debug_begun": "store rlx", "ww_debug_ended": "store rlx",
-        "is_used": "load rlx", "ww_debug_leak": "load rlx, load rlx", "print_seat": "load rlx",
+        "is_used": "load rlx", "ww_debug_leak": "load rlx, load rlx", "print_seat": "load rlx", "ww_debug_has_ended": "load rlx",
     },
     "wants": {
         "has": "load rlx", "ww_debug_waits": "store rlx", "next_wait": "load rlx", "print_wait": "load rlx",
@@ -435,7 +437,7 @@ TABLE = {
     "line": {"place_of": "load rlx", "set_place": "store rlx"},
     "seat": {
         "ww_debug_acquired": "store rlx", "ww_debug_released": "load rlx, store rlx", "look_for_long_wait": "load rlx",
-        "ww_debug_seen": "load rlx", "why_unheld": "load rlx",
+        "ww_debug_seen": "load rlx", "why_unheld": "load rlx", "ww_debug_is_stale": "load rlx",
     },
     "thread": {
         "use": "store rlx", "unuse_if_free": "store rlx", "has": "load rlx, load rlx", "ww_debug_ended": "store rlx",
@@ -534,7 +536,7 @@ PLAIN = {
     # By whoever holds the mutex, which its lock orders, or makes or destroys it.
     "m->older": "by: ",
     # In that place, too: read where it has no number, before whoever gives it one, under the lock of opening, or by itself.
-    "m->class_": "by: ww_mutex_destroy ww_mutex_end_",
+    "m->class_": "by: ww_mutex_destroy end_by",
     # By nobody, so by __atomic_* alone; but for number, which is given before `pool` is stored.
     "m->pool": "by: ",
     "m->number": "by: ww_number_take",
@@ -561,7 +563,9 @@ PLAIN = {
     "s->ages": "by: has_met may_be_older stop_rest unlock_alone_on ww_acquire_fini ww_acquire_fini_checked",
     "p->low": "numbers: take ww_open_numbers",
     "p->taken": "numbers: take",
+    "p->left": "numbers: make_pool",
     "p->used": "numbers: keep_memory line_from make_pool take used_of",
+    "p->lies_at": "by: make_pool",
 }
 # What a thread has for itself, under names of fields that others share; and names under which others stand for the same.
 OWN = ["permit", "wait", "waker", "front", "f", "ww_mine", "kept", "counts", "s->seat", "s->id", "last"]
@@ -689,6 +693,15 @@ def untold(folder):
     for row in rows[1:]:
         if len(row) != 4 or row[3] not in programs and not os.path.exists(os.path.join(folder, "tests", f"{row[3]}.c")):
             yield f"the table of ww_class.h names no program for {row[0]}"
+
+
+def unshaken(folder):
+    """Of the sources' atomic accesses the kinds before which shake.h has no pause."""
+    code = " ".join(it for _, it, _ in functions_of(folder, [it for it in os.listdir(folder) if it.endswith((".c", ".h"))]))
+    with open(os.path.join(folder, "tests/shake.h"), encoding="utf-8") as file:
+        paused = re.findall(r"^#define (__\w+)\(\.\.\.\) \(shake\(\), \1\(__VA_ARGS__\)\)$", file.read(), re.MULTILINE)
+    for kind in sorted(set(re.findall(r"\b__(?:atomic|sync)_\w+(?=\()", code)) - {*paused}):
+        yield f"shake.h has no pause before {kind}"
 
 
 # ---- questions ----
@@ -1106,7 +1119,7 @@ def ours():
 
 def main():
     folder = sys.argv[1] if len(sys.argv) > 1 else os.path.join(os.path.dirname(os.path.abspath(__file__)), "..")
-    failed = [*differences(folder), *uncovered(folder), *untold(folder)]
+    failed = [*differences(folder), *uncovered(folder), *untold(folder), *unshaken(folder)]
     failed += [f"{name}: another answer than is known" for name, due, *words in known() if asks(*words) != due]
     failed += [f"{name}: this isn't found wrong" for name, words in wrong() if asks(*words) == RIGHT]
     count = 0

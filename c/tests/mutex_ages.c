@@ -706,7 +706,7 @@ static void by_context(struct ww_class *of, unsigned way, unsigned a, unsigned b
 	if (a != b)
 		adds(by_number ? SHARED + b : b);
 	if (by_number)
-		ww_number_unlock_all(&z);
+		ww_acquire_unlock_all(&z);
 	else if (way < 2)
 		ww_acquire_unlock_all(&z);
 	else

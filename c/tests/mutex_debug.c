@@ -7,6 +7,7 @@
 #define WW_DEBUG
 #endif
 #include "mutex_test.h"
+#include "../ww_poll.h"
 #include "../ww_shared.h"
 #include <sys/mman.h>
 #include <sys/wait.h>
@@ -48,11 +49,6 @@ static void fini_while_it_reads(void)
 	ww_mutex_unlock(&a);
 	MUST(!ww_shared_mutex_lock_shared(&read, &x));
 	HERE(ww_acquire_fini(&x));
-}
-static void releases_all_without_a_loop(void)
-{
-	HERE(ww_acquire_unlock_all(&x));
-	MUST(x.acquired == 1);
 }
 static void is_told(void)
 {
@@ -135,12 +131,46 @@ static void locks_a_copy(void)
 }
 static void unlocks_a_copy(void)
 {
-	struct ww_mutex copy = b;
+	struct ww_mutex copy = a;
 
-	ww_mutex_unlock(&b);
-	copy.ctx = NULL;
 	HERE(ww_mutex_unlock(&copy));
 }
+static void unlocks_a_copy_without_context(void)
+{
+	struct ww_mutex copy;
+
+	ww_mutex_lock(&its, NULL);
+	copy = its;
+	HERE(ww_mutex_unlock(&copy));
+}
+/* By then its context, whose memory is another's, has ended. */
+static void unlocks_behind_a_copy(void)
+{
+	struct ww_mutex copy = a;
+
+	ww_mutex_unlock(&copy);
+	ww_acquire_fini(&x);
+	memset(&x, 0x5a, sizeof x);
+	HERE(ww_mutex_unlock(&a));
+}
+static void ends_behind_a_copy(void)
+{
+	struct ww_acquire_ctx copy;
+
+	ww_mutex_unlock(&a);
+	copy = x;
+	ww_acquire_fini(&copy);
+	ww_acquire_init(&copy, &c); /* by the same seat */
+	HERE(ww_acquire_fini(&x));
+}
+static void never(void *loop, void *task) { MUST(loop == task && !loop); }
+static void locks_amid_a_poll(void)
+{
+	const struct ww_waker waker = { never, NULL, &x };
+
+	MUST(ww_mutex_lock_poll(&b, &x, &waker) == -EINPROGRESS && HERE(ww_mutex_lock(&its, &x)) == -EBUSY);
+}
+static void locks_slowly_without_context(void) { MUST(HERE(ww_mutex_lock_slow_interruptible(&a, NULL)) == -EINVAL); }
 static void unlocks_what_was_made_anew(void)
 {
 	ww_mutex_init(&a, &c);
@@ -371,8 +401,6 @@ int main(int count, char **words)
 	tells(fini_with_a_mutex, "ww_acquire_fini: class \"c\": the context still holds a mutex");
 	tells(fini_while_it_reads, "ww_acquire_fini: class \"c\": the context still reads a mutex");
 	tells(ends_without_looking, "ww_acquire_fini: class \"c\": the context still holds a mutex, and got -EDEADLK at $");
-	tells(releases_all_without_a_loop,
-	      "ww_acquire_unlock_all: class \"c\": outside ww_until_all_locked this call releases nothing");
 	tells(another_after_deadlk, "ww_mutex_lock: the mutex is of another class, or isn't initialized");
 	tells(holds_after_deadlk, "ww_mutex_lock: class \"c\": the context still holds a mutex, and got -EDEADLK at $");
 	tells(told_without_need, "ww_mutex_lock: class \"c\": the context still holds a mutex, and got -EDEADLK at $");
@@ -386,11 +414,16 @@ int main(int count, char **words)
 	tells(destroys_twice, "ww_mutex_destroy: the mutex isn't initialized");
 	tells(locks_a_copy, "ww_mutex_lock: class \"c\": the mutex is a copy of another one, or was moved");
 	tells(unlocks_a_copy, "ww_mutex_unlock: class \"c\": the mutex is a copy of another one, or was moved");
+	tells(unlocks_a_copy_without_context, "ww_mutex_unlock: class \"other\": the mutex is a copy of another one, or was moved");
+	tells(unlocks_behind_a_copy, "ww_mutex_unlock: nobody holds the mutex, or it is a copy of that which is held");
+	tells(ends_behind_a_copy, "ww_acquire_fini: class \"c\": the context has ended by a copy of it, or the class has begun as many as it may");
+	tells(locks_amid_a_poll, "ww_mutex_lock: class \"other\": the context waits by a poll");
+	tells(locks_slowly_without_context, "ww_mutex_lock_slow: no -EDEADLK of this mutex came before, or the context still holds a mutex");
 	tells(unlocks_what_was_made_anew, "ww_mutex_unlock: class \"c\": the mutex was initialized once more while somebody held it");
 	tells(locks_by_garbage, "ww_mutex_lock: the context was never begun");
 	tells(limits_late, "ww_class_crowd: class \"c\": the class is open: this comes before its first use");
 	tells(limits_beyond, "ww_class_limit: class \"c\": a class has at most 16,777,216 mutexes and 4,094 contexts");
-	tells(unlocks_in_vain, "ww_mutex_unlock: nobody holds the mutex");
+	tells(unlocks_in_vain, "ww_mutex_unlock: nobody holds the mutex, or it is a copy of that which is held");
 	tells(unlocks_what_nobody_holds, "ww_mutex_unlock: class \"c\": " NOT_LOOKED_AT " $");
 	tells(unlocks_anothers, "ww_mutex_unlock: class \"c\": " NOT_LOOKED_AT " $");
 	tells(unlocked_by_another, "ww_mutex_unlock: class \"c\": another thread acquired the mutex");

@@ -527,6 +527,59 @@ static void isnt_freed(void)
 	ww_acquire_fini(&x);
 }
 
+/* ---- copies ---- */
+
+static void is_overwritten(void)
+{
+	volatile char there[400];
+
+	for (unsigned k = 0; k < sizeof there; k++)
+		there[k] = 0x5a;
+}
+
+/* Which releases what the mutex itself still says is held, by a context that is gone then. */
+static __attribute__((noinline)) void unlocks_a_copy(struct ww_mutex *m)
+{
+	struct ww_acquire_ctx x;
+	struct ww_mutex copy;
+
+	ww_acquire_init(&x, &few);
+	MUST(!ww_mutex_lock(m, &x));
+	copy = *m;
+	ww_mutex_unlock(&copy);
+	MUST(!ww_mutex_is_locked(m) && !ww_mutex_is_held_by(m, &x));
+	ww_acquire_fini(&x);
+}
+
+/* No call that is right fails by it. */
+static void a_copy_is_unlocked(void)
+{
+	struct ww_acquire_ctx y;
+	struct ww_mutex m, copy;
+
+	for (unsigned way = 0; way < 5; way++) {
+		ww_mutex_init(&m, &few);
+		unlocks_a_copy(&m);
+		is_overwritten();
+		MUST(!ww_mutex_is_locked(&m));
+		ww_acquire_init(&y, &few);
+		switch (way) {
+		case 0: ww_mutex_lock(&m, NULL); ww_mutex_unlock(&m); break;
+		case 1: MUST(ww_mutex_trylock(&m, NULL) && ww_mutex_is_held_by(&m, NULL)); ww_mutex_unlock(&m); break;
+		case 2: MUST(!ww_mutex_lock(&m, &y)); ww_mutex_unlock(&m); break;
+		case 3: MUST(ww_mutex_trylock(&m, &y)); ww_mutex_unlock(&m); break;
+		default:;
+		}
+		ww_acquire_fini(&y);
+		MUST(!ww_mutex_is_locked(&m) && !ww_mutex_destroy(&m));
+	}
+	ww_mutex_init(&m, &few);
+	ww_mutex_lock(&m, NULL);
+	copy = m;
+	ww_mutex_unlock(&copy);
+	MUST(!ww_mutex_is_locked(&m) && !ww_mutex_is_held_by(&m, NULL) && !ww_mutex_destroy(&m));
+}
+
 int main(void)
 {
 	void (*const firsts[])(void) = { tries_first, tries_in_vain_first, locks_slowly_first, locks_that_first,
@@ -550,6 +603,7 @@ int main(void)
 	forks(true);
 	forks_with_a_seat_at_hand();
 	isnt_freed();
+	a_copy_is_unlocked();
 	MUST(!ww_class_free(&wait_die) && !ww_class_free(&few) && !ww_class_free(&one));
 	puts("mutex_edges: loops, ends and children");
 	return 0;

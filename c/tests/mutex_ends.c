@@ -31,6 +31,26 @@ static void unlocks_in_vain(void)
 	ww_mutex_unlock(&a);
 	ww_mutex_unlock(&a);
 }
+static void fini_of_a_copy(void)
+{
+	struct ww_acquire_ctx copy;
+
+	ww_mutex_unlock(&a);
+	copy = x;
+	ww_acquire_fini(&copy);
+	ww_acquire_fini(&x);
+}
+static void unlocks_a_copy_in_a_loop(void)
+{
+	struct ww_mutex copy;
+
+	ww_mutex_unlock(&a);
+	ww_until_all_locked(&x) {
+		MUST(!ww_mutex_lock(&a, &x) && !ww_mutex_lock(&b, &x));
+		copy = a;
+		ww_mutex_unlock(&copy);
+	}
+}
 static void slow_without_cause(void) { ww_mutex_lock_slow(&its, &x); }
 static void slow_without_context(void) { ww_mutex_lock_slow(&a, NULL); }
 static void slow_while_it_holds(void) { ww_mutex_lock_slow(&a, &y); }
@@ -109,7 +129,7 @@ static void finishes(struct ww_acquire_ctx *waits, struct ww_mutex *holds)
 static void unlocks_all(struct ww_acquire_ctx *waits, struct ww_mutex *holds)
 {
 	(void)holds;
-	ww_number_unlock_all(waits);
+	ww_acquire_unlock_all(waits);
 }
 static void loop_amid_a_wait(void) { amid_a_wait(loops, false); }
 static void unlock_amid_a_wait(void) { amid_a_wait(unlocks, true); }
@@ -244,6 +264,8 @@ int main(void)
 	MUST(!ww_mutex_lock(&a, &x));
 	ends(fini_with_a_mutex, "ww_acquire_fini: class \"c\": the context still holds a mutex");
 	ends(fini_twice, "ww_acquire_fini: the context has ended");
+	ends(fini_of_a_copy, "ww_acquire_fini: class \"c\": the context has ended by a copy of it, or the class");
+	ends(unlocks_a_copy_in_a_loop, "ww_mutex_unlock: nobody holds the mutex, or it is a copy");
 	ends(done_twice, "ww_acquire_done: class \"c\": the context is done, or has ended");
 	ends(unlocks_in_vain, "ww_mutex_unlock: nobody holds the mutex");
 	ends(slow_without_cause, "ww_mutex_lock_slow: class \"other\": no -EDEADLK of this mutex came before");
@@ -260,9 +282,9 @@ int main(void)
 	MUST(!ww_mutex_lock(&b, &y) && ww_mutex_lock(&a, &y) == -EDEADLK);
 	ends(slow_while_it_holds, "ww_mutex_lock_slow: class \"c\": no -EDEADLK of this mutex came before");
 	ends(loop_amid_a_wait, "ww_until_all_locked: the context");
-	ends(unlock_amid_a_wait, "ww_mutex_unlock: ");
-	ends(unlock_all_amid_a_wait, "ww_number_unlock_all: class \"own\": the context waits by a poll");
-	ends(fini_amid_a_wait, "ww_acquire_fini: ");
+	ends(unlock_amid_a_wait, "ww_mutex_unlock: its context waits by a poll, or is another one");
+	ends(unlock_all_amid_a_wait, "ww_acquire_unlock_all: class \"own\": the context waits by a poll");
+	ends(fini_amid_a_wait, "ww_acquire_fini: class \"own\": the context waits by a poll");
 	forks();
 	ww_mutex_unlock(&a);
 	ww_mutex_unlock(&b);

@@ -1,11 +1,13 @@
 /*
  * A program forks, and handlers of its own (pthread_atfork), which it registered before any class was opened, lock a mutex
  * meanwhile, or free a class in the child.  A poll in the child of a program, one of whose threads was inside a guard then,
- * returns.  That a guard is shut comes by a wrapper (ld --wrap).
+ * returns.  That a guard is shut comes by a wrapper (ld --wrap).  And a child amid readers and writers ends what its context reads and
+ * writes, is refused where it would wait, and uses the class anew.
  */
 #include "mutex_test.h"
 #include "../ww_poll.h"
-#include "../ww_steps.h"
+#include "../ww_seat.h"
+#include "../ww_shared.h"
 #include <signal.h>
 #include <sys/wait.h>
 
@@ -124,6 +126,44 @@ static void polls(void)
 	ww_acquire_fini(&x);
 }
 
+/*
+ * In a child nobody may lock the queue of those that wait for contexts, as another thread may have had it: not a poll that is
+ * over, nor a task's context that ends while others wait, and a cancel of the class is refused.
+ */
+static void queue_is_locked(void)
+{
+	const struct ww_waker waker = { never, NULL, &m };
+	struct ww_acquire_ctx held, tasks[900], z;
+	struct ww_seek seek = { 0 };
+	unsigned count = 0;
+	int status;
+	pid_t child;
+
+	while (count < 900 && !ww_acquire_init_poll(&tasks[count], &c, &seek, &waker))
+		count++;
+	MUST(count >= 2 && count < 900 && seek.of_);
+	ww_acquire_init(&held, &c);
+	MUST(!ww_mutex_lock(&m, &held) && ww_mutex_lock_poll(&m, &tasks[0], &waker) == -EINPROGRESS);
+	c.pool->tasks.due = 0;
+	pthread_mutex_lock(&c.pool->queue);
+	child = fork();
+	MUST(child >= 0);
+	if (!child) {
+		alarm(20);
+		MUST(ww_class_cancel(&c) == -EINVAL && ww_mutex_lock_poll(&m, &tasks[0], &waker) == -EINVAL);
+		ww_acquire_fini(&tasks[1]);
+		MUST(ww_acquire_init_poll(&z, &c, &seek, &waker) == -EINVAL);
+		_exit(0);
+	}
+	pthread_mutex_unlock(&c.pool->queue);
+	MUST(waitpid(child, &status, 0) == child && WIFEXITED(status) && !WEXITSTATUS(status));
+	MUST(ww_mutex_lock_poll(&m, &tasks[0], NULL) == -ETIMEDOUT && ww_acquire_init_poll(&z, &c, &seek, NULL) == -ETIMEDOUT);
+	ww_mutex_unlock(&m);
+	ww_acquire_fini(&held);
+	while (count)
+		ww_acquire_fini(&tasks[--count]);
+}
+
 /* Each in a program that has opened no class before. */
 static void in_program(void (*what)(void))
 {
@@ -142,6 +182,87 @@ static void in_program(void (*what)(void))
 	MUST(waitpid(child, &status, 0) == child && WIFEXITED(status) && !WEXITSTATUS(status));
 }
 
+/* ---- amid readers and writers ---- */
+
+enum { SHARED = 6, AMONG_THREADS = 4, FORKS = 40 };
+static struct ww_shared_mutex shared[SHARED];
+static uint32_t is_over;
+
+static void *reads_and_writes(void *arg)
+{
+	unsigned drawn = 7 + (unsigned)(size_t)arg;
+	struct ww_acquire_ctx x;
+
+	while (!__atomic_load_n(&is_over, __ATOMIC_RELAXED)) {
+		ww_acquire_init(&x, &c);
+		ww_until_all_locked(&x)
+			for (unsigned k = 0; k < 4; k++) {
+				struct ww_shared_mutex *it = &shared[next(&drawn) % AMONG_THREADS];
+				int r = next(&drawn) % 3 ? ww_shared_mutex_lock_shared(it, &x) : ww_shared_mutex_lock(it, &x);
+
+				ww_retry_on_contention(&x);
+				if (!r && next(&drawn) % 4 == 0 && ww_shared_mutex_is_written_by(it, &x))
+					ww_shared_mutex_downgrade(it, &x);
+			}
+		ww_acquire_unlock_all(&x);
+		ww_acquire_fini(&x);
+	}
+	return NULL;
+}
+
+static void child_of_readers(struct ww_acquire_ctx *x, unsigned way)
+{
+	alarm(200);
+	for (unsigned k = 0; k < AMONG_THREADS; k++) {
+		int r = way % 2 ? ww_shared_mutex_lock(&shared[k], x) : ww_shared_mutex_lock_shared(&shared[k], x);
+
+		MUST(!r || r == -EINVAL || r == -EDEADLK);
+	}
+	for (unsigned k = 0; k < SHARED; k++)
+		while (ww_shared_mutex_is_written_by(&shared[k], x))
+			MUST(!ww_shared_mutex_unlock(&shared[k], x));
+	ww_acquire_end_reads(x);
+	MUST(!ww_acquire_fini_checked(x));
+	for (unsigned k = 0; k < SHARED; k++)
+		MUST(!ww_shared_mutex_destroy(&shared[k]));
+	MUST(!ww_class_free(&c));
+	ww_shared_mutex_init(&shared[0], &c);
+	ww_acquire_init(x, &c);
+	MUST(!ww_shared_mutex_lock_shared(&shared[0], x) && !ww_shared_mutex_lock(&shared[0], x));
+	MUST(!ww_shared_mutex_unlock(&shared[0], x) && !ww_shared_mutex_unlock(&shared[0], x));
+	ww_acquire_fini(x);
+	_exit(ww_shared_mutex_destroy(&shared[0]) || ww_class_free(&c));
+}
+
+static void among_readers(void)
+{
+	pthread_t threads[4];
+
+	for (unsigned k = 0; k < SHARED; k++)
+		ww_shared_mutex_init(&shared[k], &c);
+	for (size_t k = 0; k < 4; k++)
+		threads[k] = begin_thread(reads_and_writes, (void *)k);
+	for (unsigned k = 0; k < FORKS; k++) {
+		struct ww_acquire_ctx x;
+		int status;
+		pid_t child;
+
+		ww_acquire_init(&x, &c);
+		MUST(!ww_shared_mutex_lock_shared(&shared[AMONG_THREADS], &x) && !ww_shared_mutex_lock(&shared[AMONG_THREADS + 1], &x));
+		child = fork();
+		MUST(child >= 0);
+		if (!child)
+			child_of_readers(&x, k);
+		MUST(waitpid(child, &status, 0) == child && !status);
+		ww_acquire_unlock_all(&x);
+		ww_acquire_fini(&x);
+	}
+	__atomic_store_n(&is_over, 1, __ATOMIC_RELAXED);
+	for (size_t k = 0; k < 4; k++)
+		end_thread(threads[k]);
+	_exit(0);
+}
+
 int main(void)
 {
 	MUST(!pthread_atfork(before, in_parent, in_child));
@@ -150,6 +271,8 @@ int main(void)
 	in_program(handlers_free);
 	in_program(handlers_do_both);
 	in_program(polls);
-	puts("mutex_forks: handlers of a fork may lock and free, and no poll of a child hangs");
+	in_program(queue_is_locked);
+	in_program(among_readers);
+	puts("mutex_forks: handlers of a fork may lock and free, and no poll or read of a child hangs");
 	return 0;
 }

@@ -5,6 +5,7 @@
  */
 #include "mutex_test.h"
 #include "../ww_context.h"
+#include "../ww_shared.h"
 
 enum state { EASE, OWES, TOLD, TOLD_OWES, TOLD_BARE, FIRST, EASE_BARE };
 enum call { LOCK, HEED, UNTIL, SLOW, TRY, UNLOCK, UNLOCK_ALL, BACK_OFF, ALL, AGAIN, TWICE };
@@ -288,17 +289,85 @@ static void asks_the_library(void)
 	ww_acquire_fini(&x);
 }
 
+/* The quick way is open again behind a wait for a desk, by which somebody else read: the body never asks for that. */
+static void owes_no_desk(void)
+{
+	static DEFINE_WD_CLASS(readers);
+	struct ww_shared_mutex s;
+	struct ww_mutex m;
+	unsigned bodies = 0;
+
+	ww_shared_mutex_init(&s, &readers);
+	ww_mutex_init(&m, &readers);
+	ww_acquire_init(&older, &readers);
+	MUST(!ww_shared_mutex_lock_shared(&s, &older));
+	ww_acquire_init(&x, &readers);
+	ww_until_all_locked(&x) {
+		MUST(!ww_mutex_lock(&m, &x));
+		if (bodies++) {
+			MUST(x.pool == readers.pool && x.acquired == 1);
+		} else {
+			MUST(ww_shared_mutex_lock(&s, &x) == -EDEADLK);
+			ww_acquire_end_reads(&older);
+		}
+		ww_retry_on_contention(&x);
+		MUST(!ww_shared_mutex_lock(&s, &x));
+	}
+	MUST(bodies == 2);
+	ww_acquire_unlock_all(&x);
+	ww_acquire_fini(&x);
+	ww_acquire_fini(&older);
+	MUST(!ww_shared_mutex_destroy(&s) && !ww_mutex_destroy(&m) && !ww_class_free(&readers));
+}
+
+/* Once x waits for `it`, which it came to owe: lets it have that, but not the next one, and ends its wait for that. */
+static void *interrupts(void *arg)
+{
+	ww_acquire_init(&older, &wait_die);
+	MUST(!ww_mutex_lock(&it, &older));
+	awaits_waiter(&it);
+	ww_mutex_lock(&taken, NULL);
+	ww_mutex_unlock(&it);
+	awaits_waiter(&taken);
+	MUST(!ww_acquire_cancel(&x));
+	while (__atomic_load_n(&taken.waiters, __ATOMIC_SEQ_CST))
+		sched_yield();
+	ww_mutex_unlock(&taken);
+	ww_acquire_fini(&older);
+	return arg;
+}
+
+/* A list that fails while it owes a mutex leaves nothing of that. */
+static void list_owes_no_more(void)
+{
+	struct ww_mutex *const list[] = { &held, &taken, &it };
+	pthread_t thread;
+
+	thread = begin_thread(interrupts, NULL);
+	while (!ww_mutex_is_locked(&it))
+		sched_yield();
+	ww_acquire_init(&x, &wait_die);
+	ww_acquire_flags(&x, WW_INTERRUPTIBLE);
+	MUST(ww_mutex_lock_all(&x, list, 3) == -EINTR && !x.acquired && !held.ctx && !it.ctx);
+	end_thread(thread);
+	MUST(!ww_mutex_lock(&it, &x) && ww_acquire_mark(&x) == 1 && ww_mutex_lock(&it, &x) == -EALREADY);
+	ww_mutex_unlock(&it);
+	ww_acquire_fini(&x);
+}
+
 int main(void)
 {
 	struct ww_mutex *all[] = { &it, &held, &owed, &unheld, &taken };
 
-	MUST(!ww_class_limit(&wait_die, 5, 2));
+	MUST(!ww_class_limit(&wait_die, 5, 3));
 	for (unsigned k = 0; k < 5; k++)
 		ww_mutex_init(all[k], &wait_die);
 	for (unsigned k = 0; k < sizeof rows / sizeof *rows; k++)
 		walks(&rows[k]);
 	is_told_once();
 	asks_the_library();
+	owes_no_desk();
+	list_owes_no_more();
 	for (unsigned k = 0; k < 5; k++)
 		MUST(!ww_mutex_destroy(all[k]));
 	MUST(!ww_class_free(&wait_die));

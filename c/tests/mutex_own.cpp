@@ -354,6 +354,20 @@ static void storm(struct ww_class &c)
 	MUST(!all);
 }
 
+// Each lock call of a context that didn't begin in time returns that, and acquires nothing; what releases does nothing.
+static void never_began(context &x, mutex &m, ww::shared_mutex &s) WW_SAFETY_(no_thread_safety_analysis)
+{
+	const timespec past{};
+	const auto adds = [&] { return x.lock(m); };
+
+	MUST(x.error() == -ETIMEDOUT && x.lock(m) == -ETIMEDOUT && !x.try_lock(m));
+	MUST(x.lock_until(m, past) == -ETIMEDOUT && x.lock_interruptible(m) == -ETIMEDOUT && x.lock_by(adds) == -ETIMEDOUT);
+	MUST(x.lock(s) == -ETIMEDOUT && x.lock_shared(s) == -ETIMEDOUT && !x.try_lock(s) && !x.try_lock_shared(s));
+	x.back_off();
+	x.unlock_all();
+	MUST(!x.held() && x.cancel() == -EINVAL);
+}
+
 // What ends a wait: a time in each way, a cancel of the class, also of waits for a context; and nothing is held then.
 static void ends() WW_SAFETY_(no_thread_safety_analysis)
 {
@@ -361,6 +375,7 @@ static void ends() WW_SAFETY_(no_thread_safety_analysis)
 	mutex_class c(mutex_class::wound_wait, "c");
 	MUST(!c.limit(8, 2) && c.stats().lock_waits == 0);
 	mutex a(c), b(c, ww::numbered);
+	ww::shared_mutex s(c);
 	std::vector<mutex *> list{ &b, &a };
 	auto next = [&](bool starts) { return starts ? &b : b.is_locked() && !c.stats().permit_waits ? &a : nullptr; };
 	const auto soon = [] { return std::chrono::steady_clock::now() + 1ms; };
@@ -377,6 +392,7 @@ static void ends() WW_SAFETY_(no_thread_safety_analysis)
 		MUST(!x.error() && !x.lock(b) && x.lock(a) == -ETIMEDOUT && x.held() == 1);
 		MUST(too_late.error() == -ETIMEDOUT && too_late.lock(b) == -ETIMEDOUT && too_late.lock_all({ &b }) == -ETIMEDOUT);
 		MUST(too_late.with_all({ &b }, [] {}).error() == -ETIMEDOUT && too_late.lock_walk(next) == -ETIMEDOUT);
+		never_began(too_late, a, s);
 	}
 	{
 		context x(c, ww::limits(std::chrono::hours::max(), WW_IGNORE_DUPLICATES));
@@ -476,6 +492,25 @@ static void readers(mutex_class &c)
 	MUST(sum.of == 500 && runs >= 2);
 }
 
+// One that goes while a context that has read it reads something: its number comes again once the context is through, and so the
+// class is freed.
+static void goes_while_it_is_read()
+{
+	DEFINE_WW_CLASS(few);
+
+	MUST(!ww_class_limit(&few, 8, 4));
+	for (int round = 0; round < 20; round++) {
+		context x(few);
+
+		for (int k = 0; k < 4; k++) {
+			ww::shared_mutex goes(few);
+
+			MUST(!x.lock_shared(goes));
+		}
+	}
+	MUST(!ww_class_free(&few));
+}
+
 int main()
 {
 	for (auto kind : { mutex_class::wound_wait, mutex_class::wait_die }) {
@@ -498,6 +533,7 @@ int main()
 		storm(own);
 	}
 	ends();
+	goes_while_it_is_read();
 	messages();
 	lists(ww_class);
 	backs_off(ww_class);

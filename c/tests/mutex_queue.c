@@ -4,6 +4,7 @@
  * than it can keep seats of, again and again, leaves each class with as many contexts as it had; of ten classes it keeps them.
  */
 #include "mutex_test.h"
+#include "../ww_seat.h"
 #include <semaphore.h>
 
 static struct ww_class c;
@@ -42,7 +43,7 @@ static void *waits_long(void *arg)
 static void *ends_and_stops(void *arg)
 {
 	stops = 1;
-	ww_acquire_fini(&first);
+	ww_acquire_fini(arg);
 	if (stops) { /* it locked nothing, so it has handed over */
 		stops = 0;
 		sem_post(&stopped);
@@ -93,7 +94,7 @@ static void nobody_is_passed(void)
 		while (waiting() == before)
 			usleep(100);
 		usleep(1000);
-		ends = begin_thread(ends_and_stops, NULL);
+		ends = begin_thread(ends_and_stops, &first);
 		sem_wait(&stopped);
 		comes_between(k % 4);
 		sem_post(&goes_on);
@@ -107,20 +108,83 @@ static void nobody_is_passed(void)
 	}
 }
 
-/* ---- none is lost ---- */
-
-enum { CLASSES = 13, MOST = 1400, ROUNDS = 300 };
-static struct ww_class classes[CLASSES];
+enum { MOST = 1400 };
 static struct ww_acquire_ctx all[MOST];
 
 /* As many as one thread can begin at a time. */
-static unsigned contexts_of(struct ww_class *of)
+static unsigned begins_all(struct ww_class *of)
 {
 	unsigned count = 0;
 
 	while (count < MOST && !ww_acquire_init_checked(&all[count], of))
 		count++;
 	MUST(count < MOST);
+	return count;
+}
+
+static unsigned calls;
+static void is_called(void *loop, void *task)
+{
+	MUST(!loop && task == &calls);
+	calls++;
+}
+
+/*
+ * Nor is a thread that waits passed by a task, where the context that just ended is one of those that tasks have: by one that
+ * comes, or by one that was called for it before.
+ */
+static void no_task_passes(bool was_called)
+{
+	const struct ww_waker waker = { is_called, NULL, &calls };
+	struct ww_acquire_ctx *its = NULL, x;
+	struct ww_seek seek = { 0 };
+	unsigned count;
+	pthread_t ends, long_;
+	uint64_t before;
+
+	ww_class_init(&c, 0, "tasks");
+	count = begins_all(&c);
+	for (unsigned k = 0; k < count; k++)
+		if (all[k].own == c.pool->tasks.seats)
+			its = &all[k];
+	MUST(its);
+	its->own->lent = c.pool->tasks.due = UINT64_MAX;
+	calls = come = 0;
+	if (was_called) {
+		MUST(ww_acquire_init_poll(&x, &c, &seek, &waker) == -EINPROGRESS && !calls);
+		ww_acquire_fini(its);
+		MUST(calls == 1 && !ww_acquire_init_checked(its, &c) && its->own == c.pool->tasks.seats);
+	}
+	before = waiting();
+	long_ = begin_thread(waits_long, NULL);
+	while (waiting() == before)
+		usleep(100);
+	usleep(1000);
+	ends = begin_thread(ends_and_stops, its);
+	sem_wait(&stopped);
+	MUST(ww_acquire_init_poll(&x, &c, &seek, &waker) == -EINPROGRESS);
+	sem_post(&goes_on);
+	end_thread(ends);
+	sem_post(&may_end);
+	end_thread(long_);
+	MUST(come == 1 && ww_acquire_init_poll(&x, &c, &seek, NULL) <= 0);
+	if (x.own)
+		ww_acquire_fini(&x);
+	for (unsigned k = 0; k < count; k++)
+		if (&all[k] != its)
+			ww_acquire_fini(&all[k]);
+	MUST(!ww_class_free(&c));
+}
+
+/* ---- none is lost ---- */
+
+enum { CLASSES = 13, ROUNDS = 300 };
+static struct ww_class classes[CLASSES];
+
+static unsigned contexts_of(struct ww_class *of)
+{
+	unsigned count = begins_all(of);
+
 	for (unsigned k = 0; k < count; k++)
 		ww_acquire_fini(&all[k]);
 	return count;
@@ -210,6 +274,8 @@ int main(void)
 	alarm(300);
 	MUST(!sem_init(&stopped, 0, 0) && !sem_init(&goes_on, 0, 0) && !sem_init(&may_end, 0, 0));
 	nobody_is_passed();
+	no_task_passes(false);
+	no_task_passes(true);
 	none_is_lost();
 	ten_are_kept();
 	puts("mutex_queue: nobody is passed, and no context is lost");

@@ -2,10 +2,12 @@
  * Each allocation of a class's opening is refused in turn, those of the thread-local
  * key and of what a fork calls too: the class isn't open, nothing is left but the one piece of
  * memory that the next class has, and the same call does it later.
- * No other call allocates.  This heap stands in for that of the library, and what
+ * No other call allocates, but the first read of a context's seat, which is refused then, and changes nothing.  This heap stands in for that of the library, and what
  * the library's sources ask for comes by the wrappers (ld --wrap).
  */
 #include "mutex_test.h"
+#include "../ww_poll.h"
+#include "../ww_shared.h"
 
 struct tried {
 	bool ok;
@@ -131,6 +133,48 @@ static void uses_all(void)
 		MUST(!ww_mutex_destroy(&list[k]));
 }
 
+static void nobody_wakes(void *loop, void *task) { (void)loop, (void)task; }
+
+/* Each call that may be the first to read; a downgrade goes on writing. */
+static int reads_first(unsigned way, struct ww_shared_mutex *m, uint32_t number, struct ww_acquire_ctx *x)
+{
+	const struct ww_waker waker = { nobody_wakes, NULL, NULL };
+	const struct ww_shared_item item = { .read = m };
+
+	switch (way) {
+	case 0: return ww_shared_mutex_lock_shared(m, x);
+	case 1: return ww_shared_mutex_trylock_shared(m, x) ? 0 : -ENOMEM;
+	case 2: return ww_shared_mutex_lock_shared_poll(m, x, &waker);
+	case 3: return ww_shared_mutex_lock_all(x, &item, 1);
+	case 4: return ww_number_lock_shared(number, x, NULL);
+	case 5: return ww_number_lock_shared_poll(number, x, &waker);
+	default:
+		MUST(!ww_shared_mutex_lock(m, x));
+		ww_shared_mutex_downgrade(m, x);
+		return ww_shared_mutex_is_written_by(m, x) && !ww_shared_mutex_unlock(m, x) ? -ENOMEM : 0;
+	}
+}
+
+static void reads_all(void)
+{
+	for (unsigned way = 0; way < 7; way++) {
+		struct ww_shared_mutex m;
+		struct ww_acquire_ctx x;
+		uint32_t number;
+
+		ww_shared_mutex_init(&m, c);
+		MUST(!ww_number_take(&number, c));
+		ww_acquire_init(&x, c);
+		refused = made;
+		MUST(reads_first(way, &m, number, &x) == -ENOMEM && !x.acquired);
+		refused = -1;
+		MUST(!reads_first(way % 6, &m, number, &x) && x.acquired == 1);
+		ww_acquire_end_reads(&x);
+		ww_acquire_fini(&x);
+		MUST(!ww_shared_mutex_destroy(&m) && !ww_number_put(number, c) && !ww_class_free(c) && live == 1);
+	}
+}
+
 int main(void)
 {
 	struct ww_class *classes[] = { &wound_wait, &wait_die };
@@ -155,6 +199,7 @@ int main(void)
 			uses_all();
 			MUST(!made && !ww_class_free(c) && live == 1);
 		}
+		reads_all();
 	}
 	return 0;
 }

@@ -1,9 +1,9 @@
 /*
  * A class of a million mutexes has next to no memory resident until they are used: what is zero once it is open is returned
- * to the system.  Afterwards all of them work, those that wait for one make little resident, and the class opens again.
+ * to the system.  Afterwards all of them work, those that wait for one or read make little resident, and the class opens again.
  */
 #include "mutex_test.h"
-#include "../ww_number.h"
+#include "../ww_shared.h"
 #include "../ww_class.h"
 #include <sys/mman.h>
 
@@ -74,10 +74,10 @@ static void *waits(void *arg)
 	return NULL;
 }
 
-/* Somebody waits for it, as far as can be seen from here; the highest bit is no waiter. */
+/* Somebody waits for it, as far as can be seen from here; the highest bits are no waiters. */
 static void awaits_one(uint32_t number)
 {
-	while (!(__atomic_load_n(&c->pool->numbered[number].waiters, __ATOMIC_SEQ_CST) << 1))
+	while (!(__atomic_load_n(&c->pool->numbered[number].mutex_.waiters, __ATOMIC_SEQ_CST) << 3))
 		usleep(100);
 	usleep(2000);
 }
@@ -121,13 +121,36 @@ static void uses_all(void)
 	}
 }
 
+/* How much the contexts of a class take that read one mutex, of which each has a mark for every mutex. */
+static long of_readers(void)
+{
+	enum { READERS = 12 };
+	struct ww_acquire_ctx x[READERS];
+	struct ww_shared_mutex m;
+	long before = resident();
+
+	ww_shared_mutex_init(&m, c);
+	for (unsigned k = 0; k < READERS; k++) {
+		ww_acquire_init(&x[k], c);
+		MUST(!ww_shared_mutex_lock_shared(&m, &x[k]));
+	}
+	before = resident() - before;
+	for (unsigned k = 0; k < READERS; k++) {
+		ww_acquire_end_reads(&x[k]);
+		ww_acquire_fini(&x[k]);
+	}
+	MUST(!ww_shared_mutex_destroy(&m));
+	return before;
+}
+
 static void opens(bool told)
 {
-	long before = resident(), opened;
+	long before = resident(), opened, reads;
 	unsigned large;
 
 	MUST(!ww_class_limit(c, MUTEXES, 16) && !ww_class_open(c));
 	opened = resident() - before;
+	reads = of_readers();
 	for (unsigned k = 0; k < NUMBERS; k++)
 		MUST(!ww_number_take(&numbers[k], c));
 	large = large_waits();
@@ -136,9 +159,10 @@ static void opens(bool told)
 		MUST(counters[k] == 1 + 2 * (k % APART == 0) && !ww_number_put(numbers[k], c));
 	memset(counters, 0, sizeof counters);
 	MUST(!ww_class_free(c));
-	if (!told || (opened < 16 * MiB && large < WAITERS / 2))
+	if (!told || (opened < 16 * MiB && large < WAITERS / 2 && reads < MiB))
 		return;
-	printf("%ld KiB resident with all mutexes unused; %u of %d waits made more than a MiB so\n", opened / 1024, large, WAITERS);
+	printf("%ld KiB resident with all mutexes unused; %u of %d waits made more than a MiB so, and twelve readers %ld KiB\n",
+	       opened / 1024, large, WAITERS, reads / 1024);
 	exit(1);
 }
 

@@ -59,6 +59,21 @@ static void second_context(void)
 	MUST(ww_debug_warnings() == 2);
 }
 
+/* Each time as the youngest; one that backs off isn't told. */
+static void begins_anew(void)
+{
+	for (unsigned k = 0; k < 8; k++) {
+		AT(1, ww_acquire_init(&x, &c));
+		x.deadlock_inject_countdown = k == 2 ? ~0u : 0;
+		MUST(!ww_mutex_lock(&a, &x) && ww_mutex_lock(&b, &x) == (k == 2 ? 0 : -EDEADLK));
+		ww_mutex_unlock(&a);
+		if (k == 2)
+			ww_mutex_unlock(&b);
+		ww_acquire_fini(&x);
+		MUST(ww_debug_warnings() == (k > 5));
+	}
+}
+
 static void without_context(void)
 {
 	struct timespec late = in_ms(600000);
@@ -605,6 +620,8 @@ static void tells_warnings(void)
 {
 	tells(4, 4, second_context, "$1: ww_acquire_init: class \"c\": " OTHER_CONTEXT "$0\n"
 				    "$2: ww_acquire_init: class \"c\": " OTHER_CONTEXT "$0\n");
+	tells(4, 4, begins_anew, "$1: ww_acquire_init: class \"c\": the last 3 contexts of the thread ended after -EDEADLK: one that begins "
+				 "anew is the youngest, and gives way again; let it back off, and go on\n");
 	tells(4, 4, without_context, "$2: ww_mutex_lock: class \"c\": " BESIDE "$1\n");
 	tells(4, 4, without_context_beside_one, "$1: ww_mutex_lock: class \"c\": " BESIDE "$0\n");
 	tells(2, 2, wait_for_context, "$1: a wait for a context: class \"c\": " NONE_LEFT "$0\n");

@@ -208,7 +208,8 @@ def refuses_others():
 
 
 def gives_numbers_back():
-    """A mutex stays as long as a context may hold it, or has to wait for it first; then its class has room for another."""
+    """Of a mutex that goes the number stays in use as long as a context holds it; then its class has room for another, also while a
+    context has yet to wait for that number."""
     buffers = made(ww.WAIT_DIE, mutexes=2)
     a, b = ww.Mutex(buffers), ww.Mutex(buffers)
     with buffers.context() as older, buffers.context() as younger:
@@ -219,9 +220,11 @@ def gives_numbers_back():
         gc.collect()
         assert fault_of(ww.Mutex, buffers) == errno.ENOSPC
         older.unlock_all()
-        assert fault_of(ww.Mutex, buffers) == errno.ENOSPC
+        another = ww.Mutex(buffers)
         younger.unlock_all()
         younger.lock(b)
+        assert another not in younger and fault_of(ww.Mutex, buffers) == errno.ENOSPC
+        del another
     with buffers.context() as context, buffers.context() as other:
         for is_told, tries in enumerate((context.try_lock, lambda it: is_raised(TimeoutError, context.lock, it, timeout=0))):
             mutex = ww.Mutex(buffers)
@@ -236,6 +239,61 @@ def gives_numbers_back():
             del mutex
     with ww.Mutex(buffers) as mutex:
         assert mutex.locked()
+
+
+def loses_no_number():
+    """A SharedMutex that goes while a context that has read it reads something: its number comes again once the reads have ended, and
+    in the end the class is freed."""
+    buffers, told = made(mutexes=8), []
+    library, keep = buffers._library, ww.SharedMutex(buffers)
+    free = library.ww_class_free
+    for unlocks in (True, False) * 4:
+        with buffers.context() as context:
+            context.read(keep)
+            for _ in range(4):
+                once = ww.SharedMutex(buffers)
+                context.read(once)
+                if unlocks:
+                    context.unlock(once)
+                del once
+                gc.collect()
+    all_at_once = [ww.Mutex(buffers) for _ in range(6)]
+    assert fault_of(ww.Mutex, buffers) == errno.ENOSPC
+    library.ww_class_free = lambda at: told.append(free(at))
+    freed = ww.Class(library=sys.argv[1])
+    with freed.context() as context:
+        context.read(keep := ww.SharedMutex(freed))
+        del keep
+    del freed, context
+    gc.collect()
+    library.ww_class_free = free
+    assert told == [0] and all_at_once
+
+
+def holds_what_it_asked_for(kind):
+    """A mutex for which a context waited first, and hasn't asked: it doesn't hold that, nor downgrades it. And after a Deadlock that
+    was caught a lock is refused for that reason."""
+    if kind == ww.WOUND_WAIT:
+        return
+    buffers = made(kind)
+    a, held, other = ww.SharedMutex(buffers), ww.SharedMutex(buffers), ww.Mutex(buffers)
+    with buffers.context() as older, buffers.context() as younger:
+        older.lock(a)
+        younger.lock(held)
+        assert is_raised(ww.Deadlock, younger.lock, a)
+        try:
+            younger.lock(other)
+            assert False
+        except OSError as error:
+            assert error.errno == errno.EINVAL and "got Deadlock" in error.strerror
+        younger.unlock_all()
+        older.unlock(a)
+        younger.lock(other)
+        assert a not in younger and other in younger and not older.try_lock(a)
+        assert fault_of(younger.downgrade, a) == fault_of(younger.unlock, a) == errno.EINVAL
+        assert younger.try_lock(a) and a in younger
+        younger.downgrade(a)
+        assert older.try_lock(held) and fault_of(older.lock, a, timeout=0) == errno.ETIMEDOUT
 
 
 def frees_cycles():
@@ -685,6 +743,7 @@ ends_all_waits()
 debugs()
 refuses_others()
 gives_numbers_back()
+loses_no_number()
 frees_cycles()
 loses_nothing()
 ends_each_block()
@@ -692,6 +751,6 @@ waits_in_turn()
 ends_behind_a_cancel()
 forks()
 for each in KINDS:
-    for test in (refuses_mutexes, refuses_again, ends_in_time, is_called_off, hears_interrupts, resolves, backs_off_by_itself, keeps_nothing, reads):
+    for test in (refuses_mutexes, refuses_again, ends_in_time, is_called_off, hears_interrupts, resolves, backs_off_by_itself, keeps_nothing, reads, holds_what_it_asked_for):
         test(each)
 print("mutexes in Python: each refusal is told, and each wait ends as it should")

@@ -51,7 +51,7 @@ static void gives(struct mine *m, unsigned n)
 
 static void gives_all(struct mine *m)
 {
-	ww_number_unlock_all(m->x);
+	ww_acquire_unlock_all(m->x);
 	for (unsigned n = 0; n < MUTEXES; n++)
 		gives(m, n);
 	MUST(!m->x->acquired);

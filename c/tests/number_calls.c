@@ -3,7 +3,7 @@
  * -EDEADLK, and sums by threads.  Compiled with -DWW_DEBUG, over the debug library: which calls that reports.
  */
 #include "mutex_test.h"
-#include "../ww_number.h"
+#include "../ww_shared.h"
 #include <sys/wait.h>
 
 static DEFINE_WW_CLASS(wound_wait);
@@ -52,6 +52,33 @@ static void are_of_one_pool(void)
 	MUST(!ww_class_free(c));
 }
 
+/* A number that is left comes free by itself: at once, or when nobody holds or reads it any more. */
+static void leaves(void)
+{
+	uint32_t other;
+
+	takes();
+	begins(&x);
+	ww_number_leave(n[1], c);
+	MUST(!ww_number_take(&other, c) && other == n[1] && !ww_number_lock(n[0], &x));
+	ww_number_leave(n[0], c);
+	MUST(ww_number_take(&other, c) == -ENOSPC && ww_class_free(c) == -EBUSY && ww_number_is_held(n[0], &x));
+	MUST(!ww_number_unlock(n[0], &x) && !ww_number_take(&other, c) && other == n[0] && ww_number_take(&other, c) == -ENOSPC);
+	/* The last one is that by which it reads. */
+	MUST(!ww_number_put(n[3], c) && !ww_number_lock_shared(n[0], &x, NULL) && !ww_number_lock_shared(n[1], &x, NULL));
+	ww_number_leave(n[0], c);
+	MUST(ww_number_take(&other, c) == -ENOSPC && ww_number_is_read(n[0], &x));
+	ww_acquire_end_reads(&x);
+	MUST(!ww_number_take(&other, c) && other == n[0]);
+	/* By its place, too. */
+	MUST(ww_shared_mutex_trylock_shared(ww_number_at(n[0], c), &x) == 1 && ww_number_is_read(n[0], &x));
+	MUST(!ww_number_at(BEYOND, c));
+	ww_number_leave(n[0], c);
+	ww_acquire_end_reads(&x);
+	ww_acquire_fini(&x);
+	MUST(!ww_number_put(n[1], c) && !ww_number_put(n[2], c) && !ww_class_free(c));
+}
+
 /* ---- one context ---- */
 
 static void by_a_context(void)
@@ -65,9 +92,9 @@ static void by_a_context(void)
 	MUST(ww_number_trylock(n[3], &x) == 1 && x.acquired == 4);
 	MUST(!ww_number_unlock(n[1], &x) && x.acquired == 3 && !ww_number_is_locked(n[1], c));
 	ww_acquire_done(&x);
-	ww_number_unlock_all(&x);
+	ww_acquire_unlock_all(&x);
 	MUST(!x.acquired && !ww_number_is_locked(n[0], c));
-	ww_number_unlock_all(&x);
+	ww_acquire_unlock_all(&x);
 	ww_acquire_fini(&x);
 }
 
@@ -113,7 +140,7 @@ static void refuses(void)
 	ww_acquire_fini(&x);
 	MUST(ww_number_lock(n[0], &x) == -EINVAL && ww_number_lock_until(n[0], &x, NULL) == -EINVAL);
 	MUST(!ww_number_trylock(n[0], &x) && ww_number_unlock(n[0], &x) == -EINVAL && !ww_number_is_held(n[0], &x));
-	ww_number_unlock_all(&x);
+	ww_acquire_unlock_all(&x);
 	MUST(!ww_number_is_locked(n[0], c));
 }
 
@@ -127,7 +154,7 @@ static void no_context(void)
 	for (unsigned k = 0; k < 2; k++) {
 		MUST(!ww_number_trylock(n[0], &z) && ww_number_lock(n[0], &z) == -EINVAL && ww_number_unlock(n[0], &z) == -EINVAL);
 		MUST(ww_number_lock_until(n[0], &z, &past) == -EINVAL && !ww_number_is_held(n[0], &z) && !ww_number_is_locked(n[0], c));
-		ww_number_unlock_all(&z);
+		ww_acquire_unlock_all(&z);
 		begins(&z);
 		ww_acquire_fini(&z);
 	}
@@ -155,7 +182,7 @@ static void in_a_loop(void)
 		MUST(!ww_number_lock(n[1], &x) && !ww_mutex_lock(&m, &x) && !ww_number_lock(n[0], &x) && x.acquired == 3);
 	}
 	MUST(!ww_number_lock(n[2], &x) && !ww_number_unlock(n[0], &x) && x.acquired == 3);
-	ww_number_unlock_all(&x);
+	ww_acquire_unlock_all(&x);
 	MUST(!x.acquired && !ww_number_is_locked(n[2], c) && !ww_mutex_is_locked(&m));
 	ww_acquire_fini(&x);
 	MUST(!ww_mutex_destroy(&m) && !ww_number_take(&n[3], c));
@@ -170,7 +197,7 @@ static void backs_off_in_a_loop(void)
 	begins(&x);
 	MUST(!ww_number_lock(n[0], &y));
 	if (c != &wait_die)
-		ww_number_unlock_all(&y);
+		ww_acquire_unlock_all(&y);
 	ww_until_all_locked(&x) {
 		bodies++;
 		MUST(!ww_number_lock(n[1], &x) && ww_number_is_held(n[0], &x) == (bodies == 2));
@@ -230,7 +257,7 @@ static void without_one(void)
 	MUST(ww_number_lock_until(n[1], &x, &past) == -ETIMEDOUT && x.acquired == 1);
 	ww_number_unlock_alone(n[1], other);
 	MUST(!ww_number_lock_until(n[1], &x, &past) && x.acquired == 2);
-	ww_number_unlock_all(&x);
+	ww_acquire_unlock_all(&x);
 	ww_acquire_fini(&x);
 }
 
@@ -337,7 +364,7 @@ static void another_comes_first(void)
 	MUST(!ww_number_lock(n[0], &y) && !ww_number_lock(n[1], &x) && ww_number_lock(n[0], &x) == -EDEADLK);
 	MUST(!ww_number_unlock(n[1], &x) && !ww_number_lock(n[1], &x) && !ww_number_unlock(n[1], &x));
 	ww_acquire_fini(&x);
-	ww_number_unlock_all(&y);
+	ww_acquire_unlock_all(&y);
 	ww_acquire_fini(&y);
 }
 
@@ -371,7 +398,7 @@ static void *goes_against(void *arg)
 		backs++;
 	}
 	MUST(mine.acquired == 2);
-	ww_number_unlock_all(&mine);
+	ww_acquire_unlock_all(&mine);
 	ww_acquire_fini(&mine);
 	return (void *)backs;
 }
@@ -434,7 +461,7 @@ static void transacts(unsigned *drawn, unsigned long *count)
 	} else {
 		MUST(r == -ETIMEDOUT);
 	}
-	ww_number_unlock_all(&mine);
+	ww_acquire_unlock_all(&mine);
 	ww_acquire_fini(&mine);
 }
 
@@ -502,7 +529,7 @@ static void in_a_child(void)
 	}
 	MUST(waitpid(child, &status, 0) == child && WIFEXITED(status) && !WEXITSTATUS(status));
 	ww_number_unlock_alone(n[2], held);
-	ww_number_unlock_all(&x);
+	ww_acquire_unlock_all(&x);
 	ww_acquire_fini(&x);
 }
 
@@ -526,9 +553,10 @@ static void all_of(struct ww_class *class_)
 	MUST(!ww_class_limit(c, COUNT, 2));
 	tells(puts_no_other_back, 6);
 	tells(are_of_one_pool, 0);
+	tells(leaves, 0);
 	takes();
 	tells(by_a_context, 0);
-	tells(refuses, 8);
+	tells(refuses, 9);
 	no_context();
 	tells(in_a_loop, 1);
 	tells(backs_off_in_a_loop, c == &wait_die);

@@ -161,6 +161,16 @@ static void waits_for_a_context(void)
 	ends(&x);
 	MUST(calls[0] == 1 && calls[1] == 1 && !ww_acquire_init_poll(&z[1], c, &s[1], &w[1]));
 	ends(&z[1]);
+	/* The same by a call that uses no context: of one that has got it and hands it on, of one that waits, and of none. */
+	MUST(!ww_acquire_init_checked(&x, c));
+	for (unsigned k = 1; k < 3; k++)
+		MUST(ww_acquire_init_poll(&z[k], c, &s[k], &w[k]) == -EINPROGRESS);
+	ends(&x);
+	MUST(calls[1] == 2 && calls[2] == 1);
+	ww_seek_end(&s[1]);
+	MUST(calls[2] == 2);
+	ww_seek_end(&s[2]);
+	ww_seek_end(&s[2]);
 	ends(&z[0]);
 	ends(&y);
 	MUST(!ww_acquire_init_checked(&x, c));
@@ -848,7 +858,7 @@ int main(int count, char **words)
 		by_contexts_of_their_own();
 	}
 #ifdef WW_DEBUG
-	MUST(ww_debug_faults() - besides == 20); /* four times the five calls above that are wrong by themselves */
+	MUST(ww_debug_faults() - besides == 40); /* four times the ten calls above that are wrong by themselves */
 #endif
 	puts("poll_calls: as they should be");
 	return 0;

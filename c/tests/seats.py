@@ -1,19 +1,22 @@
 #!/usr/bin/env python3
-"""All that tasks may do by the tables at the head of ww_seat.c, where they wait for contexts: seats.py.
+"""All that tasks may do by the tables at the heads of ww_seat.c and ww_queue.c, where they wait for contexts: seats.py.
 
-A model of give_shared, ww_queue_up, ww_is_served and ww_leave_queue, of few tasks, threads and seats: each access of a seat's `busy`,
-of `seekers`, `called` or `limit` is a step, and what changes under the lock `queue` alone is one with the step that it belongs to.  From
-the beginning it makes each step that any of them may make, in every order, so also polls that come late or never, and asks of each
-state that it reaches:
+A model of give_shared, ww_queue_up, ww_is_served, ww_leave_queue, ww_poll_take_back and ww_class_cancel, of few tasks, threads and
+seats: each access of a seat's `busy`, of `seekers`, `called`, `limit` or `ends_waits` is a step, and what changes under the lock `queue`
+alone is one with the step that it belongs to.  From the beginning it makes each step that any of them may make, in every order, so also
+polls that come late or never, and asks of each state that it reaches:
 - a seat has one user at most, and only the first in the queue is CALLED, just where `called` says so;
 - if nobody is amid a call: none of the seats that may be claimed is free while a thread waits, or while a task waits and none is CALLED;
 - whoever is the first in the queue is passed by few that begin, since a seat is lent to others once before it is handed over;
-- a seat that may not be claimed any more gets no new user.
+- a seat that may not be claimed any more gets no new user;
+- who is CALLED is awake: its waker was called, or it took that back and is to poll;
+- once the class's waits were ended nobody sleeps in a queue.
 Then it leaves out one rule after another, and has to find a state that isn't so: else the model would say nothing.
 """
 import sys
 
 IDLE, LOOKS, SEEKS, SCANS, USES, GIVES, SERVES, CALLS, QUEUED, WIDENS = range(10)  # what one does
+GOES_ON, ENDS, ENDED = range(3)  # whether the class's waits are to end
 WAITS, CALLED = "WAITS", "CALLED"  # a task that is QUEUED
 NOBODY = None
 WIDTHS = (1, 2)  # how many seats may be claimed, by turns, if there are so many
@@ -31,6 +34,10 @@ RULES = {
     "limit": "a claim heeds how many seats may be claimed",
     "serves": "seats that may be claimed from now on are handed to who waits",
     "threads": "nobody else begins while a thread waits",
+    "wakes": "who is called wakes, or is awake",
+    "ends": "a cancel of the class ends each wait, also that of a task that took its waker back",
+    "stays out": "who comes to wait after that doesn't wait",
+    "polls": "nor does who polls",
 }
 
 
@@ -45,11 +52,12 @@ def put(them, k, it):
 class State:
     """
     Of each seat its user and whether it was lent since it was handed over; how many may be claimed; the queue of tasks: who, WAITS or
-    CALLED, and how many have passed it since it was first; whether `called` says that somebody is; how often that one has looked; the queue
-    of threads, and how many have passed its first; who holds the lock; and what each does.
+    CALLED, how many have passed it since it was first, and whether its waker is there; whether `called` says that somebody is; how often
+    that one has looked; the queue of threads, and how many have passed its first; who holds the lock; whether waits end; and what each
+    does.
     """
 
-    __slots__ = ("seats", "width", "queue", "called", "looks", "threads", "passed", "lock", "them")
+    __slots__ = ("seats", "width", "queue", "called", "looks", "threads", "passed", "lock", "ends", "them")
 
     def __init__(self, *all_):
         for name, value in zip(self.__slots__, all_):
@@ -66,14 +74,15 @@ class State:
 
 
 class Model:
-    """So many seats; tasks, and behind them threads, which may use all of them; whether the width changes."""
+    """So many seats; tasks, and behind them threads, which may use all of them; whether the width changes; and whether the class may be
+    cancelled, and tasks take their wakers back."""
 
-    def __init__(self, seats, tasks, threads, changes, without=None):
-        self.count, self.tasks, self.changes = seats, tasks, changes
+    def __init__(self, seats, tasks, threads, changes, cancels, without=None):
+        self.count, self.tasks, self.changes, self.cancels = seats, tasks, changes, cancels
         self.keeps_turns = not (changes or threads)  # else seats are set free for what has come to an end since
         self.has = {rule: rule != without for rule in RULES}
         width = 1 if changes else seats
-        self.begin = State(((NOBODY, False),) * seats, width, (), False, 0, (), 0, NOBODY, ((IDLE, 0),) * (tasks + threads))
+        self.begin = State(((NOBODY, False),) * seats, width, (), False, 0, (), 0, NOBODY, GOES_ON, ((IDLE, 0),) * (tasks + threads))
 
     def is_task(self, t):
         return t < self.tasks
@@ -96,11 +105,11 @@ class Model:
         return state.but(seats=put(state.seats, s, (t, state.seats[s][1]))).does(t, USES, s)
 
     def call(self, state):
-        """The first in the queue, if there is one, is called."""
+        """The first in the queue, if there is one, is called: its waker, or it has taken that back, and is awake."""
         if not state.queue:
             return state.but(called=False)
-        who, _, passed = state.queue[0]
-        return state.but(queue=put(state.queue, 0, (who, CALLED, passed)), called=True, looks=0)
+        who, _, passed, sleeps = state.queue[0]
+        return state.but(queue=put(state.queue, 0, (who, CALLED, passed, sleeps and not self.has["wakes"])), called=True, looks=0)
 
     def out(self, state, t, passes):
         """It isn't in its queue any more; if it was called, the next one is."""
@@ -124,12 +133,16 @@ class Model:
             state = state.but(passed=state.passed + 1)
         if not (state.queue and self.is_task(t) and self.keeps_turns):
             return state
-        who, is_, passed = state.queue[0]
+        who, is_, passed, sleeps = state.queue[0]
         if passed >= 2 * self.count:
             raise Wrong(f"somebody is passed again and again: {state.key()}")
-        return state.but(queue=put(state.queue, 0, (who, is_, passed + 1)))
+        return state.but(queue=put(state.queue, 0, (who, is_, passed + 1, sleeps)))
 
     def moves(self, state):
+        if self.cancels and state.ends == GOES_ON:
+            yield state.but(ends=ENDS)
+        elif state.ends == ENDS and state.lock is NOBODY:
+            yield self.ends_one(state)
         for t, (what, s) in enumerate(state.them):
             if what == IDLE:
                 if not self.is_barred(state, t):
@@ -155,6 +168,16 @@ class Model:
                 yield from self.polls(state, t)
                 yield self.out(state, t, "leaves").does(t, IDLE)
 
+    def ends_one(self, state):
+        """The first of those that wait and weren't called, who look by themselves; at last there is none."""
+        if state.threads:
+            return self.out(state, state.threads[0], "passes").does(state.threads[0], IDLE)
+        for t, is_, _, sleeps in state.queue:
+            if is_ == WAITS:
+                state = self.out(state, t, "passes").does(t, IDLE)
+                return state if sleeps or self.has["ends"] else state.but(ends=ENDED)
+        return state.but(ends=ENDED)
+
     def seeks(self, state, t):
         return (self.stands(state, t) if self.has["seeks"] else state).but(lock=t).does(t, SEEKS)
 
@@ -162,7 +185,7 @@ class Model:
         if t in state.threads or any(it[0] == t for it in state.queue):
             return state
         if self.is_task(t):
-            return state.but(queue=state.queue + ((t, WAITS, 0),))
+            return state.but(queue=state.queue + ((t, WAITS, 0, True),))
         return state.but(threads=state.threads + (t,))
 
     def begins(self, state, t):
@@ -182,15 +205,17 @@ class Model:
         if s < self.count and may and self.is_free(state, t, s):
             state = self.stands(state, t)
             if what == SCANS:  # it was called: so the call passes on
-                state = state.but(queue=put(state.queue, 0, (t, CALLED, 0)))
+                state = state.but(queue=put(state.queue, 0, (t, CALLED, 0, False)))
             yield self.hand(state, t, s).but(lock=NOBODY)
         elif s < self.count and may and (what == SEEKS or self.has["all"]):
             yield state.does(t, what, s + 1)
         else:
             state = self.stands(state, t)
-            if what == SCANS and not self.has["clears"]:
-                state = state.but(called=False, queue=put(state.queue, 0, (t, WAITS, state.queue[0][2])))
-            yield state.but(lock=NOBODY).does(t, QUEUED)
+            if what == SCANS:  # it leaves a waker
+                state = state.but(called=self.has["clears"] and state.called, queue=put(state.queue, 0, (t, WAITS, state.queue[0][2], True)))
+            state = state.but(lock=NOBODY)
+            ends = state.ends != GOES_ON and self.has["polls" if what == SCANS else "stays out"]
+            yield self.out(state, t, "passes").does(t, IDLE) if ends else state.does(t, QUEUED)
 
     def gives(self, state, t, s):
         """It is through: it may come to look at the gate first."""
@@ -234,25 +259,38 @@ class Model:
         return state
 
     def polls(self, state, t):
-        """Who was called looks at a seat, and then at all."""
-        if not state.queue or state.queue[0][:2] != (t, CALLED):
+        """Who was called looks at a seat, and then at all.  Who waits takes its waker back, and leaves one, or doesn't wait any more."""
+        k = next((k for k, it in enumerate(state.queue) if it[0] == t), None)
+        if k is None:
             return
-        if state.looks < LOOKS_ON:
+        who, is_, passed, sleeps = state.queue[k]
+        if is_ == WAITS and sleeps and self.cancels:
+            yield state.but(queue=put(state.queue, k, (who, is_, passed, False)))
+        if is_ == WAITS and not sleeps:
+            ends = state.ends != GOES_ON and self.has["polls"]
+            yield self.out(state, t, "passes").does(t, IDLE) if ends else state.but(queue=put(state.queue, k, (who, is_, passed, True)))
+        if is_ != CALLED or sleeps:
+            return
+        if state.looks < LOOKS_ON and state.ends == GOES_ON:
             if not self.is_barred(state, t) and self.is_free(state, t, 0):
                 yield self.hand(state, t, 0)
             else:
                 yield state.but(looks=state.looks + 1)
             return
         if self.has["clears"]:
-            state = state.but(called=False, queue=put(state.queue, 0, (t, WAITS, state.queue[0][2])))
+            state = state.but(called=False, queue=put(state.queue, 0, (t, WAITS, passed, False)))
         yield state.but(lock=t).does(t, SCANS)
 
     def look(self, state):
         """What is so in each state; of what it waits for, only where nobody is amid a call."""
         if [it[1] for it in state.queue[1:] if it[1] == CALLED]:
             raise Wrong(f"one is called that isn't the first: {state.key()}")
+        if [it for it in state.queue if it[1] == CALLED and it[3]]:
+            raise Wrong(f"one is called that sleeps on: {state.key()}")
         if any(what in (LOOKS, SEEKS, SCANS, GIVES, SERVES, CALLS, WIDENS) for what, _ in state.them):
             return
+        if state.ends == ENDED and (state.threads or any(it[3] for it in state.queue)):
+            raise Wrong(f"a wait goes on though all are to end: {state.key()}")
         if state.called != (state.queue[:1] != () and state.queue[0][1] == CALLED):
             raise Wrong(f"it says that somebody is called, or one is and it doesn't say so: {state.key()}")
         if state.threads and any(user is NOBODY for user, _ in state.seats):
@@ -274,7 +312,8 @@ class Model:
 
 
 def main():
-    sizes = (1, 3, 0, False), (2, 3, 0, False), (2, 2, 0, True), (1, 2, 1, False), (2, 2, 1, False)
+    sizes = [(1, 3, 0, False, False), (2, 3, 0, False, False), (2, 2, 0, True, False), (2, 2, 1, False, False)]
+    sizes += [(1, 2, 1, False, True), (1, 3, 0, False, True)]
     try:
         states = sum(Model(*size).search() for size in sizes)
     except Wrong as why:

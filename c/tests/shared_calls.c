@@ -5,6 +5,9 @@
 #include "mutex_test.h"
 #include "../ww_poll.h"
 #include "../ww_shared.h"
+#include "../ww_class.h" /* behind those, whose calls say where they are */
+#include <signal.h>
+#include <sys/wait.h>
 
 static DEFINE_WW_CLASS(wound_wait);
 static DEFINE_WD_CLASS(wait_die);
@@ -283,6 +286,68 @@ static void a_loop_goes_on_after_a_reader(void)
 	end_both();
 }
 
+/* By hand, too, it acquires nothing while it still reads; once it reads nothing, the core says the same. */
+static void whoever_was_told_reads_no_more(void)
+{
+	begin_both();
+	MUST(!writes(&m, &x) && !reads(&n, &y) && writes(&m, &y) == -EDEADLK);
+	MUST(reads(&n, &y) == -EINVAL && !ww_shared_mutex_trylock_shared(&n, &y) && writes(&n, &y) == -EINVAL);
+	MUST(ww_shared_mutex_lock_shared_poll(&n, &y, NULL) == -EINVAL && ww_shared_mutex_lock_shared_until(&n, &y, &past) == -EINVAL);
+	unlocks(&n, &y);
+	unlocks(&m, &x);
+	MUST(!ww_shared_mutex_await(&y, NULL) && !reads(&n, &y) && !reads(&m, &y));
+	ww_acquire_end_reads(&y);
+	end_both();
+}
+
+/* What it collided with nobody has said, wherever the context lies. */
+static void whoever_was_not_told_awaits_nothing(void)
+{
+	memset(&x, 0x5a, sizeof x);
+	begin_both();
+	MUST(ww_shared_mutex_await(&x, NULL) == -EINVAL && ww_shared_mutex_await_poll(&x, NULL) == -EINVAL);
+	end_both();
+}
+
+/* Behind a back-off the context has its lock until the body asks for it, and hasn't waited for those who read it. */
+static void owed_is_not_written(void)
+{
+	uint32_t number;
+
+	MUST(!ww_number_take(&number, c));
+	begin_both();
+	MUST(!writes(&m, &x));
+	ww_until_all_locked(&y, of_a_mutex) {
+		MUST(!writes(&n, &y)); /* so that it may have to back off */
+		if (ww_shared_mutex_is_written_by(&m, &x)) {
+			MUST(writes(&m, &y) == -EDEADLK);
+			ww_shared_mutex_downgrade(&m, &x);
+			ww_retry_on_contention(&y, of_a_mutex);
+		}
+		MUST(!ww_mutex_lock(&plain, &y) && !ww_shared_mutex_is_written_by(&m, &y) && ww_shared_mutex_is_read_by(&m, &x));
+		ww_acquire_end_reads(&x);
+		MUST(!writes(&m, &y) && ww_shared_mutex_is_written_by(&m, &y));
+	}
+	ww_acquire_unlock_all(&y);
+	ww_acquire_fini(&y);
+	begins(&y);
+	MUST(!ww_number_lock_exclusive(number, &x, NULL));
+	ww_until_all_locked(&y, of_a_number) {
+		MUST(!writes(&n, &y));
+		if (ww_number_is_held(number, &x)) {
+			MUST(ww_number_lock_exclusive(number, &y, NULL) == -EDEADLK && !ww_number_unlock(number, &x));
+			MUST(!ww_number_lock_shared(number, &x, NULL));
+			ww_retry_on_contention(&y, of_a_number);
+		}
+		MUST(!ww_mutex_lock(&plain, &y) && !ww_number_is_held(number, &y) && ww_number_is_read(number, &x));
+		ww_acquire_end_reads(&x);
+		MUST(!ww_number_lock_exclusive(number, &y, NULL) && ww_number_is_held(number, &y));
+	}
+	ww_acquire_unlock_all(&y);
+	end_both();
+	MUST(!ww_number_put(number, c));
+}
+
 /* ---- in a loop ---- */
 
 static void reads_are_listed(void)
@@ -303,29 +368,74 @@ static void reads_are_listed(void)
 	end_both();
 }
 
-/* ---- by number ---- */
+/* ---- whose a read is ---- */
 
-static void numbers_are_read(void)
+/* One that was never locked has no number yet, and one of another class may have the same. */
+static void others_are_not_read(void)
 {
-	uint64_t readers = 0;
+	static DEFINE_WW_CLASS(other_class);
+	struct ww_shared_mutex never = WW_SHARED_MUTEX_INIT(c), other;
+	struct ww_acquire_ctx alone;
+	unsigned long before = faults();
+	uint32_t number;
+
+	begin_both();
+	MUST(!reads(&m, &x) && !reads(&n, &x));
+	never.mutex_.number = m.mutex_.number;
+	MUST(!ww_shared_mutex_is_read_by(&never, &x) && !ww_shared_mutex_is_written_by(&never, &x) && ww_shared_mutex_unlock(&never, &x) == -EINVAL);
+	ww_shared_mutex_init(&other, &other_class);
+	ww_acquire_init(&alone, &other_class);
+	number = other.mutex_.number;
+	other.mutex_.number = m.mutex_.number;
+	MUST(!ww_shared_mutex_is_read_by(&other, &x) && ww_shared_mutex_unlock(&other, &x) == -EINVAL && ww_shared_mutex_unlock(&m, &alone) == -EINVAL);
+	other.mutex_.number = number;
+	ww_acquire_fini(&alone);
+	MUST(x.acquired == 1 && !can_write(&m, &y) && !can_write(&n, &y) && faults() == before + 3 * TOLD);
+	ww_acquire_end_reads(&x);
+	end_both();
+	MUST(!ww_shared_mutex_destroy(&other) && !ww_class_free(&other_class));
+}
+
+/* Until the context is through with its reads its desk has the mark, by which the next mutex of that number would be read. */
+static void numbers_stay_while_read(void)
+{
 	uint32_t number;
 
 	MUST(!ww_number_take(&number, c));
 	begin_both();
-	MUST(!ww_number_lock_shared(number, &readers, &x, NULL) && !ww_number_lock_shared(number, &readers, &y, NULL));
+	MUST(!ww_number_lock_shared(number, &x, NULL) && ww_number_put(number, c) == -EBUSY && !reads(&m, &x));
+	ww_acquire_end_reads(&x);
+	MUST(!ww_number_lock_shared(number, &x, NULL) && !ww_number_lock_exclusive(number, &x, NULL) && ww_number_put(number, c) == -EBUSY);
+	MUST(!ww_number_unlock(number, &x) && ww_number_put(number, c) == -EBUSY);
+	ww_acquire_end_reads(&x);
+	MUST(!reads(&m, &x) && !ww_number_put(number, c)); /* what it read before doesn't matter */
+	unlocks(&m, &x);
+	end_both();
+}
+
+/* ---- by number ---- */
+
+static void numbers_are_read(void)
+{
+	uint32_t number;
+
+	MUST(!ww_number_take(&number, c));
+	begin_both();
+	MUST(!ww_number_lock_shared(number, &x, NULL) && !ww_number_lock_shared(number, &y, NULL));
 	MUST(ww_number_is_read(number, &x) && !ww_number_is_held(number, &x));
-	MUST(ww_number_lock_exclusive(number, &readers, &x, &past) == -ETIMEDOUT && !reads(&m, &y));
+	MUST(ww_number_lock_exclusive(number, &x, &past) == -ETIMEDOUT && !reads(&m, &y));
 	ww_acquire_end_reads(&y);
 	MUST(!y.acquired && can_write(&m, &x));
-	MUST(!ww_number_lock_exclusive(number, &readers, &x, NULL) && ww_number_is_held(number, &x));
-	MUST(ww_number_lock_exclusive(number, &readers, &x, NULL) == -EALREADY);
-	MUST(ww_number_lock_shared(number, &readers, &y, &past) == -ETIMEDOUT && !y.acquired);
-	MUST(!ww_number_unlock(number, &x) && !ww_number_lock_shared(number, &readers, &y, &past));
+	MUST(!ww_number_lock_exclusive(number, &x, NULL) && ww_number_is_held(number, &x));
+	MUST(ww_number_lock_exclusive(number, &x, NULL) == -EALREADY);
+	MUST(ww_number_lock_shared(number, &y, &past) == -ETIMEDOUT && !y.acquired);
+	MUST(!ww_number_unlock(number, &x) && !ww_number_lock_shared(number, &y, &past));
 	ww_acquire_end_reads(&x);
 	ww_acquire_end_reads(&y);
-	MUST(!ww_number_lock_exclusive(number, &readers, &y, NULL) && ww_number_lock_shared(number, &readers, &y, NULL) == -EALREADY);
-	MUST(ww_number_lock_shared(number, &readers, &x, &past) == -ETIMEDOUT && !ww_number_unlock(number, &y));
-	MUST(ww_number_lock_shared(number + 1, &readers, &y, NULL) == -EINVAL);
+	MUST(!ww_number_lock_exclusive(number, &y, NULL) && ww_number_lock_shared(number, &y, NULL) == -EALREADY);
+	MUST(!ww_number_is_read(number, &y) && y.acquired == 1 && ww_number_is_held(number, &y));
+	MUST(ww_number_lock_shared(number, &x, &past) == -ETIMEDOUT && !ww_number_unlock(number, &y) && !y.acquired);
+	MUST(ww_number_lock_shared(number + 1, &y, NULL) == -EINVAL);
 	end_both();
 	MUST(!ww_number_put(number, c));
 }
@@ -377,6 +487,7 @@ static void a_writer_polls(void)
 	begin_both();
 	MUST(!polls_read(&m, &x) && !polls_read(&m, &y));
 	MUST(polls_write(&m, &x) == -EINPROGRESS && can_read(&m, &y)); /* which it reads already */
+	MUST(!ww_shared_mutex_is_written_by(&m, &x) && ww_shared_mutex_is_read_by(&m, &x));
 	unlocks(&m, &y);
 	MUST(was_called() && !polls_write(&m, &x) && ww_shared_mutex_is_written_by(&m, &x) && !can_read(&m, &y));
 	unlocks(&m, &x);
@@ -442,7 +553,7 @@ static void refuse_others_amid_a_poll(void)
 	ww_until_all_locked(&x)
 		MUST(polls_read(&m, &x) == -EINVAL && polls_write(&m, &x) == -EINVAL && ww_shared_mutex_await_poll(&x, &waker) == -EINVAL);
 	MUST(polls_read(&m, NULL) == -EINVAL && polls_write(&m, NULL) == -EINVAL && ww_shared_mutex_await_poll(NULL, &waker) == -EINVAL);
-	MUST(faults() == before);
+	MUST(faults() == before + 26 * TOLD);
 	end_both();
 }
 
@@ -481,6 +592,35 @@ static void moves_back(void)
 	memset(&moved, 0x55, sizeof moved);
 }
 
+/* A task that waits for its own desk counts at the mutex that it asks for: y's task has that desk next, and hasn't polled. */
+static void mutexes_stay_while_tasks_come_to_read(void)
+{
+	uint32_t number;
+
+	MUST(!ww_number_take(&number, c));
+	for (unsigned by_number = 0; by_number < 2; by_number++) {
+		int r;
+
+		begin_both();
+		MUST(!reads(&m, &x) && polls_write(&m, &y) == -EINPROGRESS);
+		for (;;) {
+			ww_acquire_end_reads(&x);
+			MUST(was_called());
+			r = by_number ? ww_number_lock_shared_poll(number, &x, &waker) : polls_read(&n, &x);
+			if (r)
+				break;
+			MUST(polls_write(&m, &y) == -EINPROGRESS);
+		}
+		MUST(r == -EINPROGRESS && (by_number ? ww_number_put(number, c) : ww_shared_mutex_destroy(&n)) == -EBUSY);
+		MUST(!polls_write(&m, &y) && was_called());
+		MUST(!(by_number ? ww_number_lock_shared_poll(number, &x, &waker) : polls_read(&n, &x)) && x.acquired == 1);
+		ww_acquire_end_reads(&x);
+		unlocks(&m, &y);
+		end_both();
+	}
+	MUST(!ww_number_put(number, c));
+}
+
 /* Only this thread could poll the task that has y's desk next. */
 static void a_downgrade_waits_for_no_task(void)
 {
@@ -497,40 +637,191 @@ static void a_downgrade_waits_for_no_task(void)
 	end_both();
 }
 
+/* By its seat it reads on, and whoever writes waits for it: it moves while it polls for an upgrade, or before that. */
+static void moved_contexts_read_on(void)
+{
+	uint32_t number;
+
+	MUST(!ww_number_take(&number, c));
+	for (unsigned polls = 0; polls < 2; polls++) {
+		begin_both();
+		MUST(!ww_number_lock_shared(number, &x, NULL));
+		if (polls)
+			MUST(!ww_number_lock_shared(number, &y, NULL) && ww_number_lock_exclusive_poll(number, &x, &waker) == -EINPROGRESS);
+		moves(&x);
+		ww_acquire_end_reads(&y);
+		MUST(ww_number_is_read(number, &moved) && (polls || !ww_number_lock_shared(number, &moved, NULL)));
+		MUST(!(polls ? ww_number_lock_exclusive_poll(number, &moved, &waker) : ww_number_lock_exclusive(number, &moved, &past)));
+		MUST(ww_number_is_held(number, &moved) && !ww_number_unlock(number, &moved) && ww_number_is_read(number, &moved));
+		MUST(ww_number_lock_exclusive(number, &y, &past) == -ETIMEDOUT && moved.acquired == 1);
+		moves_back();
+		ww_acquire_end_reads(&x);
+		MUST(!ww_number_lock_exclusive(number, &y, &past) && !ww_number_unlock(number, &y));
+		calls = 0;
+		end_both();
+	}
+	MUST(!ww_number_put(number, c));
+}
+
+static uint32_t its_number;
+static int wrote;
+
+static uint64_t lock_waits(void)
+{
+	struct ww_class_counts counts;
+
+	ww_class_stats(c, &counts);
+	return counts.lock_waits;
+}
+
+/* Where x was. */
+static void *writes_there(void *arg)
+{
+	begins(&x);
+	MUST(!ww_number_lock_exclusive(its_number, &x, NULL));
+	__atomic_store_n(&wrote, 1, __ATOMIC_SEQ_CST);
+	MUST(!ww_number_unlock(its_number, &x));
+	ww_acquire_fini(&x);
+	return arg;
+}
+
+static void waits_until(uint64_t waits)
+{
+	while (lock_waits() < waits && !__atomic_load_n(&wrote, __ATOMIC_SEQ_CST))
+		usleep(100);
+	MUST(!__atomic_load_n(&wrote, __ATOMIC_SEQ_CST));
+}
+
+/* A context that waits for readers moves; another one begins where it was, and waits for these, too. */
+static void moved_writers_leave_no_name(void)
+{
+	uint64_t before;
+	pthread_t thread;
+
+	MUST(!ww_number_take(&its_number, c));
+	wrote = 0;
+	begins(&y);
+	begins(&x);
+	MUST(!ww_number_lock_shared(its_number, &y, NULL) && ww_number_lock_exclusive_poll(its_number, &x, &waker) == -EINPROGRESS);
+	moves(&x);
+	before = lock_waits();
+	thread = begin_thread(writes_there, NULL);
+	waits_until(before + 1);
+	MUST(!ww_acquire_end_wait(&moved));
+	waits_until(before + 2);
+	ww_acquire_end_reads(&y);
+	end_thread(thread);
+	MUST(wrote && !moved.acquired);
+	calls = 0;
+	ww_acquire_fini(&moved);
+	ww_acquire_fini(&y);
+	MUST(!ww_number_put(its_number, c));
+}
+
 static void numbers_are_polled(void)
 {
-	uint64_t readers = 0;
 	uint32_t number;
 
 	MUST(!ww_number_take(&number, c));
 	begin_both();
-	MUST(!ww_number_lock_exclusive_poll(number, &readers, &y, &waker) && ww_number_is_held(number, &y));
-	MUST(ww_number_lock_shared_poll(number, &readers, &x, &waker) == -EINPROGRESS && !ww_number_unlock(number, &y) && was_called());
-	MUST(!ww_number_lock_shared_poll(number, &readers, &x, &waker) && ww_number_is_read(number, &x));
+	MUST(!ww_number_lock_exclusive_poll(number, &y, &waker) && ww_number_is_held(number, &y));
+	MUST(ww_number_lock_shared_poll(number, &x, &waker) == -EINPROGRESS && !ww_number_unlock(number, &y) && was_called());
+	MUST(!ww_number_lock_shared_poll(number, &x, &waker) && ww_number_is_read(number, &x));
 	ww_acquire_end_reads(&x);
-	MUST(!ww_number_lock_shared_poll(number, &readers, &y, &waker));
-	MUST(ww_number_lock_exclusive_poll(number, &readers, &x, &waker) == -EINPROGRESS);
-	MUST(ww_number_lock_exclusive(number, &readers, &x, NULL) == -EBUSY && !ww_number_trylock(number, &x));
-	MUST(ww_number_lock_exclusive_poll(number, &readers, &x, NULL) == -ETIMEDOUT && !x.acquired);
-	MUST(ww_number_lock_exclusive_poll(number, &readers, &x, &waker) == -EINPROGRESS);
+	MUST(!ww_number_lock_shared_poll(number, &y, &waker));
+	MUST(ww_number_lock_exclusive_poll(number, &x, &waker) == -EINPROGRESS);
+	MUST(ww_number_lock_exclusive(number, &x, NULL) == -EBUSY && !ww_number_trylock(number, &x));
+	MUST(ww_number_lock_exclusive_poll(number, &x, NULL) == -ETIMEDOUT && !x.acquired);
+	MUST(ww_number_lock_exclusive_poll(number, &x, &waker) == -EINPROGRESS);
 	ww_acquire_end_reads(&y);
-	MUST(was_called() && !ww_number_lock_exclusive_poll(number, &readers, &x, &waker) && !ww_number_unlock(number, &x));
-	MUST(!ww_number_lock_shared_poll(number, &readers, &x, &waker) && !ww_number_lock_exclusive_poll(number, &readers, &x, &waker));
-	MUST(ww_number_lock_exclusive_poll(number, &readers, &x, &waker) == -EALREADY && !ww_number_unlock(number, &x));
+	MUST(was_called() && !ww_number_lock_exclusive_poll(number, &x, &waker) && !ww_number_unlock(number, &x));
+	MUST(!ww_number_lock_shared_poll(number, &x, &waker) && !ww_number_lock_exclusive_poll(number, &x, &waker));
+	MUST(ww_number_lock_exclusive_poll(number, &x, &waker) == -EALREADY && !ww_number_unlock(number, &x));
 	ww_acquire_end_reads(&x);
-	MUST(!ww_number_lock_shared_poll(number, &readers, &x, &waker) && !ww_number_lock_shared_poll(number, &readers, &y, &waker));
-	MUST(ww_number_lock_exclusive_poll(number, &readers, &x, &waker) == -EINPROGRESS);
+	MUST(!ww_number_lock_shared_poll(number, &x, &waker) && !ww_number_lock_shared_poll(number, &y, &waker));
+	MUST(ww_number_lock_exclusive_poll(number, &x, &waker) == -EINPROGRESS);
 	moves(&x); /* amid a wait, and as it reads */
-	MUST(ww_number_lock_exclusive_poll(number, &readers, &moved, &waker) == -EINPROGRESS && moved.acquired == 2);
-	MUST(ww_number_lock_exclusive_poll(number, &readers, &moved, NULL) == -ETIMEDOUT && moved.acquired == 1);
-	MUST(!ww_number_lock_shared_poll(number, &readers, &moved, &waker) && moved.acquired == 1);
+	MUST(ww_number_lock_exclusive_poll(number, &moved, &waker) == -EINPROGRESS && moved.acquired == 2);
+	MUST(ww_number_lock_exclusive_poll(number, &moved, NULL) == -ETIMEDOUT && moved.acquired == 1);
+	MUST(!ww_number_lock_shared_poll(number, &moved, &waker) && moved.acquired == 1);
 	moves_back();
 	ww_acquire_end_reads(&x);
 	ww_acquire_end_reads(&y);
-	MUST(!x.acquired && ww_number_lock_shared_poll(number + 1, &readers, &x, &waker) == -EINVAL);
-	MUST(ww_number_lock_exclusive_poll(number + 1, &readers, &x, &waker) == -EINVAL);
+	MUST(!x.acquired && ww_number_lock_shared_poll(number + 1, &x, &waker) == -EINVAL);
+	MUST(ww_number_lock_exclusive_poll(number + 1, &x, &waker) == -EINVAL);
 	end_both();
 	MUST(!ww_number_put(number, c) && !was_called());
+}
+
+/* ---- without a book ---- */
+
+/* What a wait ends as, if nothing came of it: the context has what it had, and another one what it asked for. */
+static void ends_its_wait(void)
+{
+	MUST(polls_read(&n, &x) == -EBUSY && !ww_acquire_end_wait(&x) && !ww_acquire_end_wait(&x));
+}
+
+/* Whatever it waits for, named by nobody: a lock, a read at its own desk and in its turn, a write, an upgrade, by number too. */
+static void waits_end_by_themselves(void)
+{
+	uint32_t number;
+
+	MUST(!ww_number_take(&number, c));
+	begin_both();
+	MUST(!ww_acquire_end_wait(&x) && !ww_mutex_lock(&plain, &y) && ww_mutex_lock_poll(&plain, &x, &waker) == -EINPROGRESS);
+	ends_its_wait();
+	MUST(!ww_number_lock(number, &y) && ww_number_lock_poll(number, &x, &waker) == -EINPROGRESS);
+	ends_its_wait();
+	MUST(!ww_number_unlock(number, &y) && !writes(&m, &y) && polls_read(&m, &x) == -EINPROGRESS);
+	ends_its_wait();
+	MUST(!x.acquired && !reads(&n, &x) && polls_read(&m, &x) == -EINPROGRESS);
+	ends_its_wait();
+	MUST(x.acquired == 1 && ww_shared_mutex_is_read_by(&n, &x) && polls_write(&m, &x) == -EINPROGRESS);
+	ends_its_wait();
+	unlocks(&m, &y);
+	MUST(!polls_read(&m, &y) && polls_write(&m, &x) == -EINPROGRESS);
+	ends_its_wait();
+	MUST(!polls_read(&m, &x) && polls_write(&m, &x) == -EINPROGRESS);
+	ends_its_wait();
+	MUST(can_read(&m, &y) && ww_shared_mutex_is_read_by(&m, &x) && x.acquired == 1);
+	MUST(!ww_number_lock_shared(number, &y, NULL) && ww_number_lock_exclusive_poll(number, &x, &waker) == -EINPROGRESS);
+	ends_its_wait();
+	ww_acquire_end_reads(&x);
+	ww_acquire_end_reads(&y);
+	MUST(polls_write(&m, &y) == 0 && polls_read(&m, &x) == -EINPROGRESS);
+	unlocks(&m, &y);
+	ends_its_wait(); /* which has come to the mutex by then */
+	MUST(!x.acquired && can_write(&m, &y) && polls_write(&m, &y) == 0 && polls_write(&m, &x) == -EINPROGRESS);
+	unlocks(&m, &y);
+	ends_its_wait();
+	MUST(!x.acquired && can_write(&m, &y) && !writes(&m, &y) && polls_read(&m, &x) == -EINPROGRESS && !ww_acquire_cancel(&x));
+	MUST(ww_acquire_end_wait(&x) == -EINTR && !x.acquired);
+	unlocks(&m, &y);
+	ww_mutex_unlock(&plain);
+	calls = 0;
+	end_both();
+	MUST(ww_acquire_end_wait(&x) == -EINVAL && !ww_number_put(number, c));
+}
+
+/* By hand nothing lists what it holds. */
+static void all_is_released(void)
+{
+	uint32_t numbers[2];
+
+	MUST(!ww_number_take(&numbers[0], c) && !ww_number_take(&numbers[1], c));
+	begin_both();
+	MUST(!ww_mutex_lock(&plain, &x) && !writes(&m, &x) && !reads(&n, &x) && !reads(&n, &x) && !ww_number_lock(numbers[0], &x));
+	MUST(!ww_number_lock_shared(numbers[1], &x, NULL) && ww_number_lock_exclusive_poll(numbers[1], &x, &waker) == 0 && x.acquired == 5);
+	ww_acquire_unlock_all(&x);
+	MUST(!x.acquired && !ww_mutex_is_locked(&plain) && can_write(&m, &y) && can_write(&n, &y) && ww_number_trylock(numbers[0], &y));
+	MUST(!ww_number_lock_exclusive(numbers[1], &y, NULL) && ww_mutex_trylock(&plain, &y));
+	ww_acquire_unlock_all(&y);
+	ww_acquire_unlock_all(&y);
+	MUST(!writes(&m, &y) && !ww_mutex_lock(&plain, &x) && polls_read(&m, &x) == -EINPROGRESS && !ww_acquire_end_wait(&x));
+	ww_acquire_unlock_all(&x);
+	ww_acquire_unlock_all(&y);
+	end_both();
+	MUST(!ww_number_put(numbers[0], c) && !ww_number_put(numbers[1], c) && !was_called());
 }
 
 /* ---- lists ---- */
@@ -721,6 +1012,90 @@ static void readers_take_mutexes_of_the_class(void)
 	MUST(!ww_shared_mutex_destroy(&only) && !ww_class_free(&few)); /* its desk doesn't keep it open */
 }
 
+/* ---- children of a fork ---- */
+
+/* By which signal it ends, or 0. */
+static int ends_in_a_child(void (*does)(void))
+{
+	pid_t child = fork();
+	int status;
+
+	MUST(child >= 0);
+	if (!child) {
+		close(2); /* a message may be due */
+		alarm(30);
+		does();
+		_exit(0);
+	}
+	MUST(waitpid(child, &status, 0) == child);
+	return WIFSIGNALED(status) ? WTERMSIG(status) : 0;
+}
+
+static void downgrades_m(void) { ww_shared_mutex_downgrade(&m, &x); }
+static void destroys_n(void)
+{
+	if (ww_shared_mutex_destroy(&n))
+		abort();
+}
+static void wake_nobody(void *loop, void *task) { (void)loop, (void)task; }
+
+/* Nor does a downgrade go on amid a poll. */
+static void a_child_waits_for_nobody(void)
+{
+	const struct ww_waker waker = { wake_nobody, NULL, NULL };
+	struct ww_mutex *desk;
+
+	begin_both();
+	MUST(!reads(&m, &x));
+	unlocks(&m, &x);
+	MUST(!writes(&m, &x) && !reads(&n, &y));
+	desk = &x.own->desk->mutex;
+	MUST(ww_mutex_trylock(desk, &y)); /* as a writer comes there, */
+	desk->ctx = NULL;		  /* who leaves no word */
+	MUST(!ends_in_a_child(downgrades_m) && !ends_in_a_child(destroys_n));
+	desk->ctx = &y;
+	ww_mutex_unlock(desk);
+	MUST(ww_shared_mutex_lock_poll(&n, &x, &waker) == -EINPROGRESS && ends_in_a_child(downgrades_m) == SIGABRT);
+	MUST(ww_shared_mutex_lock_poll(&n, &x, NULL) == -ETIMEDOUT);
+	unlocks(&m, &x);
+	unlocks(&n, &y);
+	end_both();
+}
+
+/*
+ * Of a class of so many, where two more are for desks: of the most, the last word of marks has few.  Reads that fail leave
+ * nothing at a desk.
+ */
+enum { MOST = 66010 };
+static void all_of_a_class_are_read(uint32_t count)
+{
+	static DEFINE_WW_CLASS(whole);
+	static uint32_t numbers[MOST];
+
+	MUST(!ww_class_limit(&whole, count + 2, 2));
+	for (uint32_t k = 0; k < count; k++)
+		MUST(!ww_number_take(&numbers[k], &whole));
+	ww_acquire_init(&x, &whole);
+	ww_acquire_init(&y, &whole);
+	MUST(!ww_number_lock_exclusive(numbers[0], &y, NULL) && !ww_number_lock_shared(numbers[count - 1], &x, NULL));
+	for (uint32_t k = 0; k < 1000; k++)
+		MUST(ww_number_lock_shared(numbers[0], &x, &past) == -ETIMEDOUT);
+	MUST(!ww_number_unlock(numbers[0], &y));
+	for (uint32_t k = 0; k < count; k++) {
+		MUST(!ww_number_is_read(numbers[k], &x) || k == count - 1);
+		MUST(!ww_number_lock_shared(numbers[k], &x, NULL) && !ww_number_lock_shared(numbers[k], &y, NULL));
+	}
+	ww_acquire_end_reads(&y);
+	for (uint32_t k = 0; k < count; k += 1 + count / 1000)
+		MUST(ww_number_is_read(numbers[k], &x) && ww_number_lock_exclusive(numbers[k], &y, &past) == -ETIMEDOUT);
+	ww_acquire_end_reads(&x);
+	for (uint32_t k = 0; k < count; k++)
+		MUST(!ww_number_lock_exclusive(numbers[k], &y, NULL) && !ww_number_unlock(numbers[k], &y) && !ww_number_put(numbers[k], &whole));
+	ww_acquire_fini(&x);
+	ww_acquire_fini(&y);
+	MUST(!ww_class_free(&whole));
+}
+
 static void of(struct ww_class *class)
 {
 	c = class;
@@ -740,7 +1115,17 @@ static void of(struct ww_class *class)
 	a_writer_polls();
 	a_poll_ends();
 	refuse_others_amid_a_poll();
+	whoever_was_not_told_awaits_nothing();
+	others_are_not_read();
+	numbers_stay_while_read();
+	if (!c->is_wait_die) {
+		mutexes_stay_while_tasks_come_to_read();
+		moved_writers_leave_no_name();
+	}
+	moved_contexts_read_on();
 	numbers_are_polled();
+	waits_end_by_themselves();
+	all_is_released();
 #ifdef WW_DEBUG
 	readers_are_printed();
 #endif
@@ -749,12 +1134,15 @@ static void of(struct ww_class *class)
 	if (c->is_wait_die) {
 		a_list_keeps_what_was_read();
 		a_poll_backs_off();
+		whoever_was_told_reads_no_more();
+		owed_is_not_written();
 		a_downgrade_waits_for_no_task();
 		a_loop_goes_on_after_a_writer();
 		a_loop_goes_on_after_a_reader();
 	}
 	reads_are_listed();
 	numbers_are_read();
+	a_child_waits_for_nobody();
 #ifdef WW_DEBUG
 	deadlocks_name_readers(); /* at last, since it cancels the class */
 #endif
@@ -766,6 +1154,8 @@ int main(void)
 	of(&wound_wait);
 	of(&wait_die);
 	readers_take_mutexes_of_the_class();
+	all_of_a_class_are_read(190);
+	all_of_a_class_are_read(MOST);
 	puts("shared_calls: readers beside each other, or one writer");
 	return 0;
 }

@@ -221,23 +221,93 @@ async def is_cancelled(kind):
     assert not a.locked() and not b.locked()
 
 
+def loses_nothing():
+    """A KeyboardInterrupt before any line of the package, while two tasks lock and read, and wait for each other, and for a context:
+    it ends the loop, and then nothing is locked, and no context is in use."""
+    folder = os.path.dirname(ww.tasks.__file__)
+    buffers = made(contexts=1), made(contexts=3)
+    a, b = ww.Mutex(buffers[1]), ww.SharedMutex(buffers[1])
+
+    class Hit(KeyboardInterrupt):
+        pass
+
+    async def work(steps):
+        async with buffers[0].context():
+            await steps()
+        async with buffers[1].context() as context:
+            await context.lock(a)
+            await context.read(b)
+            await steps()
+            context.unlock(a)
+            context.unlock_all()
+            await context.lock(b, a)
+            await steps()
+        await buffers[1].run_async(lambda context: context.lock(a))
+
+    async def works():
+        await asyncio.gather(*(work(lambda: asyncio.sleep(0)) for _ in range(2)))
+
+    async def ends(all_tasks):
+        for it in all_tasks:
+            it.cancel()
+        await asyncio.gather(*all_tasks, return_exceptions=True)
+
+    def is_hit(at):
+        left = at
+
+        def counts(frame, event, _):
+            nonlocal left
+            if os.path.dirname(frame.f_code.co_filename) != folder:
+                return None
+            left -= event == "line"
+            if left == 0:
+                raise Hit
+            return counts
+
+        loop = asyncio.new_event_loop()
+        loop.set_exception_handler(lambda *_: None)
+        try:
+            sys.settrace(counts)
+            loop.run_until_complete(works())
+        except Hit:
+            pass
+        finally:
+            sys.settrace(None)
+        loop.run_until_complete(ends(asyncio.all_tasks(loop)))
+        loop.close()
+        return left <= 0
+
+    at = 1
+    while is_hit(at):
+        for _ in range(3):
+            gc.collect()
+        assert not a.locked() and not b.locked(), at
+        for it, count in zip(buffers, (1, 3)):
+            assert it.stats().contexts == 0, at
+        with buffers[1].context() as context:
+            context.lock(a, b, timeout=0)
+        at += 1
+    assert at > 100
+    return at
+
+
 async def releases_once():
     """What an interrupt left just behind the release isn't released again, since another context may hold it."""
     buffers = made()
     library, a = buffers._library, ww.Mutex(buffers)
-    unlock = library.ww_mutex_unlock_checked
+    unlock = library.ww_number_unlock
 
-    def is_interrupted(at):
-        unlock(at)
+    def is_interrupted(*words):
+        unlock(*words)
         raise KeyboardInterrupt
 
     async with buffers.context() as one, buffers.context() as two:
         await one.lock(a)
-        library.ww_mutex_unlock_checked = is_interrupted
+        library.ww_number_unlock = is_interrupted
         try:
             one.unlock(a)
         except KeyboardInterrupt:
-            library.ww_mutex_unlock_checked = unlock
+            library.ww_number_unlock = unlock
         assert two.try_lock(a)
         one.unlock_all()
         assert a.locked() and a in two and a not in one
@@ -577,6 +647,8 @@ def main():
         a_waker_is_slow(before_write)
     gc.collect()
     assert not ww.tasks._events
+    ww.tasks._PATIENCE = 0.02  # Where what wakes the tasks is interrupted, no loop takes what was woken.
+    loses_nothing()
     assert time.monotonic() - begun < 300
     print("tasks: each wait ended as it should")
 

@@ -69,7 +69,7 @@ $(OUT)/%_threads: examples/%.c $(HEADERS) $(THREADED_OBJECTS) $(OUT)/ww_proved.o
 
 MUTEX_TESTS = mutex_calls mutex_ages mutex_seats mutex_pool mutex_ways mutex_ends mutex_any mutex_drivers mutex_edges mutex_loop \
 	mutex_loops mutex_turns mutex_moves mutex_numbers mutex_waits mutex_steps mutex_leaks mutex_torture mutex_crowd number_calls number_any poll_calls \
-	drawn_calls mutex_forks mutex_processors poll_wakers mutex_permits mutex_queue shared_calls
+	drawn_calls mutex_forks mutex_processors poll_wakers mutex_permits mutex_queue shared_calls wrong_arguments
 MUTEX_ALL = $(MUTEX_TESTS) mutex_storm mutex_many number_storm shared_storm
 DEBUG_TESTS = mutex_debug mutex_warnings mutex_naps
 # Those that run without a sanitizer alone, or under one in a way of their own.
@@ -213,7 +213,12 @@ $(OUT)/poll_calls_debug: tests/poll_calls.c tests/mutex_test.h tests/test.h $(HE
 $(OUT)/shared_calls_debug: tests/shared_calls.c tests/mutex_test.h tests/test.h $(HEADERS) $(OUT)/libww_debug.a
 	$(CC) $(AS_C) $(DEBUG_FLAGS) $< $(OUT)/libww_debug.a $(LDFLAGS) -pthread -o $@
 
-check-number: $(OUT)/number_calls_debug $(OUT)/poll_calls_debug $(OUT)/shared_calls_debug
+# Of each wrong argument.
+$(OUT)/wrong_arguments_debug: tests/wrong_arguments.c tests/mutex_test.h tests/test.h $(HEADERS) $(OUT)/libww_debug.a
+	$(CC) $(AS_C) $(DEBUG_FLAGS) $< $(OUT)/libww_debug.a $(LDFLAGS) -pthread -o $@
+
+check-number: $(OUT)/number_calls_debug $(OUT)/poll_calls_debug $(OUT)/shared_calls_debug $(OUT)/wrong_arguments_debug
+	timeout 600 $(OUT)/wrong_arguments_debug 2>$(OUT)/wrong_arguments.log
 	timeout 600 $(OUT)/number_calls_debug 2>$(OUT)/number_calls.log
 	timeout 600 $(OUT)/poll_calls_debug 2>$(OUT)/poll_calls.log
 	timeout 600 $(OUT)/shared_calls_debug 2>$(OUT)/shared_calls.log

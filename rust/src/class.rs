@@ -264,8 +264,8 @@ pub struct RawClass {
     name: &'static CStr,
     /// No other class has the same one; `NO_TAG` until its first mutex has a number.
     tag: AtomicU32,
-    /// Numbers of mutexes that were dropped while a context held them: by a forgotten guard, or after a back-off.
-    unreturned: Lock<Vec<Number>>,
+    /// Who holds this takes numbers.
+    takes: Lock<()>,
     hooked: Hooked,
 }
 
@@ -315,7 +315,7 @@ impl RawClass {
             kind,
             name,
             tag: AtomicU32::new(NO_TAG),
-            unreturned: Lock::new(Vec::new()),
+            takes: Lock::new(()),
             hooked: Hooked::new(),
         }
     }
@@ -364,39 +364,29 @@ impl RawClass {
     }
 
     /// Only the thread that holds this takes numbers.
-    pub(crate) fn unreturned(&self) -> Locked<'_, Vec<Number>> {
-        self.unreturned.lock()
+    pub(crate) fn takes(&self) -> Locked<'_, ()> {
+        self.takes.lock()
     }
 
     /// A number that no mutex has.
-    pub(crate) fn take(&'static self, unreturned: &mut Vec<Number>) -> Result<Number, Error> {
+    pub(crate) fn take(&'static self) -> Result<Number, Error> {
         let tag = if self.tag() == NO_TAG { self.first_tag() } else { self.tag() };
         let mut index = 0;
         // SAFETY: the class is static, and `index` lives for the call.
-        let mut take = || unsafe { ffi::ww_number_take(&raw mut index, self.get()) };
-        let mut answer = take();
-        if answer == -ffi::ENOSPC {
-            unreturned.retain(|&number| self.put(number) == -ffi::EBUSY);
-            answer = take();
-        }
-        match answer {
+        match unsafe { ffi::ww_number_take(&raw mut index, self.get()) } {
             0 => Ok(Number::new(tag, index)),
             answer => Err(error::of_making(answer)),
         }
     }
 
-    /// Puts back the number of a mutex that was dropped; if that is locked, only once numbers are needed. A context that
-    /// got `Deadlock` at it may still wait for it, holding nothing; then it waits for the mutex that gets the number next.
+    /// Puts back the number of a mutex that was dropped; the library waits until no context holds it or reads it. A context
+    /// that got `Deadlock` at it may still wait for it, holding nothing; then it waits for the mutex that gets the number next.
     pub(crate) fn give(&'static self, number: Number) {
         // A number of another class is lost.
-        if number.tag() == self.tag() && self.put(number) == -ffi::EBUSY {
-            self.unreturned.lock().push(number);
+        if number.tag() == self.tag() {
+            // SAFETY: the class is static; no mutex has the number, which was taken, and is put back once.
+            unsafe { ffi::ww_number_leave(number.index(), self.get()) };
         }
-    }
-
-    fn put(&'static self, number: Number) -> c_int {
-        // SAFETY: the class is static; no mutex has the number, which was taken, and is put back once.
-        unsafe { ffi::ww_number_put(number.index(), self.get()) }
     }
 
     #[track_caller]

@@ -24,14 +24,13 @@ pub(crate) struct Context {
 struct Rare {
     /// They change between two runs of one age.
     limits: RefCell<Limits>,
-    /// A lock call got `Deadlock`, so nothing is locked until all is released.
+    /// A lock call got `Deadlock`: nothing is locked until all is released, and what it collided with was awaited.
     is_over: Cell<bool>,
-    /// The number at which that was: it is locked first from then on, whatever happens to its mutex meanwhile.
+    /// The number at which that was: it is locked first from then on, whatever happens to its mutex meanwhile. `None`, if that was
+    /// at a shared mutex, or at one who reads it: the library knows where.
     contended: Cell<Option<Number>>,
     /// It was locked first, and the body hasn't asked for it yet.
     prelocked: Cell<Option<Number>>,
-    /// That was at a shared mutex, or at one who reads it: the library knows where.
-    awaits: Cell<bool>,
     /// What this attempt reads by `UpgradableGuard`s alone.
     upgradable: RefCell<Vec<Number>>,
 }
@@ -181,10 +180,8 @@ impl Context {
     /// It has begun, and hasn't ended; no guard of it is left that anybody could use.
     #[inline]
     pub(crate) unsafe fn end(&self) {
-        if self.held() != 0 {
-            // SAFETY: as asked for here.
-            unsafe { self.release_all() };
-        }
+        // SAFETY: as asked for here.
+        unsafe { self.release_all() };
         if let Some(rare) = self.rare() {
             rare.leave(self.raw());
         }
@@ -199,11 +196,9 @@ impl Context {
     ///
     /// No guard of the context is left that anybody could use.
     pub(crate) unsafe fn pause(&self) -> bool {
-        let contended = self.take_contended();
         // SAFETY: as asked for here.
-        unsafe { self.start() };
+        unsafe { self.release_all() };
         let Some(rare) = self.rare() else { return true };
-        rare.contended.set(contended);
         rare.leave(self.raw());
         let limits = rare.limits.take();
         // What it said to the library may be still to come.
@@ -235,80 +230,88 @@ impl Context {
     #[inline]
     #[track_caller]
     fn lock_with(&self, rare: Option<&Rare>, number: Number) -> Result<(), Error> {
-        if let Some(rare) = rare {
-            return self.lock_rarely(number, rare);
+        if rare.is_some() || self.class.hook().is_some() {
+            return self.lock_rarely(number);
         }
-        match self.ask(number) {
+        self.check_wait(number, true);
+        // SAFETY: the context has begun, and hasn't ended; the number is one of its class.
+        match unsafe { ffi::lock(number.index(), self.raw()) } {
             0 => Ok(()),
-            answer => self.refused(number, answer),
+            answer => self.lock_refused(number, answer),
         }
     }
 
     #[cold]
     #[track_caller]
-    fn lock_rarely(&self, number: Number, rare: &Rare) -> Result<(), Error> {
-        if rare.is_over.get() {
+    fn lock_rarely(&self, number: Number) -> Result<(), Error> {
+        if self.is_over() {
             return Err(Error::Deadlock);
         }
-        match self.ask_within(number, &rare.limits.borrow()) {
+        if self.take_first(number) {
+            return Ok(());
+        }
+        // SAFETY: as above; the time lives for the call.
+        let lock = |until| unsafe { ffi::ww_number_lock_until(number.index(), self.raw(), until) };
+        match self.ask(Some((number, true)), lock) {
             0 => Ok(()),
-            answer => self.refused(number, answer),
+            answer => self.lock_refused(number, answer),
         }
     }
 
+    /// Before a wait that nothing would end. In Wait-Die a context that holds something may get `Deadlock` instead.
     #[inline]
     #[track_caller]
-    fn ask(&self, number: Number) -> c_int {
+    fn check_wait(&self, number: Number, writes: bool) {
         place::said();
-        // In Wait-Die a context that holds something may get `Deadlock` instead.
         if cfg!(debug_assertions) && (self.held() == 0 || self.class.kind() == Kind::WoundWait) {
-            own::check_wait(number, self.raw());
+            own::check_wait(number, self.raw(), writes);
         }
-        if let Some(hook) = self.class.hook() {
-            // SAFETY: as below; the time lives for the call.
-            return events::watch(hook, ptr::null(), |until| unsafe {
-                ffi::ww_number_lock_until(number.index(), self.raw(), until)
-            });
-        }
-        // SAFETY: the context has begun, and hasn't ended; the number is one of its class.
-        unsafe { ffi::lock(number.index(), self.raw()) }
     }
 
+    /// Makes a call that may wait, as long as the context's limits let it; for this number, to write it, or to read it.
     #[track_caller]
-    fn ask_within(&self, number: Number, limits: &Limits) -> c_int {
-        if limits.is_cancelled() {
-            return -ffi::EINTR;
+    fn ask(&self, asked: Option<(Number, bool)>, call: impl Fn(*const ffi::timespec) -> c_int) -> c_int {
+        let limits = self.rare().map(|rare| rare.limits.borrow());
+        let limits = limits.as_deref().filter(|limits| limits.until.is_some() || limits.canceller.is_some());
+        match (limits, asked) {
+            (Some(limits), _) if limits.is_cancelled() => return -ffi::EINTR,
+            (None, Some((number, writes))) => self.check_wait(number, writes),
+            _ => place::said(),
         }
-        if limits.until.is_none() && limits.canceller.is_none() {
-            return self.ask(number);
-        }
-        place::said();
-        // SAFETY: as in `ask`; the time lives for the call.
-        let wait = |until| unsafe { ffi::ww_number_lock_until(number.index(), self.raw(), until) };
+        let until = limits.map_or(ptr::null(), Limits::until);
         match self.class.hook() {
-            Some(hook) => events::watch(hook, limits.until(), wait),
-            None => wait(limits.until()),
+            Some(hook) => events::watch(hook, until, call),
+            None => call(until),
         }
     }
 
     /// The error for a value other than 0 that the library returned.
     #[cold]
     #[track_caller]
-    fn refused(&self, number: Number, answer: c_int) -> Result<(), Error> {
+    fn refused(&self, answer: c_int) -> Error {
         match -answer {
-            ffi::EALREADY if self.take_first(number) => Ok(()),
-            ffi::EALREADY => Err(Error::Duplicate),
+            ffi::EALREADY => Error::Duplicate,
             ffi::EDEADLK => {
-                let rare = self.rare.get_or_init(Box::default);
-                rare.contended.set(Some(number));
-                rare.is_over.set(true);
-                self.tell_back_off();
-                Err(Error::Deadlock)
+                self.rare.get_or_init(Box::default).is_over.set(true);
+                if let Some(hook) = self.class.hook() {
+                    hook(Event::BackedOff);
+                }
+                Error::Deadlock
             }
-            ffi::EINTR => Err(Error::Cancelled),
-            ffi::ETIMEDOUT => Err(Error::TimedOut),
-            _ => error::in_child(),
+            ffi::ETIMEDOUT => Error::TimedOut,
+            _ => error::of_making(answer),
         }
+    }
+
+    /// The same of a lock: after `Deadlock` its mutex comes first.
+    #[cold]
+    #[track_caller]
+    fn lock_refused(&self, number: Number, answer: c_int) -> Result<(), Error> {
+        let error = self.refused(answer);
+        if error.is_deadlock() {
+            self.rare.get_or_init(Box::default).contended.set(Some(number));
+        }
+        Err(error)
     }
 
     /// Acquires all of them, in this order, for guards that live no longer than the context; or none of them. If a lock
@@ -340,16 +343,21 @@ impl Context {
         if self.is_over() {
             return false;
         }
-        // SAFETY: as in `ask`.
+        // SAFETY: as in `lock_with`.
         self.take_first(number) || unsafe { ffi::ww_number_trylock(number.index(), self.raw()) == 1 }
     }
 
     /// Whether a guard of the context holds it.
     pub(crate) fn holds<C: Class, T: ?Sized>(&self, mutex: &Mutex<C, T>) -> bool {
         let Some(number) = mutex.existing().filter(|number| number.tag() == self.class.tag()) else { return false };
-        // SAFETY: as in `ask`.
-        let is_held = unsafe { ffi::ww_number_is_held(number.index(), self.raw()) };
-        is_held && !self.rare().is_some_and(|rare| rare.comes_first(number))
+        // SAFETY: as in `lock_with`.
+        let has = unsafe { ffi::ww_number_is_held(number.index(), self.raw()) };
+        has && !self.rare().is_some_and(|rare| rare.comes_first(number))
+    }
+
+    fn reads(&self, number: Number) -> bool {
+        // SAFETY: as in `lock_with`.
+        unsafe { ffi::ww_number_is_read(number.index(), self.raw()) }
     }
 
     /// Hands out what the context holds since its back-off, if it is this mutex.
@@ -361,41 +369,24 @@ impl Context {
 
     // ---- shared mutexes ----
 
-    /// Reads it from now on until the back-off, or the end. `Duplicate`: a guard of the context writes it.
+    /// Reads it from now on until the back-off, or the end. `Duplicate`: a guard of the context writes it, or may come to.
     #[track_caller]
     pub(crate) fn read<C: Class, T: ?Sized>(&self, mutex: &SharedMutex<C, T>) -> Result<(), Error> {
         let number = mutex.number(self.class)?;
         if self.rare().is_some_and(|rare| rare.upgradable.borrow().contains(&number)) {
             return Err(Error::Duplicate);
         }
-        self.read_number(mutex, number)
-    }
-
-    #[track_caller]
-    fn read_number<C: Class, T: ?Sized>(&self, mutex: &SharedMutex<C, T>, number: Number) -> Result<(), Error> {
-        // SAFETY: as in `ask`; the word is that of this number, and the time lives for the call.
-        self.ask_shared(|until| unsafe {
-            ffi::ww_number_lock_shared(number.index(), mutex.readers(), self.raw(), until)
-        })
+        self.ask_shared(number, false)
     }
 
     /// Writes it, for one guard. `Duplicate`: one is there, or the context reads it, so that there may be references.
     #[track_caller]
     pub(crate) fn write<C: Class, T: ?Sized>(&self, mutex: &SharedMutex<C, T>) -> Result<(), Error> {
         let number = mutex.number(self.class)?;
-        // SAFETY: as in `ask`.
-        if unsafe { ffi::ww_number_is_read(number.index(), self.raw()) } {
+        if self.reads(number) {
             return Err(Error::Duplicate);
         }
-        self.write_number(mutex, number)
-    }
-
-    #[track_caller]
-    fn write_number<C: Class, T: ?Sized>(&self, mutex: &SharedMutex<C, T>, number: Number) -> Result<(), Error> {
-        // SAFETY: as in `read_number`.
-        self.ask_shared(|until| unsafe {
-            ffi::ww_number_lock_exclusive(number.index(), mutex.readers(), self.raw(), until)
-        })
+        self.ask_shared(number, true)
     }
 
     /// Reads it likewise, for one guard, which may come to write it. `Duplicate`: the context reads or writes it otherwise, so that
@@ -403,11 +394,10 @@ impl Context {
     #[track_caller]
     pub(crate) fn read_upgradable<C: Class, T: ?Sized>(&self, mutex: &SharedMutex<C, T>) -> Result<(), Error> {
         let number = mutex.number(self.class)?;
-        // SAFETY: as in `ask`.
-        if unsafe { ffi::ww_number_is_read(number.index(), self.raw()) } {
+        if self.reads(number) {
             return Err(Error::Duplicate);
         }
-        self.read_number(mutex, number)?;
+        self.ask_shared(number, false)?;
         self.rare.get_or_init(Box::default).upgradable.borrow_mut().push(number);
         Ok(())
     }
@@ -415,64 +405,29 @@ impl Context {
     /// Writes what it reads by a guard, which is used no more.
     #[track_caller]
     pub(crate) fn upgrade<C: Class, T: ?Sized>(&self, mutex: &SharedMutex<C, T>) -> Result<(), Error> {
-        self.write_number(mutex, mutex.number(self.class)?)
+        self.ask_shared(mutex.number(self.class)?, true)
     }
 
     #[track_caller]
-    fn ask_shared(&self, ask: impl Fn(*const ffi::timespec) -> c_int) -> Result<(), Error> {
+    fn ask_shared(&self, number: Number, writes: bool) -> Result<(), Error> {
         if self.is_over() {
             return Err(Error::Deadlock);
         }
-        place::said();
-        let ask = |until| match self.class.hook() {
-            Some(hook) => events::watch(hook, until, &ask),
-            None => ask(until),
-        };
-        let answer = match self.rare() {
-            Some(rare) if rare.limits.borrow().is_cancelled() => -ffi::EINTR,
-            Some(rare) => ask(rare.limits.borrow().until()),
-            None => ask(ptr::null()),
-        };
-        match -answer {
-            0 => Ok(()),
-            ffi::EALREADY => Err(Error::Duplicate),
-            ffi::EDEADLK => {
-                let rare = self.rare.get_or_init(Box::default);
-                rare.awaits.set(true);
-                rare.is_over.set(true);
-                self.tell_back_off();
-                Err(Error::Deadlock)
+        // SAFETY: as in `lock_rarely`.
+        let answer = self.ask(Some((number, writes)), |until| unsafe {
+            if writes {
+                ffi::ww_number_lock_exclusive(number.index(), self.raw(), until)
+            } else {
+                ffi::ww_number_lock_shared(number.index(), self.raw(), until)
             }
-            ffi::ETIMEDOUT => Err(Error::TimedOut),
-            _ => Err(error::of_making(answer)),
-        }
-    }
-
-    /// After a back-off: waits for what the context collided with, and holds nothing then.
-    #[cold]
-    fn await_shared(&self, rare: &Rare) -> Result<(), Error> {
-        let limits = rare.limits.borrow();
-        if limits.is_cancelled() {
-            return Err(Error::Cancelled);
-        }
-        // SAFETY: the context got `Deadlock` at a shared mutex, and has released all since.
-        let answer = unsafe { ffi::ww_shared_mutex_await(self.raw(), limits.until()) };
-        rare.awaits.set(answer != 0);
-        match -answer {
+        });
+        match answer {
             0 => Ok(()),
-            ffi::EINTR => Err(Error::Cancelled),
-            ffi::ETIMEDOUT => Err(Error::TimedOut),
-            _ => error::in_child(),
+            _ => Err(self.refused(answer)),
         }
     }
 
     // ---- back-offs ----
-
-    fn tell_back_off(&self) {
-        if let Some(hook) = self.class.hook() {
-            hook(Event::BackedOff);
-        }
-    }
 
     /// Whether it got `Deadlock`, and hasn't backed off since.
     #[inline]
@@ -491,65 +446,62 @@ impl Context {
     ///
     /// No guard of the context is left that anybody could use.
     pub(crate) unsafe fn start(&self) {
-        if self.held() != 0 {
-            // SAFETY: as asked for here.
-            unsafe { self.release_all() };
-        }
+        // SAFETY: as asked for here.
+        unsafe { self.release_all() };
         if let Some(rare) = self.rare() {
             rare.contended.take();
             rare.is_over.set(false);
         }
     }
 
-    /// Releases all, and waits for this mutex, which it then holds.
+    /// Releases all, and waits for this mutex, which it then holds; or for what it collided with, if that isn't a mutex.
     ///
     /// # Safety
     ///
     /// No guard of the context is left that anybody could use.
     #[cold]
     pub(crate) unsafe fn back_off(&self, first: Option<Number>) -> Result<(), Error> {
+        let rare = self.rare.get_or_init(Box::default);
+        let is_over = rare.is_over.get();
         // SAFETY: as asked for here.
         unsafe { self.start() };
-        if let Some(rare) = self.rare().filter(|rare| rare.awaits.take()) {
-            return self.await_shared(rare);
-        }
-        let Some(first) = first else { return Ok(()) };
-        self.class.check(first);
-        let rare = self.rare.get_or_init(Box::default);
         // A context that holds nothing never gets `Deadlock`. So an ordinary lock call serves as the slow one, and has
         // the same limits.
-        match self.ask_within(first, &rare.limits.borrow()) {
-            0 => {
-                rare.prelocked.set(Some(first));
-                Ok(())
+        let told = match first {
+            Some(first) => {
+                self.class.check(first);
+                self.lock_rarely(first)
             }
-            answer => {
-                // It comes first in a further run, too.
-                rare.contended.set(Some(first));
-                self.refused(first, answer)
-            }
+            // SAFETY: the context got `Deadlock`, and has released all since.
+            None if is_over => match self.ask(None, |until| unsafe { ffi::ww_shared_mutex_await(self.raw(), until) }) {
+                0 => Ok(()),
+                answer => Err(self.refused(answer)),
+            },
+            None => Ok(()),
+        };
+        if told.is_ok() {
+            rare.prelocked.set(first);
+        } else {
+            // It comes first in a further run, too.
+            rare.contended.set(first);
+            rare.is_over.set(is_over);
         }
+        told
     }
 
-    /// Releases what it holds since its back-off, and what was forgotten: for that it asks about each number of the class.
+    /// Releases whatever it holds, also what was forgotten: for that the library asks about each number of the class.
     ///
     /// # Safety
     ///
-    /// No guard of the context is left that anybody could use.
-    #[cold]
+    /// No guard of the context is left that anybody could use, and no reference that a read gave.
     unsafe fn release_all(&self) {
         if let Some(rare) = self.rare() {
             rare.upgradable.borrow_mut().clear();
+            rare.prelocked.take();
         }
-        if let Some(first) = self.rare().and_then(|rare| rare.prelocked.take()) {
-            // SAFETY: the context has it, and no guard stands for that.
-            unsafe { ffi::unlock(first.index(), self.raw()) };
-        }
-        // SAFETY: as asked for here: no reference that a read gave is left either.
-        unsafe { ffi::ww_acquire_end_reads(self.raw()) };
         if self.held() != 0 {
-            // SAFETY: as asked for here.
-            unsafe { ffi::ww_number_unlock_all(self.raw()) };
+            // SAFETY: the context has begun, and hasn't ended.
+            unsafe { ffi::ww_acquire_unlock_all(self.raw()) };
         }
     }
 }

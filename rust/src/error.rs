@@ -36,7 +36,9 @@ impl fmt::Display for Error {
     fn fmt(&self, f: &mut fmt::Formatter<'_>) -> fmt::Result {
         f.write_str(match self {
             Error::Deadlock => "an older context goes first",
-            Error::Duplicate => "the context holds this mutex already",
+            Error::Duplicate => {
+                "the context holds this mutex already, or reads what it would write: see `Tx::read_upgradable`"
+            }
             Error::Cancelled => "the wait was cancelled",
             Error::TimedOut => "the deadline passed",
             Error::Exhausted => "the class has all mutexes that it may have: 65,536, or as many as `class!` says",

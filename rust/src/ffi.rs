@@ -109,7 +109,6 @@ pub const WW_MAY_BE_OLDER: c_uint = 4;
 pub const EINTR: c_int = 4;
 pub const EAGAIN: c_int = 11;
 pub const ENOMEM: c_int = 12;
-pub const EBUSY: c_int = 16;
 pub const ENOSPC: c_int = 28;
 pub const EDEADLK: c_int = 35;
 pub const ETIMEDOUT: c_int = 110;
@@ -130,14 +129,14 @@ extern "C" {
     pub fn ww_acquire_flags(ctx: *mut ww_acquire_ctx, flags: c_uint);
     pub fn ww_acquire_fini(ctx: *mut ww_acquire_ctx);
     pub fn ww_acquire_cancel(ctx: *mut ww_acquire_ctx) -> c_int;
+    pub fn ww_acquire_unlock_all(ctx: *mut ww_acquire_ctx);
 
     pub fn ww_number_take(number: *mut u32, class: *mut ww_class) -> c_int;
-    pub fn ww_number_put(number: u32, class: *mut ww_class) -> c_int;
+    pub fn ww_number_leave(number: u32, class: *mut ww_class);
     fn ww_number_lock(number: u32, ctx: *mut ww_acquire_ctx) -> c_int;
     pub fn ww_number_lock_until(number: u32, ctx: *mut ww_acquire_ctx, monotonic: *const timespec) -> c_int;
     pub fn ww_number_trylock(number: u32, ctx: *mut ww_acquire_ctx) -> c_int;
     fn ww_number_unlock(number: u32, ctx: *mut ww_acquire_ctx) -> c_int;
-    pub fn ww_number_unlock_all(ctx: *mut ww_acquire_ctx);
     pub fn ww_number_is_held(number: u32, ctx: *const ww_acquire_ctx) -> bool;
     pub fn ww_number_is_locked(number: u32, class: *mut ww_class) -> bool;
     pub fn ww_number_lock_alone(
@@ -148,25 +147,12 @@ extern "C" {
     ) -> c_int;
     pub fn ww_number_trylock_alone(number: u32, class: *mut ww_class, by: *mut *mut ww_seat) -> c_int;
     pub fn ww_number_unlock_alone(number: u32, by: *mut ww_seat);
-    pub fn ww_number_lock_shared(
-        number: u32,
-        readers: *mut u64,
-        ctx: *mut ww_acquire_ctx,
-        monotonic: *const timespec,
-    ) -> c_int;
-    pub fn ww_number_lock_exclusive(
-        number: u32,
-        readers: *mut u64,
-        ctx: *mut ww_acquire_ctx,
-        monotonic: *const timespec,
-    ) -> c_int;
+    pub fn ww_number_lock_shared(number: u32, ctx: *mut ww_acquire_ctx, monotonic: *const timespec) -> c_int;
+    pub fn ww_number_lock_exclusive(number: u32, ctx: *mut ww_acquire_ctx, monotonic: *const timespec) -> c_int;
     pub fn ww_number_is_read(number: u32, ctx: *const ww_acquire_ctx) -> bool;
-    pub fn ww_acquire_end_reads(ctx: *mut ww_acquire_ctx);
     pub fn ww_shared_mutex_await(ctx: *mut ww_acquire_ctx, monotonic: *const timespec) -> c_int;
 
     // The calls of which those are made that the header compiles into its callers.
-    #[cfg(feature = "async")]
-    fn ww_lock_(seat: *mut ww_seat, lock: u32, heeds: bool) -> i32;
     fn ww_try_(seat: *mut ww_seat, lock: u32) -> i32;
     fn ww_unlock_(seat: *mut ww_seat, lock: u32) -> i32;
     fn ww_number_lock_further_(number: u32, ctx: *mut ww_acquire_ctx, r: c_int) -> c_int;
@@ -190,48 +176,30 @@ extern "C" {
         waker: *const ww_waker,
     ) -> c_int;
     pub fn ww_number_lock_poll(number: u32, ctx: *mut ww_acquire_ctx, waker: *const ww_waker) -> c_int;
-    pub fn ww_number_lock_poll_further_(
-        number: u32,
-        ctx: *mut ww_acquire_ctx,
-        waker: *const ww_waker,
-        r: c_int,
-    ) -> c_int;
-    pub fn ww_number_lock_shared_poll(
-        number: u32,
-        readers: *mut u64,
-        ctx: *mut ww_acquire_ctx,
-        waker: *const ww_waker,
-    ) -> c_int;
-    pub fn ww_number_lock_exclusive_poll(
-        number: u32,
-        readers: *mut u64,
-        ctx: *mut ww_acquire_ctx,
-        waker: *const ww_waker,
-    ) -> c_int;
+    pub fn ww_number_lock_shared_poll(number: u32, ctx: *mut ww_acquire_ctx, waker: *const ww_waker) -> c_int;
+    pub fn ww_number_lock_exclusive_poll(number: u32, ctx: *mut ww_acquire_ctx, waker: *const ww_waker) -> c_int;
     pub fn ww_shared_mutex_await_poll(ctx: *mut ww_acquire_ctx, waker: *const ww_waker) -> c_int;
+    pub fn ww_seek_end(seek: *mut ww_seek);
+    pub fn ww_acquire_end_wait(ctx: *mut ww_acquire_ctx) -> c_int;
     pub fn ww_poll_take_back(ctx: *mut ww_acquire_ctx, seek: *mut ww_seek) -> bool;
 }
 
-/// The first step of `ww_number_lock_poll`; if it isn't enough, what it returned, or `None` if it wasn't made.
+/// Whether the first step of a lock is enough, if it is compiled into the caller.
 ///
 /// # Safety
 ///
 /// The context has begun, no call of it is on its way, and nothing else is done with it meanwhile.
 #[cfg(feature = "async")]
 #[inline]
-pub unsafe fn try_first(number: u32, ctx: *mut ww_acquire_ctx) -> Result<(), Option<i32>> {
-    if cfg!(ww_no_inline) {
-        return Err(None);
-    }
+pub unsafe fn locks_at_once(number: u32, ctx: *mut ww_acquire_ctx) -> bool {
     // SAFETY: as the caller promises. Only the context's user accesses what is read and written of it here.
     unsafe {
-        let r = ww_lock_((*ctx).own, number, false);
-        if r != 0 {
-            return Err(Some(r));
+        if cfg!(ww_no_inline) || ww_try_((*ctx).own, number) != 0 {
+            return false;
         }
         (*ctx).acquired += 1;
     }
-    Ok(())
+    true
 }
 
 /// `ww_number_lock`, as the header compiles it into its callers, by a context that has begun, and hasn't ended.

@@ -92,7 +92,7 @@ impl<C: Class, T: ?Sized> Mutex<C, T> {
     pub fn lock(&self) -> MutexGuard<'_, C, T> {
         let class = C::raw();
         let number = self.number_or_panic(class);
-        own::check_wait(number, ptr::null());
+        own::check_wait(number, ptr::null(), true);
         // Nothing cancels this wait.
         match self.lock_alone(number, class, None) {
             Ok(guard) => guard,

@@ -97,13 +97,13 @@ impl<C: Class> Handle<C> {
 
     /// Called by one thread of a class at a time: a second one would take a number that another mutex needs.
     fn take(&self, class: &'static RawClass) -> Result<Number, Error> {
-        let mut unreturned = class.unreturned();
+        let takes = class.takes();
         if let Some(number) = self.existing() {
             return Ok(number);
         }
-        let number = class.take(&mut unreturned)?;
+        let number = class.take()?;
         let was = self.word.compare_exchange(0, number.0, Ordering::AcqRel, Ordering::Acquire);
-        drop(unreturned);
+        drop(takes);
         match was {
             Ok(_) => Ok(number),
             Err(other) => {

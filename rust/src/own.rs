@@ -31,18 +31,22 @@ pub(crate) fn ended(context: *const ww_acquire_ctx) {
     }
 }
 
-/// Called before a wait that nothing would end: without a context (null), or by one that won't get `Deadlock`.
+/// Called before a wait that nothing would end: without a context (null), or by one that won't get `Deadlock`. One that writes
+/// waits for readers, too.
 ///
 /// # Panics
 ///
 /// Another context of this thread holds it.
 #[inline]
 #[track_caller]
-pub(crate) fn check_wait(number: Number, context: *const ww_acquire_ctx) {
+pub(crate) fn check_wait(number: Number, context: *const ww_acquire_ctx, writes: bool) {
     if cfg!(debug_assertions) {
-        let holds = |&(other, class): &Own| {
-            // SAFETY: it has begun, hasn't ended, and is of this thread.
-            other != context && class.tag() == number.tag() && unsafe { ffi::ww_number_is_held(number.index(), other) }
+        let index = number.index();
+        // SAFETY: it has begun, hasn't ended, and is of this thread.
+        let holds = |&(other, class): &Own| unsafe {
+            other != context
+                && class.tag() == number.tag()
+                && (ffi::ww_number_is_held(index, other) || writes && ffi::ww_number_is_read(index, other))
         };
         let is_own = with_own(|own| own.iter().any(holds)).unwrap_or(false);
         assert!(!is_own, "another context of this thread holds the mutex, so this would wait forever");

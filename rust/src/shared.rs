@@ -6,7 +6,6 @@ use crate::{Class, Error};
 use core::cell::UnsafeCell;
 use core::fmt;
 use core::ops::{Deref, DerefMut};
-use core::sync::atomic::AtomicU64;
 
 /// A mutex around a value that transactions read beside each other ([`Tx::read`](crate::Tx::read)), or one of them writes
 /// ([`Tx::write`](crate::Tx::write)): for what is read much more often than written.
@@ -53,8 +52,6 @@ use core::sync::atomic::AtomicU64;
 /// ```
 pub struct SharedMutex<C: Class, T: ?Sized> {
     handle: Handle<C>,
-    /// The library's, beside the number.
-    readers: AtomicU64,
     value: UnsafeCell<T>,
 }
 
@@ -69,7 +66,7 @@ impl<C: Class, T> SharedMutex<C, T> {
     #[inline]
     #[must_use]
     pub const fn new(value: T) -> Self {
-        SharedMutex { handle: Handle::new(), readers: AtomicU64::new(0), value: UnsafeCell::new(value) }
+        SharedMutex { handle: Handle::new(), value: UnsafeCell::new(value) }
     }
 
     /// The value. Nobody reads or writes it, since nobody borrows it.
@@ -89,11 +86,6 @@ impl<C: Class, T: ?Sized> SharedMutex<C, T> {
     #[inline]
     pub(crate) fn value(&self) -> *mut T {
         self.value.get()
-    }
-
-    #[inline]
-    pub(crate) fn readers(&self) -> *mut u64 {
-        self.readers.as_ptr()
     }
 
     #[inline]

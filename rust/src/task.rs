@@ -88,9 +88,10 @@
 //!
 //! # Dropped futures
 //!
-//! A future may be dropped at any point, so tasks need no deadlines or cancellers. Dropping a [`Lock`] leaves its mutex as
-//! it was, and its context goes on; dropping any other future releases everything, and ends the context. What was changed
-//! stays changed.
+//! A future may be dropped at any point, so tasks need no deadlines or cancellers. Dropping a [`Lock`], a read or a write leaves
+//! its mutex as it was, and its context goes on; dropping any other future releases everything, and ends the context. What was
+//! changed stays changed. The call of a future that is forgotten goes on until its attempt ends, and until then other calls of the
+//! attempt wait for it.
 
 mod body;
 mod guards;
@@ -118,6 +119,7 @@ use core::task::Poll;
 use inner::Inner;
 use lock::Acquire;
 use seek::Seek;
+use shared::Asked;
 use std::sync::Arc;
 
 /// The context of a body: it locks mutexes of the class, in any order. Guards borrow it, so none leaves the body:
@@ -330,7 +332,7 @@ impl<C: Class> Context<C> {
         drop(unsafe { inside.release_all() });
         let rare = inside.rare();
         rare.is_over = false;
-        if rare.contended.is_some() || rare.awaits {
+        if rare.contended.is_some() {
             return Poll::Pending;
         }
         self.tx.attempts = self.tx.attempts.saturating_add(1);
@@ -358,19 +360,14 @@ impl<C: Class> Context<C> {
                 return told;
             }
             if let Some(first) = self.tx.inner.own().rare().contended {
-                class.check(first);
                 // A context that holds nothing never gets `Deadlock`.
-                {
-                    let mut acquire = Acquire::new(&self.tx.inner);
-                    poll_fn(|cx| acquire.poll(first, cx.waker())).await?;
-                }
+                self.tx.inner.asks(first).await?;
                 let rare = self.tx.inner.own().rare();
                 rare.contended = None;
-                rare.prelocked = Some(first);
-            }
-            if self.tx.inner.own().rare().awaits {
-                self.tx.inner.awaits_others().await?;
-                self.tx.inner.own().rare().awaits = false;
+                if let Asked::Lock(first) = first {
+                    class.check(first);
+                    rare.prelocked = Some(first);
+                }
             }
             self.tx.attempts = self.tx.attempts.saturating_add(1);
             Ok(())

@@ -228,6 +228,16 @@ fn waiting_for_oneself_panics() {
         Boxes::run(|inner| inner.lock(&m).map(|_| ()))
     })));
     assert!(!m.is_locked());
+    let shared: ww_mutex::SharedMutex<Boxes, u64> = ww_mutex::SharedMutex::new(7);
+    assert!(panics(|| Boxes::run(|tx| {
+        let _written = tx.write(&shared)?;
+        Boxes::run(|inner| inner.read(&shared).copied())
+    })));
+    assert!(panics(|| Boxes::run(|tx| {
+        tx.read(&shared)?;
+        Boxes::run(|inner| inner.write(&shared).map(|_| ()))
+    })));
+    assert_eq!(Boxes::run(|tx| Ok(*tx.read(&shared)? + Boxes::run(|inner| inner.read(&shared).copied())?)), Ok(14));
 }
 
 #[test]

@@ -1,7 +1,7 @@
 //! Readers beside each other, or one writer.
 
 use std::sync::atomic::{AtomicU64, Ordering};
-use std::sync::Barrier;
+use std::sync::{Arc, Barrier};
 use std::thread;
 use std::time::Duration;
 use ww_mutex::{class, Class, Error, Options, SharedMutex, UpgradableGuard};
@@ -178,4 +178,67 @@ fn count<C: Class>() {
         }
     });
     assert_eq!(one.into_inner(), 4 * ROUNDS);
+}
+
+/// A mutex that goes amid an attempt that has read it leaves nothing to the one that is made next: that is read as any other,
+/// so a writer waits for it; and it may be written. Its place in the class is free once the attempt is over.
+#[test]
+fn a_mutex_that_goes_takes_its_read_along() {
+    class!(struct Wound: WoundWait, mutexes = 5; struct Die: WaitDie, mutexes = 5);
+    follows::<Wound>();
+    follows::<Die>();
+}
+
+fn follows<C: Class>() {
+    let soon = || Options::<C>::new().timeout(Duration::from_millis(5));
+    for _ in 0..20 {
+        let told = C::run(|tx| {
+            let old = SharedMutex::<C, u64>::new(1);
+            assert_eq!(*tx.read(&old)?, 1);
+            drop(old);
+            let new = Arc::new(SharedMutex::<C, u64>::new(7));
+            let seen = tx.read(&new)?;
+            let writer = Arc::clone(&new);
+            let told = thread::spawn(move || soon().run(|tx| tx.write(&writer).map(|mut it| *it = 8))).join();
+            assert_eq!((told.unwrap(), *seen), (Err(Error::TimedOut), 7));
+            let last = SharedMutex::<C, u64>::new(9);
+            drop(tx.write(&last)?);
+            let guard = UpgradableGuard::upgrade(tx.read_upgradable(&last)?)?;
+            Ok(*guard)
+        });
+        assert_eq!(told, Ok(9));
+    }
+}
+
+/// However often an attempt reads, as many as 32 bits can't count, what it has read stays so until its end: here a read that fails
+/// comes behind the last one. Half a minute; without optimization some more.
+#[test]
+#[cfg_attr(debug_assertions, ignore = "it takes minutes")]
+fn reads_are_counted_by_nothing() {
+    class!(struct Boxes: WoundWait);
+    static READ: SharedMutex<Boxes, u64> = SharedMutex::new(1);
+    static OTHER: SharedMutex<Boxes, u64> = SharedMutex::new(1);
+    let both = Barrier::new(2);
+    thread::scope(|scope| {
+        scope.spawn(|| {
+            let told = Boxes::run(|tx| {
+                let _guard = tx.write(&OTHER)?;
+                both.wait();
+                both.wait();
+                Ok(())
+            });
+            assert_eq!(told, Ok(()));
+        });
+        both.wait();
+        let told = Options::new().deadline(std::time::Instant::now()).run(|tx: &ww_mutex::Tx<Boxes>| {
+            for _ in 0..1_u64 << 32 {
+                tx.read(&READ)?;
+            }
+            assert_eq!(tx.read(&OTHER).err(), Some(Error::TimedOut));
+            let soon = Options::<Boxes>::new().timeout(Duration::from_millis(5));
+            Ok(thread::scope(|scope| scope.spawn(|| soon.run(|tx| tx.write(&READ).map(drop))).join().unwrap()))
+        });
+        both.wait();
+        assert_eq!(told, Ok(Err(Error::TimedOut)));
+    });
 }

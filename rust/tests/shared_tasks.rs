@@ -5,12 +5,14 @@
 mod executor;
 
 use executor::{at_most, block_on, poll, times, yield_now, Draws, Flag, Pool};
-use std::pin::pin;
+use std::future::Future;
+use std::mem;
+use std::pin::{pin, Pin};
 use std::sync::atomic::{AtomicU64, Ordering::Relaxed};
 use std::sync::Arc;
 use std::task::Poll;
-use ww_mutex::task::Context;
-use ww_mutex::{class, transaction, Class, Error, SharedMutex};
+use ww_mutex::task::{Context, Tx};
+use ww_mutex::{class, transaction, Class, Error, Mutex, SharedMutex};
 
 type Cells<C> = Arc<[SharedMutex<C, (u64, u64)>]>;
 
@@ -104,6 +106,152 @@ fn calls_of_a_context_come_one_after_the_other() {
     let Poll::Ready(Ok(guard)) = poll(write.as_mut(), &flag) else { panic!("it is free") };
     assert!(matches!(poll(read.as_mut(), &flag), Poll::Ready(Err(Error::Duplicate))));
     drop(guard);
+}
+
+/// As `a_mutex_that_goes_takes_its_read_along` of threads.
+#[test]
+#[cfg_attr(feature = "debug-library", ignore = "that makes up Deadlocks")]
+fn a_mutex_that_goes_takes_its_read_along() {
+    class!(struct Boxes: WoundWait, mutexes = 5, contexts = 2);
+    let flag = Arc::new(Flag::default());
+    for _ in 0..20 {
+        let (mut one, mut other) = (Context::<Boxes>::new(), Context::<Boxes>::new());
+        let (reader, writer) = (block_on(one.attempt()).unwrap(), block_on(other.attempt()).unwrap());
+        let old = SharedMutex::new(1);
+        assert_eq!(block_on(reader.read(&old)), Ok(&1));
+        drop(old);
+        let new = SharedMutex::new(7);
+        let seen = block_on(reader.read(&new)).unwrap();
+        assert!(poll(pin!(writer.write(&new)), &flag).is_pending() && *seen == 7);
+        let last = SharedMutex::new(9);
+        *block_on(reader.write(&last)).unwrap() += 1;
+    }
+}
+
+/// A read that is dropped amid its wait, also once it has its turn, is none: another context writes it, and so may its own.
+#[test]
+#[cfg_attr(feature = "debug-library", ignore = "that makes up Deadlocks")]
+fn a_dropped_read_leaves_its_mutex() {
+    class!(struct Boxes: WoundWait);
+    static ONE: SharedMutex<Boxes, u64> = SharedMutex::new(7);
+    static OTHER: SharedMutex<Boxes, u64> = SharedMutex::new(7);
+    let flag = Arc::new(Flag::default());
+    for (is_woken, reads_another) in [(false, false), (true, false), (false, true), (true, true)] {
+        let (mut one, mut other) = (Context::<Boxes>::new(), Context::<Boxes>::new());
+        let (writer, reader) = (block_on(one.attempt()).unwrap(), block_on(other.attempt()).unwrap());
+        if reads_another {
+            assert_eq!(block_on(reader.read(&OTHER)), Ok(&7));
+        }
+        let guard = block_on(writer.write(&ONE)).unwrap();
+        let mut read = Box::pin(reader.read(&ONE));
+        assert!(poll(read.as_mut(), &flag).is_pending());
+        if is_woken {
+            drop(guard);
+            assert!(flag.is_set());
+            drop(read);
+        } else {
+            drop(read);
+            drop(guard);
+            assert!(!flag.is_set());
+        }
+        assert!(Arc::strong_count(&flag) == 1 && is_free(&ONE) && is_free(&OTHER) != reads_another);
+        drop(block_on(reader.write(&ONE)).unwrap());
+        assert_eq!(block_on(reader.write(&OTHER)).err(), reads_another.then_some(Error::Duplicate));
+    }
+    assert!(is_free(&ONE) && is_free(&OTHER));
+}
+
+// ---- forgotten futures ----
+
+/// What its mutex is, its size apart from that of others.
+type Value = [u64; 61];
+
+/// A call by a context, and what another one has before it: at each, the call waits, or not.
+#[derive(Clone, Copy, Debug, PartialEq)]
+enum Way {
+    Lock,
+    Read,
+    Write,
+}
+
+fn call<'x, C: Class>(
+    way: Way,
+    tx: &'x Tx<C>,
+    (plain, shared): (&'x Mutex<C, Value>, &'x SharedMutex<C, Value>),
+) -> Pin<Box<dyn Future<Output = Result<(), Error>> + 'x>> {
+    match way {
+        Way::Lock => Box::pin(async { tx.lock(plain).await.map(mem::forget) }),
+        Way::Read => Box::pin(async { tx.read(shared).await.map(|_| ()) }),
+        Way::Write => Box::pin(async { tx.write(shared).await.map(mem::forget) }),
+    }
+}
+
+/// Which context's end comes last, and how: it is dropped, or begins another attempt.
+#[derive(Clone, Copy, Debug, PartialEq)]
+enum End {
+    Drop,
+    Attempt,
+}
+
+/// A call of a context is forgotten behind so many polls, before or after another context lets it have its turn. Then its mutex
+/// goes, and others come in its memory; the end of the context, which releases what was forgotten, accesses none of them. No
+/// mutex of the class, no context, and no waker is lost. The address sanitizer sees where it is otherwise, by a nightly compiler.
+#[test]
+#[cfg_attr(feature = "debug-library", ignore = "that makes up Deadlocks")]
+fn calls_are_forgotten_at_each_poll() {
+    class!(struct Wound: WoundWait, mutexes = 6, contexts = 2; struct Die: WaitDie, mutexes = 6, contexts = 2);
+    for way in [Way::Lock, Way::Read, Way::Write] {
+        for before in [Way::Lock, Way::Read, Way::Write] {
+            for (polls, is_woken, reads_another) in (0..12).map(|k| (k / 4, k % 2 == 1, k % 4 > 1)) {
+                for end in [End::Drop, End::Attempt] {
+                    forgets::<Wound>(way, before, polls, is_woken, reads_another, end);
+                    forgets::<Die>(way, before, polls, is_woken, reads_another, end);
+                }
+            }
+        }
+    }
+}
+
+fn forgets<C: Class>(way: Way, before: Way, polls: usize, is_woken: bool, reads_another: bool, end: End) {
+    let (plain, shared) = (Arc::new(Mutex::new([0; 61])), Arc::new(SharedMutex::new([0; 61])));
+    let another = SharedMutex::new(7);
+    let flag = Arc::new(Flag::default());
+    // The one that waits is the older one, so it does so in both kinds.
+    let (mut waits, mut holds) = (Context::<C>::new(), Context::<C>::new());
+    let (waiter, holder) = (block_on(waits.attempt()).unwrap(), block_on(holds.attempt()).unwrap());
+    if reads_another {
+        block_on(waiter.read(&another)).unwrap();
+    }
+    block_on(call(before, holder, (&plain, &shared))).unwrap();
+    let (one, other) = (Arc::clone(&plain), Arc::clone(&shared));
+    let mut asks = call(way, waiter, (&one, &other));
+    for _ in 0..polls {
+        if poll(asks.as_mut(), &flag).is_ready() {
+            break;
+        }
+    }
+    mem::forget(asks);
+    if is_woken {
+        drop(holds);
+        drop((plain, shared, one, other));
+    } else {
+        drop((plain, shared, one, other));
+        drop(holds);
+    }
+    let size = mem::size_of::<SharedMutex<C, Value>>().max(mem::size_of::<Mutex<C, Value>>());
+    // In the memory of each of the two.
+    let others: Vec<Arc<[u64]>> = (0..16).map(|k| (0..size / 8 - k % 4).map(|_| 0).collect()).collect();
+    if end == End::Attempt {
+        let tx = block_on(waits.attempt()).unwrap();
+        assert!(block_on(tx.write(&another)).is_ok());
+    }
+    drop(waits);
+    let told = format!("{way:?} behind {before:?}, {polls} polls, {is_woken}, {reads_another}, {end:?}");
+    assert!(others.iter().all(|it| it.iter().all(|word| *word == 0)), "{told}");
+    assert!(C::counts().contexts == 0 && Arc::strong_count(&flag) == 1, "{told}");
+    // Four places, since each context that has read has one.
+    let all: Vec<_> = (0..3).map(|_| Mutex::<C, u64>::try_new(0)).collect();
+    assert!(all.iter().all(Result::is_ok) && is_free(&another), "{told}");
 }
 
 /// Reads two cells, and writes a third, in any order.

@@ -851,6 +851,57 @@ fn what_is_forgotten() {
     nothing_is_left::<Boxes>(&[], 2);
 }
 
+/// A body that awaits another transaction of the class, as a function that it calls may: it goes on, however few contexts at a time
+/// the class has measured to be best for its tasks.
+#[test]
+fn a_transaction_in_a_transaction() {
+    class!(struct Boxes: WoundWait);
+    static BOXES: [Mutex<Boxes, u64>; 2] = [Mutex::new(0), Mutex::new(0)];
+    async fn add(k: usize, yields: bool) -> Result<(), Error> {
+        transaction!(Boxes, |tx| {
+            let mut count = tx.lock(&BOXES[k]).await?;
+            if yields {
+                yield_now().await;
+            }
+            *count += 1;
+            Ok(())
+        })
+    }
+    let nested = || async {
+        transaction!(Boxes, |tx| {
+            assert!(tx.attempts() > 0);
+            add(1, false).await
+        })
+    };
+    let runs = || {
+        let (flag, end) = (Arc::<Flag>::default(), Instant::now() + Duration::from_secs(10));
+        let mut future = pin!(nested());
+        while poll(future.as_mut(), &flag).is_pending() {
+            while !flag.is_set() {
+                assert!(
+                    Instant::now() < end,
+                    "it waits for a context, of {} that tasks may have",
+                    Boxes::counts().task_contexts
+                );
+                thread::sleep(Duration::from_millis(1));
+            }
+        }
+    };
+    runs();
+    // A load on one mutex, at which one context at a time ends the most; if that isn't measured soon, it is as before.
+    let (pool, end) = (Arc::new(Pool::default()), Instant::now() + Duration::from_secs(4));
+    for _ in 0..64 {
+        pool.spawn(async move {
+            while Boxes::counts().task_contexts > 1 && Instant::now() < end {
+                add(0, true).await.unwrap();
+            }
+        });
+    }
+    pool.run_by(2);
+    runs();
+    assert_eq!(*BOXES[1].lock(), 2);
+}
+
 /// A wait costs no time of the processor, and a release ends it.
 #[test]
 fn a_task_sleeps() {

@@ -53,22 +53,32 @@ _CALLS = {
     "ww_class_init": (None, _AT, ctypes.c_int, ctypes.c_char_p),
     "ww_class_limit": (ctypes.c_int, _AT, _Number, _Number),
     "ww_class_stats": (None, _AT, ctypes.POINTER(Counted)),
-    "ww_mutex_is_locked": (ctypes.c_bool, _AT),
     "ww_is_contended": (ctypes.c_bool, _AT),
     "ww_mutex_lock_until": (ctypes.c_int, _AT, _AT, ctypes.POINTER(Time)),
     "ww_acquire_init_until": (ctypes.c_int, _AT, _AT, ctypes.POINTER(Time)),
 }
+_NUMBER = ctypes.c_uint32
+_CALLS |= {
+    "ww_number_take": (ctypes.c_int, ctypes.POINTER(_NUMBER), _AT),
+    "ww_number_at": (_AT, _NUMBER, _AT),
+    "ww_number_leave": (None, _NUMBER, _AT),
+    "ww_number_unlock": (ctypes.c_int, _NUMBER, _AT),
+    "ww_acquire_mark": (ctypes.c_size_t, _AT),
+    "ww_acquire_unlock_to": (None, _AT, ctypes.c_size_t),
+    "ww_acquire_end_wait": (ctypes.c_int, _AT),
+    "ww_seek_end": (None, _AT),
+}
+_CALLS |= {f"ww_number_is_{it}": (ctypes.c_bool, _NUMBER, _AT) for it in ("read", "locked")}
 _CALLS |= {
     "ww_acquire_init_poll": (ctypes.c_int, _AT, _AT, _AT, _AT),
     "ww_mutex_lock_poll": (ctypes.c_int, _AT, _AT, _AT),
     "ww_poll_take_back": (ctypes.c_bool, _AT, _AT),
     "ww_event_take": (_AT, _AT),
 }
-_CALLS |= {f"ww_{it}_size": (ctypes.c_size_t,) for it in ("class", "mutex", "acquire", "shared_mutex")}
-_ALONE = ("class_free", "class_cancel", "mutex_destroy", "acquire_done_checked", "acquire_fini_checked", "acquire_cancel", "mutex_unlock_checked", "shared_mutex_destroy")
+_CALLS |= {f"ww_{it}_size": (ctypes.c_size_t,) for it in ("class", "acquire")}
+_ALONE = ("class_free", "class_cancel", "acquire_done_checked", "acquire_fini_checked", "acquire_cancel")
 _CALLS |= {f"ww_{it}": (ctypes.c_int, _AT) for it in _ALONE}
-_PAIRS = ("mutex_init_checked", "acquire_init_checked", "mutex_trylock")
-_PAIRS += tuple(f"shared_mutex_{it}" for it in ("init_checked", "trylock", "trylock_shared", "unlock"))
+_PAIRS = ("acquire_init_checked", "mutex_trylock", "shared_mutex_trylock", "shared_mutex_trylock_shared")
 _CALLS |= {f"ww_{it}": (ctypes.c_int, _AT, _AT) for it in _PAIRS}
 _CALLS |= {f"ww_shared_mutex_{it}": _CALLS["ww_mutex_lock_until"] for it in ("lock_until", "lock_shared_until")}
 _CALLS |= {"ww_shared_mutex_is_written_by": (ctypes.c_bool, _AT, _AT), "ww_shared_mutex_downgrade": (None, _AT, _AT)}

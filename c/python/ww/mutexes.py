@@ -18,6 +18,7 @@ from .library import WAIT_DIE, WOUND_WAIT, Already, Counted, Counts, Deadlock, T
 # are in the order of their timestamps, so this loses no place in the order.
 _SLICE = 100_000_000
 _NEVER = 2**62  # A time of the clock, in nanoseconds too.
+_NONE = 2**32 - 1  # The number of no mutex.
 # By its address, the call that ends each structure of the library. They are made until the program's last moment.
 _ends = {}
 ctypes.pythonapi.Py_IncRef(ctypes.py_object(_ends))
@@ -147,10 +148,10 @@ class Class:
             while True:
                 try:
                     result = await body(context)
-                    if context._contended is None:
+                    if not context._is_contended():
                         return result
                 except Deadlock:
-                    if context._contended is None:
+                    if not context._is_contended():
                         raise
                 context.unlock_all()
         finally:
@@ -190,9 +191,11 @@ class Mutex:
         if not isinstance(of, Class):
             raise TypeError("a mutex is of a ww.Class")
         self._class, self._library, self._alone = of, of._library, None
-        self._at = _memory(self._call("size")())
-        self._its_end = _ending(functools.partial(self._call("destroy"), self._at), of._its_end)
-        told(self._call("init_checked")(self._at, of._at))
+        # A number of the class, and where the library's mutex of this number is: it keeps no address of ours.
+        self._number = number = ctypes.c_uint32(_NONE)
+        self._its_end = _ending(functools.partial(self._library.ww_number_leave, number, of._at), of._its_end)
+        told(self._library.ww_number_take(ctypes.byref(number), of._at))
+        self._at = self._library.ww_number_at(number, of._at)
 
     def _call(self, name):
         """The library's call of this name for such a mutex."""
@@ -232,12 +235,12 @@ class Mutex:
     def __exit__(self, *_):
         alone, self._alone = self._alone, None
         if not alone:
-            raise _wrong("no block holds it")
+            raise _wrong("it isn't locked")
         alone._end()
 
     def locked(self):
         """Whether somebody holds it: that may be out of date when it returns."""
-        return self._library.ww_mutex_is_locked(self._at)
+        return self._library.ww_number_is_locked(self._number, self._class._at)
 
 
 class SharedMutex(Mutex):
@@ -248,7 +251,49 @@ class SharedMutex(Mutex):
     _calls = "ww_shared_mutex_"
 
 
-class Context:
+class Holder:
+    """What the contexts of threads and of tasks have in common. The library knows what they hold. Only, reads end together there:
+    `_reads` are the numbers of what the program reads still, so that the last one ends them. If an exception comes between two
+    lines that is too many: then they go on to the end of the block."""
+
+    def _has(self, mutex):
+        """Whether it was asked for, and is held: the library's mutexes with a number are all shared ones."""
+        return self._library.ww_shared_mutex_is_written_by(mutex._at, self._at)
+
+    def _told(self, code):
+        """As told, of a lock call."""
+        is_misuse = code == -errno.EINVAL and self._is_contended()
+        told(code, "the context got Deadlock and still holds a mutex: release all, or let the body return" if is_misuse else None)
+
+    def __contains__(self, mutex):
+        """Whether it holds this mutex."""
+        if not isinstance(mutex, Mutex) or mutex._class is not self._class:
+            return False
+        reads = mutex._number.value in self._reads and self._library.ww_number_is_read(mutex._number, self._at)
+        return reads or self._has(mutex)
+
+    def try_lock(self, mutex):
+        """Acquires it if nobody has it or waits for it; returns whether it did."""
+        self._check(mutex)
+        return mutex._call("trylock")(mutex._at, self._at) == 1
+
+    def unlock(self, mutex):
+        """Releases it; of a SharedMutex ends its read, too."""
+        self._check(mutex)
+        if mutex not in self:
+            raise _wrong("the context doesn't hold it")
+        if self._has(mutex):
+            told(self._library.ww_number_unlock(mutex._number, self._at))
+        self._end_reads({mutex._number.value})
+
+    def _end_reads(self, numbers):
+        if self._reads & numbers:
+            self._reads -= numbers
+            if not self._reads:
+                self._library.ww_acquire_end_reads(self._at)
+
+
+class Context(Holder):
     """A context, for one thread: `with Class.context() as context`. A task of asyncio gets one of its own by `async with`,
     whose lock is awaited. In other threads, and outside the block, its calls are EINVAL, except cancel."""
 
@@ -256,11 +301,7 @@ class Context:
         self._class, self._library, self._timeout = of, of._library, timeout
         self._thread = self._of_task = None
         self._begun = None  # If another thread begins it, the event that it has.
-        # The mutexes, each by its `_its_end`, that the library may still read, and those that the context holds. An
-        # interrupt may come between two lines: so a mutex is in the first set before it can be held, and leaves the
-        # second before it is released.
-        self._near, self._held = set(), set()
-        self._read = set()  # Those of them that it reads, also where it holds them besides.
+        self._reads = set()
 
     def __getattr__(self, name):
         """What a thread's context has besides, made at its first use: one of a task never uses it."""
@@ -271,8 +312,8 @@ class Context:
         # cancel are made under a lock.
         self._lock = threading.Lock()
         release, fini = (functools.partial(call, self._at) for call in (self._library.ww_acquire_unlock_all, self._library.ww_acquire_fini_checked))
-        self._end, self._is_over = _once(self._lock.acquire, release, fini, self._lock.release, self._held.clear, self._near.clear)
-        self._its_end = _ending(self._end, self._class._its_end, self._near)
+        self._end, self._is_over = _once(self._lock.acquire, release, fini, self._lock.release)
+        self._its_end = _ending(self._end, self._class._its_end)
         return self.__dict__[name]
 
     __exit__ = _Exit()
@@ -299,7 +340,7 @@ class Context:
         self._of_task.end()
 
     def __repr__(self):
-        return f"<ww.Context of {self._class.name!r} with {len(self._held)} mutexes>"
+        return f"<ww.Context of {self._class.name!r} with {self._library.ww_acquire_mark(self._at)} mutexes>"
 
     def _begin(self, until=None):
         if self._library.is_debug:
@@ -357,45 +398,6 @@ class Context:
                 return code
         return call(mutex._at, self._at, None)
 
-    def _asks(self, mutex, call):
-        """What this call returns, which may acquire the mutex."""
-        was_near = mutex._its_end in self._near
-        self._near.add(mutex._its_end)
-        code = call()
-        if code == 0:
-            self._held.add(mutex._its_end)
-        elif code != -errno.EDEADLK and not was_near:
-            self._near.discard(mutex._its_end)
-        return code
-
-    def _lock_each(self, mutexes, until):
-        """Acquires them in this order; if that fails, it has released what it acquired."""
-        acquired = []
-        try:
-            for mutex in mutexes:
-                told(self._asks(mutex, lambda: self._answer(mutex, until, mutex._call("lock_until"))))
-                acquired.append(mutex)
-        except BaseException:
-            for mutex in reversed(acquired):
-                self._release(mutex, mutex._its_end in self._read)
-            raise
-
-    def _read_each(self, mutexes, until):
-        """The same for reads."""
-        acquired = []
-        try:
-            for mutex in mutexes:
-                if mutex not in self:
-                    # Before it can be held, wherever an interrupt comes: what isn't in here has no read to end.
-                    self._read.add(mutex._its_end)
-                    told(self._asks(mutex, lambda: self._answer(mutex, until, mutex._call("lock_shared_until"))))
-                    acquired.append(mutex)
-        except BaseException:
-            self._read &= self._held
-            for mutex in reversed(acquired):
-                self.unlock(mutex)
-            raise
-
     def lock(self, *mutexes, timeout=None):
         """Acquires all of them, and waits for them; at most for `timeout` seconds (TimeoutError), or until it is cancelled
         (InterruptedError). One that is free is acquired, however late it is. A context that held nothing before backs
@@ -410,78 +412,58 @@ class Context:
         self._check(*mutexes)
         if not all(isinstance(it, SharedMutex) for it in mutexes):
             raise TypeError("only a ww.SharedMutex is read")
-        self._lock_until(mutexes, _until(timeout), self._read_each)
+        self._lock_until([it for it in mutexes if it not in self], _until(timeout), "lock_shared_until")
 
-    def _lock_until(self, mutexes, until, each=None):
+    def _lock_until(self, mutexes, until, name="lock_until"):
         if self._library.is_debug:
             at_caller(self._library)
-        held_nothing = not self._held
+        mark = self._library.ww_acquire_mark(self._at)
         while True:
+            read = set()
             try:
-                return (each or self._lock_each)(mutexes, until)
-            except Deadlock:
-                if not held_nothing:
+                for mutex in mutexes:
+                    if name == "lock_shared_until":
+                        read.add(mutex._number.value)
+                        self._reads |= read  # Before it is read: so it is for as long as that goes on.
+                    self._told(self._answer(mutex, until, mutex._call(name)))
+                return
+            except BaseException as error:
+                if mark:
+                    self._end_reads(read)
+                    self._library.ww_acquire_unlock_to(self._at, mark)
+                else:
+                    self._unlock_all()
+                if mark or not isinstance(error, Deadlock):
                     raise
-                self.unlock_all()
-            except BaseException:
-                # It may hold the contended mutex, for which it waited first, and which this call hasn't reached yet.
-                if held_nothing:
-                    self.unlock_all()
-                raise
-
-    def try_lock(self, mutex):
-        """Acquires it if nobody has it or waits for it; returns whether it did."""
-        self._check(mutex)
-        return self._asks(mutex, lambda: -errno.EBUSY * (not mutex._call("trylock")(mutex._at, self._at))) == 0
-
-    def unlock(self, mutex):
-        """Releases it; of a SharedMutex ends its read, too."""
-        self._check(mutex)
-        if mutex not in self:
-            raise _wrong("the context doesn't hold it")
-        self._release(mutex, False)
-
-    def _release(self, mutex, reads_on):
-        if isinstance(mutex, SharedMutex) and self._library.ww_shared_mutex_is_written_by(mutex._at, self._at):
-            told(self._library.ww_shared_mutex_unlock(mutex._at, self._at))
-        if reads_on:
-            return
-        self._held.discard(mutex._its_end)
-        if not isinstance(mutex, SharedMutex):
-            told(self._library.ww_mutex_unlock_checked(mutex._at))
-        elif mutex._its_end in self._read:
-            self._read.discard(mutex._its_end)
-            told(self._library.ww_shared_mutex_unlock(mutex._at, self._at))
-        self._near.discard(mutex._its_end)
 
     def downgrade(self, mutex):
         """Of a SharedMutex that it holds: from now on it reads it, and others may; nobody writes it in between."""
         self._check(mutex)
-        if not (isinstance(mutex, SharedMutex) and self._library.ww_shared_mutex_is_written_by(mutex._at, self._at)):
+        if not (isinstance(mutex, SharedMutex) and self._has(mutex)):
             raise _wrong("the context doesn't hold it")
-        if mutex._its_end in self._read:
-            told(self._library.ww_shared_mutex_unlock(mutex._at, self._at))
-            return
-        self._read.add(mutex._its_end)
-        self._library.ww_shared_mutex_downgrade(mutex._at, self._at)
-        if self._library.ww_shared_mutex_is_written_by(mutex._at, self._at):
-            self._read.discard(mutex._its_end)
+        self._reads.add(mutex._number.value)
+        if self._library.ww_number_is_read(mutex._number, self._at):
+            told(self._library.ww_number_unlock(mutex._number, self._at))
+        else:
+            self._library.ww_shared_mutex_downgrade(mutex._at, self._at)
 
     def unlock_all(self):
         """Releases everything. After Deadlock the next lock call first waits for the contended mutex."""
         self._check()
-        held = self._held.copy()
-        self._held.clear()
-        self._read.clear()
+        self._unlock_all()
+
+    def _unlock_all(self):
+        self._reads.clear()
         if self._is_contended():
             self._library.ww_back_off_(self._at)
         else:
             self._library.ww_acquire_unlock_all(self._at)
-        self._near -= held
 
     def __contains__(self, mutex):
         """Whether it holds this mutex."""
-        return isinstance(mutex, Mutex) and mutex._its_end in self._held
+        if self._thread not in (None, threading.get_ident()) and not self._is_over:
+            self._check()
+        return super().__contains__(mutex)
 
     def done(self):
         """Says that it has all its mutexes. EINVAL: this was said before."""

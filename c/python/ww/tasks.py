@@ -11,7 +11,7 @@ import time
 import weakref
 
 from .library import Deadlock, at_caller, told
-from .mutexes import Mutex, SharedMutex, _ending
+from .mutexes import Holder, SharedMutex, _ending, _memory, _once
 
 
 class _Waker(ctypes.Structure):
@@ -114,6 +114,7 @@ class _Wakes:
     loop can be freed."""
 
     of_loops = weakref.WeakKeyDictionary()
+    event = None
 
     def __init__(self, loop, library):
         self.futures = {}  # By the addresses of their waits' entries.
@@ -152,7 +153,8 @@ class _Wakes:
                 future.set_result(None)
 
     def __del__(self):
-        self.event.leave()
+        if self.event:
+            self.event.leave()
 
 
 def _inherit():
@@ -169,273 +171,140 @@ def _inherit():
 os.register_at_fork(after_in_child=_inherit)
 
 
-@functools.lru_cache(maxsize=None)
-def _memory_of(library):
-    """The type of a context's memory."""
-    return ctypes.c_uint64 * -(-library.ww_acquire_size() // 8)
-
-
 def _ended():
     return OSError(errno.EINVAL, "the context is of no `async with` block that goes on")
 
 
-class _Locks:
-    """What a context of a task holds, and its end. It refers to memory, and to the ends of what may only end after it. It is
-    reached from the end of its context: so those come later, whatever cycle of references their owners were in."""
-
-    def __init__(self, of):
-        self.library, self.its_class, self.at = of._library, of._its_end, _memory_of(of._library)()
-        self.held = {}  # By its end, the memory of each mutex that it holds, in the order in which it acquired them.
-        self.shared, self.read = set(), set()  # The ends of those that are shared, and of those of them that it reads.
-        self.awaited = None  # The end of the mutex for which it waits.
-        self.is_begun = self.is_over = self.waits = False
-
-    def end(self):
-        if not self.is_begun or self.is_over:
-            return
-        self.is_over = True
-        if not self.waits:
-            self.release_and_end()
-
-    def release_and_end(self):
-        self.release_all()
-        self.library.ww_acquire_fini_checked(self.at)
-
-    def release_all(self):
-        while self.held:
-            its_end, at = self.held.popitem()
-            self.release(its_end, at)
-        self.library.ww_acquire_end_reads(self.at)
-
-    def release(self, its_end, at, reads_on=False):
-        if its_end not in self.shared:
-            return self.library.ww_mutex_unlock_checked(at)
-        code = 0
-        if self.library.ww_shared_mutex_is_written_by(at, self.at):
-            code = self.library.ww_shared_mutex_unlock(at, self.at)
-        if reads_on:
-            return code
-        self.shared.discard(its_end)
-        if its_end in self.read:
-            self.read.discard(its_end)
-            code = self.library.ww_shared_mutex_unlock(at, self.at)
-        return code
-
-
-class TaskContext:
+class TaskContext(Holder):
     """A context of a task: `async with Class.context() as context`. Other tasks may not use it. A task that is cancelled
-    during a wait holds what it held before."""
+    during a wait holds what it held before. A time limit is that of asyncio.timeout, of Python 3.11: asyncio.wait_for of 3.11 may
+    lose a cancel that comes with the end of the wait."""
 
     def __init__(self, of):
-        self._class, self._library = of, of._library
-        self._locks = _Locks(of)
-        self._at, self._held = self._locks.at, self._locks.held
-        self._seek = _Seek()
-        self._contended = None  # The mutex at which it got Deadlock, once it has released all.
-        self._future = None  # That of the wait that is under way.
-        self._its_end = _ending(functools.partial(self._locks.end))
+        self._class, self._library, self._reads = of, of._library, set()
+        self._at, self._seek = _memory(self._library.ww_acquire_size()), _Seek()
+        self._future = self._event = None  # Those of the wait that is under way.
+        self._is_back = False  # Its waker was taken back.
+        self._got_deadlock = False  # It has yet to wait for what it collided with, once it has released all.
+        calls = "ww_acquire_end_wait", "ww_acquire_unlock_all", "ww_acquire_fini_checked"
+        ends = (functools.partial(getattr(self._library, it), self._at) for it in calls)
+        self._end, self._is_over = _once(functools.partial(self._library.ww_seek_end, ctypes.byref(self._seek)), *ends)
+        self._its_end = _ending(self._end, of._its_end)
 
-    def _begin_poll(self, waker):
-        return self._library.ww_acquire_init_poll(self._at, self._class._at, ctypes.byref(self._seek), waker)
+    def _is_contended(self):
+        return self._got_deadlock
 
-    async def _wait(self, poll, seek):
-        """Returns what the last poll returned. If this is cancelled, its caller ends the wait, by a poll without a waker."""
+    async def _wait(self, poll, seek=None):
+        """What the call returns in the end. If this is cancelled, the wait has ended."""
         wakes = _Wakes.of(self._library)
         while True:
             waker, at, future = wakes.begin(self._at, self._seek)
-            code, self._locks.waits, self._future = -errno.EINPROGRESS, True, future
+            code, self._is_back, self._future, self._event = -errno.EINPROGRESS, False, future, wakes.event
             try:
                 code = poll(ctypes.byref(waker))
                 if code != -errno.EINPROGRESS:
                     return code
                 await future
+                if self._is_over:
+                    raise _ended()
+            except BaseException:
+                self._take_back(seek)
+                if self._library.ww_acquire_end_wait(self._at) == -errno.EDEADLK:
+                    self._got_deadlock = True
+                raise
             finally:
-                self._locks.waits, self._future = False, None
+                self._future = self._event = None
                 if wakes.futures.get(at) is future:  # It wasn't woken; another wait may have its address by now.
-                    wakes.end(at, code == -errno.EINPROGRESS and not self._takes_back(wakes, seek))
+                    wakes.end(at, code == -errno.EINPROGRESS and not self._is_back)
 
-    def _takes_back(self, wakes, seek):
+    def _take_back(self, seek=None):
         """A forked child takes nothing back: a lock that it needs for that may be one that another thread had as it was made."""
-        return not wakes.event.is_inherited and self._library.ww_poll_take_back(self._at, seek)
+        if self._event and not self._event.is_inherited:
+            self._is_back |= self._library.ww_poll_take_back(self._at, seek)
 
     async def begin(self):
         """Begins the context; if none is free it waits for one, in turn."""
         if self._library.is_debug:
             at_caller(self._library)
-        if self._begin_poll(None) != 0:
-            try:
-                told(await self._wait(self._begin_poll, ctypes.byref(self._seek)))
-            except BaseException:
-                if self._begin_poll(None) == 0:
-                    self._library.ww_acquire_fini_checked(self._at)
-                raise
-        self._locks.is_begun = True
+        seek = ctypes.byref(self._seek)
+        poll = functools.partial(self._library.ww_acquire_init_poll, self._at, self._class._at, seek)
+        try:
+            if poll(None) != 0:
+                told(await self._wait(poll, seek))
+        except BaseException:
+            self._end()
+            raise
 
     def end(self):
-        """Releases everything that it holds, and ends; if another task waits by it, as soon as that one runs."""
-        self._locks.end()
-        if self._locks.is_over and self._locks.waits and not (self._future.done() or self._future.get_loop().is_closed()):
-            self._future.set_exception(_ended())
+        """Releases everything that it holds, and ends; so does the wait of another task by it."""
+        future = self._future
+        self._take_back()
+        self._end()
+        if future and not (future.done() or future.get_loop().is_closed()):
+            future.set_exception(_ended())
 
     def _check(self, *mutexes):
-        if not self._locks.is_begun or self._locks.is_over:
+        if self._is_over:
             raise _ended()
-        if self._locks.waits:
+        if self._future:
             raise OSError(errno.EBUSY, "another task waits by this context")
         self._class._check(*mutexes)
 
-    def _writes(self, mutex):
-        return isinstance(mutex, SharedMutex) and self._library.ww_shared_mutex_is_written_by(mutex._at, self._at)
-
-    def _unlock_unknown(self, mutex):
-        """What a call has acquired, and this doesn't know."""
-        if isinstance(mutex, SharedMutex):
-            self._library.ww_shared_mutex_unlock(mutex._at, self._at)
-        else:
-            self._library.ww_mutex_unlock_checked(mutex._at)
-
-    async def _lock_one(self, mutex, reads=False):
-        shared, had = "_shared" if reads else "", self._writes(mutex) if isinstance(mutex, SharedMutex) else mutex in self
-        tries, polls = mutex._call("trylock" + shared), mutex._call(f"lock{shared}_poll")
-
-        def poll(waker):
-            return polls(mutex._at, self._at, waker)
-
-        if tries(mutex._at, self._at) != 1:
-            self._locks.awaited = mutex._its_end
-            try:
-                code = await self._wait(poll, None)
-                if self._locks.is_over:
-                    raise _ended()
-            except BaseException:
-                code = poll(None)
-                # It may have acquired the mutex before, and not come to know.
-                if code == 0 or (code == -errno.EALREADY and not had):
-                    self._unlock_unknown(mutex)
-                self._is_told(mutex, code)
-                if self._locks.is_over:
-                    self._locks.release_and_end()
-                raise
-            finally:
-                self._locks.awaited = None
-            self._is_told(mutex, code)
-            told(code)
-        if isinstance(mutex, SharedMutex):
-            self._locks.shared.add(mutex._its_end)
-        if reads:
-            self._locks.read.add(mutex._its_end)
-        self._held[mutex._its_end] = mutex._at
-
-    def _is_told(self, mutex, code):
-        if code == -errno.EDEADLK:
-            self._contended = mutex
-
-    async def _lock_first(self):
-        """Waits for the mutex at which it got Deadlock, if it has released everything since."""
-        first = self._contended
-        if first is None or self._held:
-            return None
-        if isinstance(first, SharedMutex):
-            await self._await_shared()
-        self._contended = None
-        if isinstance(first, SharedMutex):
-            return None
-        await self._lock_one(first)
-        return first
-
-    async def _await_shared(self):
-        """The same for what it collided with at a SharedMutex: the library knows it, and holds nothing afterwards."""
-        def poll(waker):
-            return self._library.ww_shared_mutex_await_poll(self._at, waker)
-
-        try:
-            code = await self._wait(poll, None)
-            if self._locks.is_over:
-                raise _ended()
-        except BaseException:
-            poll(None)
-            if self._locks.is_over:
-                self._locks.release_and_end()
-            raise
-        told(code)
-
-    async def _lock_each(self, mutexes, reads):
-        acquired = []
-        try:
-            for mutex in mutexes:
-                if not (reads and mutex in self):  # What it holds it may read.
-                    was_read = mutex._its_end in self._locks.read
-                    await self._lock_one(mutex, reads)
-                    acquired.append((mutex, was_read))
-        except BaseException:
-            for mutex, was_read in reversed(acquired):
-                if mutex in self:
-                    self._release(mutex, was_read)
-            raise
+    async def _asks(self, mutex, shared):
+        """Locks it, or with "_shared" reads it."""
+        if mutex._call("trylock" + shared)(mutex._at, self._at) != 1:
+            code = await self._wait(functools.partial(mutex._call(f"lock{shared}_poll"), mutex._at, self._at))
+            self._got_deadlock |= code == -errno.EDEADLK
+            self._told(code)
 
     async def lock(self, *mutexes):
         """Acquires all of them, and waits for them. A context that held nothing before backs off by itself; any other one
         may raise Deadlock, and must release everything. Already: it holds one of them. If it fails, or its task is
         cancelled, it has released what it acquired here."""
-        await self._lock_all(mutexes, False)
+        self._check(*mutexes)
+        await self._lock_all(mutexes, "")
 
     async def read(self, *mutexes):
         """As lock, for each a SharedMutex, which it reads from now on, as Context.read."""
+        self._check(*mutexes)
         if not all(isinstance(it, SharedMutex) for it in mutexes):
             raise TypeError("only a ww.SharedMutex is read")
-        await self._lock_all(mutexes, True)
+        await self._lock_all([it for it in mutexes if it not in self], "_shared")
 
-    async def _lock_all(self, mutexes, reads):
-        self._check(*mutexes)
+    async def _lock_all(self, mutexes, shared):
         if self._library.is_debug:
             at_caller(self._library)
-        held_nothing = not self._held
+        held_nothing = not self._library.ww_acquire_mark(self._at)
         while True:
-            rest = list(mutexes)
+            acquired = []
             try:
-                first = await self._lock_first()
-                if first in rest:
-                    rest.remove(first)
-                elif first:
-                    self.unlock(first)
-                return await self._lock_each(rest, reads)
-            except Deadlock:
-                if not held_nothing:
+                if held_nothing and self._got_deadlock:
+                    told(await self._wait(functools.partial(self._library.ww_shared_mutex_await_poll, self._at)))
+                    self._got_deadlock = False
+                for mutex in mutexes:
+                    if shared:
+                        self._reads.add(mutex._number.value)  # Before it is read: so it is for as long as that goes on.
+                    acquired.append(mutex)
+                    await self._asks(mutex, shared)
+                return
+            except BaseException as error:
+                if self._is_over:
                     raise
-                self._locks.release_all()
-            except BaseException:
                 if held_nothing:
-                    self._locks.release_all()
-                raise
-
-    def try_lock(self, mutex):
-        """Acquires it if nobody has it or waits for it; returns whether it did."""
-        self._check(mutex)
-        had = self._writes(mutex) if isinstance(mutex, SharedMutex) else mutex in self
-        is_acquired = not had and mutex._call("trylock")(mutex._at, self._at) == 1
-        if is_acquired:
-            if isinstance(mutex, SharedMutex):
-                self._locks.shared.add(mutex._its_end)
-            self._held[mutex._its_end] = mutex._at
-        return is_acquired
-
-    def unlock(self, mutex):
-        """Releases it; of a SharedMutex ends its read, too."""
-        self._check(mutex)
-        if mutex not in self:
-            raise OSError(errno.EINVAL, "the context doesn't hold it")
-        told(self._release(mutex, False))
-
-    def _release(self, mutex, reads_on):
-        # In this order: if an interrupt comes between, it isn't released a second time, when another context may hold it.
-        at = self._held[mutex._its_end] if reads_on else self._held.pop(mutex._its_end)
-        return self._locks.release(mutex._its_end, at, reads_on)
+                    self._unlock_all()
+                elif shared:
+                    self._end_reads({it._number.value for it in acquired})
+                else:
+                    for mutex in acquired[:-1]:
+                        self._library.ww_number_unlock(mutex._number, self._at)
+                if not (held_nothing and isinstance(error, Deadlock)):
+                    raise
 
     def unlock_all(self):
-        """Releases all. After a Deadlock the next lock call first waits for the mutex at which that came."""
+        """Releases all. After a Deadlock the next lock call first waits for what it collided with."""
         self._check()
-        self._locks.release_all()
+        self._unlock_all()
 
-    def __contains__(self, mutex):
-        """Whether it holds this mutex."""
-        return isinstance(mutex, Mutex) and mutex._its_end in self._held
+    def _unlock_all(self):
+        self._reads.clear()
+        self._library.ww_acquire_unlock_all(self._at)

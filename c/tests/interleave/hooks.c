@@ -4,7 +4,7 @@
  */
 #define _GNU_SOURCE
 #include "inside.h"
-#include "ww_inside.h"
+#include "ww_seat.h"
 #include <errno.h>
 #include <linux/futex.h>
 #include <pthread.h>
@@ -530,23 +530,43 @@ static struct object *order_of(const ww_handle *h, uint32_t lock)
 	return il_object_of((const void *)((uintptr_t)((const ww_seat *)(const void *)h)->pool + ((uintptr_t)lock << 33) + 3));
 }
 
+/* The lock of a seat's call, with which another thread may go on. */
+static uint32_t *wanted_by(const ww_handle *h)
+{
+	static struct {
+		uint32_t run, lock;
+	} wanted[SEATS], *it;
+	const ww_seat *s = (const void *)h;
+
+	it = &wanted[s - s->pool->seats];
+	if (it->run != il.run) {
+		it->run = il.run;
+		it->lock = UINT32_MAX;
+	}
+	return &it->lock;
+}
+
+static void wants(const ww_handle *h, uint32_t lock)
+{
+	if (h->at)
+		*wanted_by(h) = lock;
+}
+
 static int32_t locked(const ww_handle *h, int32_t r)
 {
 	answered(h, r);
-	if (r == 0 && me()->wants != UINT32_MAX)
-		acquire(order_of(h, me()->wants), __ATOMIC_ACQUIRE);
+	if (r == 0 && h->at && *wanted_by(h) != UINT32_MAX)
+		acquire(order_of(h, *wanted_by(h)), __ATOMIC_ACQUIRE);
 	if (r <= 0)
-		me()->wants = UINT32_MAX;
+		wants(h, UINT32_MAX);
 	return r;
 }
-
-static void wants(uint32_t lock) { me()->wants = lock; }
 
 #define STEP(name, ...) int32_t __real_##name(__VA_ARGS__); int32_t __wrap_##name(__VA_ARGS__)
 #define LOCKS(name)                                                                                    \
 	STEP(name, ww_handle *h, uint32_t lock, bool heeds)                                            \
 	{                                                                                              \
-		return step(#name, PC), by(h, PC), wants(lock), locked(h, __real_##name(h, lock, heeds)); \
+		return step(#name, PC), by(h, PC), wants(h, lock), locked(h, __real_##name(h, lock, heeds)); \
 	}
 LOCKS(ww_lock_)
 LOCKS(ww_lock_slow_)
@@ -559,12 +579,12 @@ STEP(ww_cancel_, ww_handle *h, uint16_t victim)
 }
 STEP(ww_try_, ww_handle *h, uint32_t lock)
 {
-	return step("ww_try_", PC), by(h, PC), wants(lock), locked(h, __real_ww_try_(h, lock));
+	return step("ww_try_", PC), by(h, PC), wants(h, lock), locked(h, __real_ww_try_(h, lock));
 }
 STEP(ww_unlock_, ww_handle *h, uint32_t lock)
 {
 	if (h->at) {
-		step("ww_unlock_", PC), by(h, PC), wants(UINT32_MAX);
+		step("ww_unlock_", PC), by(h, PC), wants(h, UINT32_MAX);
 		release(order_of(h, lock), __ATOMIC_RELEASE, true);
 	}
 	return answered(h, __real_ww_unlock_(h, lock));
@@ -579,7 +599,7 @@ STEP(ww_is_free_, ww_handle *h, uint32_t lock)
 	}
 	return answered(h, r);
 }
-/* These two look at something, and leave the call that is on its way as it was. A look sees what came before whatever it sees. */
+/* These look at something, and leave the call that is on its way as it was. A look sees what came before whatever it sees. */
 STEP(ww_look_, ww_handle *h, uint32_t lock)
 {
 	int32_t r = (step("ww_look_", PC), by(h, PC), looked(h, __real_ww_look_(h, lock)));
@@ -588,10 +608,10 @@ STEP(ww_look_, ww_handle *h, uint32_t lock)
 	return r;
 }
 STEP(ww_is_wounded_, ww_handle *h) { return step("ww_is_wounded_", PC), by(h, PC), looked(h, __real_ww_is_wounded_(h)); }
+/* This looks at nothing but its own seat. */
+STEP(ww_has_, ww_handle *h, uint32_t lock) { return by(h, PC), looked(h, __real_ww_has_(h, lock)); }
 /* It changes how a call waits that is on its way, and makes no step of it. */
 STEP(ww_heed_, ww_handle *h) { return check(h, sizeof *h, WRITES, PC), __real_ww_heed_(h); }
-/* These two look at nothing but their own seat. */
-STEP(ww_has_, ww_handle *h, uint32_t lock) { return by(h, PC), answered(h, __real_ww_has_(h, lock)); }
 STEP(ww_close_, ww_handle *h) { return il_closes(), __real_ww_close_(h); }
 STEP(ww_next_wake_, ww_handle *h) { return check(h, sizeof *h, WRITES, PC), il_names(h, __real_ww_next_wake_(h), PC); }
 

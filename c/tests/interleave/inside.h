@@ -9,7 +9,7 @@
 
 enum { ALL = IL_THREADS + 1 }; /* thread 0 sets up and checks */
 enum { STACK = 1 << 15, ARENA = 1 << 18, DATA = 1 << 16, OWN = 1 << 10, OBJECTS = 1 << 13, DEPTH = 1 << 14 };
-enum { LATES = 8 };
+enum { LATES = 8, SEATS = 32 };
 
 struct clocks {
 	uint16_t of[ALL];
@@ -33,7 +33,6 @@ struct thread {
 	} late[LATES];
 	unsigned lates;
 	bool inside;	/* a guard, maybe, where it must not sleep */
-	uint32_t wants; /* the lock of its call */
 	void *specific;
 	char own[OWN]; /* what the library keeps for each thread */
 };

@@ -393,7 +393,6 @@ static void reset(void)
 		memset(it, 0, sizeof *it);
 		it->state = t && t <= il.count ? READY : ENDED;
 		it->hash = mix(t, 99);
-		it->wants = UINT32_MAX;
 		it->ran = (1u << ALL) - 1;
 		it->clocks.of[t] = 1;
 		memcpy(it->own, first_own, il.own_size);

@@ -55,6 +55,8 @@ void il_set(uint32_t *word);
 struct ww_acquire_ctx;
 void il_reads(unsigned k, const struct ww_acquire_ctx *x);
 void il_writes(unsigned k, const struct ww_acquire_ctx *x);
+/* A shared mutex is gone, or there again. */
+void il_hall(void);
 /* Which thread this is, from 1; 0 sets up and checks. */
 unsigned il_me(void);
 __attribute__((noreturn, format(printf, 1, 2))) void il_fail(const char *format, ...);

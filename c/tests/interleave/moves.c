@@ -16,7 +16,6 @@
 #include "inside.h"
 #include "ww_seat.h"
 
-enum { SEATS = 32 };
 static ww_seat *seats; /* of the class that was called last in this run; and how many */
 static unsigned seat_count;
 static uint32_t run;
@@ -24,7 +23,7 @@ static struct desk {
 	unsigned by;		/* the thread that called it last */
 	bool is_stepping;	/* a step is on its way, */
 	bool is_amid;		/* or a call that wants another one */
-	bool told;		/* to sleep, and hasn't risen */
+	bool told, was_told;	/* to sleep, and hasn't risen; and before the step that is on its way */
 } desks[SEATS];
 static uint32_t owed[ALL]; /* the seats to which a thread owes a token */
 
@@ -86,6 +85,7 @@ void il_calls(const ww_handle *h, const void *pc)
 	owes_no_token("makes a step");
 	il.from = NULL;
 	d->is_stepping = true;
+	d->was_told = d->told;
 	d->told = false;
 	d->by = il.current;
 }
@@ -99,7 +99,11 @@ void il_answers(const ww_handle *h, int32_t r)
 	d->told = r == WW_SLEEPS;
 }
 
-void il_looked(const ww_handle *h) { desk_of(h)->is_stepping = false; }
+void il_looked(const ww_handle *h)
+{
+	desk_of(h)->is_stepping = false;
+	desk_of(h)->told = desk_of(h)->was_told;
+}
 
 int32_t il_names(const ww_handle *h, int32_t k, const void *pc)
 {

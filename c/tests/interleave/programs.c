@@ -26,12 +26,13 @@
  *	T G	takes a number, if one is free (.: one is); puts back that taken last
  *	q	asks whether anybody has the number of m
  *	p P	puts the number of m, which is to be -EBUSY; which one thread is to have done
+ *	O	leaves it, and takes it again if it is free by then
  *	Where a program is NUMBERED all mutexes are known by their numbers.
  */
 #define _GNU_SOURCE
 #include "interleave.h"
 #include "ww_seat.h"
-#include "ww_number.h"
+#include "ww_shared.h"
 #include "ww_poll.h"
 #include <ctype.h>
 #include <stdio.h>
@@ -79,7 +80,7 @@ static bool numbered;
 static uint32_t numbers[3];
 static struct ww_acquire_ctx contexts[IL_THREADS + 1][2], *shared, *given;
 static unsigned holder[3];
-static bool put[IL_THREADS + 1];
+static bool put[IL_THREADS + 1], is_left;
 /* The numbers are so far apart. */
 enum { IN_A_LINE = 4 };
 static uint32_t heeding; /* how many begin contexts in a way that a cancel of the class ends */
@@ -215,6 +216,7 @@ void il_setup(const struct il_program *p)
 	mutexes = il_new(3 * sizeof *mutexes);
 	shared = il_new(sizeof *shared);
 	numbered = p->flags & NUMBERED;
+	is_left = false;
 	for (const char *at = p->flags & NUMBERED ? "" : p->flags & STATIC ? "ab" : "abm"; *at; at++)
 		if (names(p, (char[]){ *at, 0 }))
 			ww_mutex_init(mutex_of(*at), &c);
@@ -251,6 +253,7 @@ void il_check(const struct il_program *p)
 	for (unsigned k = 1; k <= IL_THREADS; k++)
 		for (unsigned i = 0; i < polls[k]; i++)
 			MUST(polled[k][i].calls == polled[k][i].due);
+	MUST(!is_left || !ww_number_take(&numbers[2], &c));
 	for (unsigned k = 0; numbered && k < 3; k++)
 		MUST(ww_number_put(numbers[k], &c) == (k == 2 && names(p, "P") ? -EINVAL : 0));
 	if (c.pool) {
@@ -635,6 +638,18 @@ static void destroy_beside(void)
 		MUST(!(numbered ? ww_number_take(&numbers[2], &c) : ww_mutex_init_checked(&mutexes[2], &c)));
 }
 
+/* The same of a number that is left: it comes free no sooner. */
+static void leave_beside(void)
+{
+	uint32_t number;
+	int r;
+
+	ww_number_leave(numbers[2], &c);
+	r = ww_number_take(&number, &c);
+	MUST(r ? r == -ENOSPC : number == numbers[2] && SEEN(happened[8]));
+	is_left = r;
+}
+
 static void free_class(void)
 {
 	int r;
@@ -677,7 +692,7 @@ static void end_context(struct user *u)
 }
 
 /* For m; of a number's count the highest bit says that it is taken. */
-static bool are_waiting(void) { return numbered ? SEEN(c.pool->numbered[numbers[2]].waiters) << 1 : SEEN(mutexes[2].waiters); }
+static bool are_waiting(void) { return numbered ? SEEN(c.pool->numbered[numbers[2]].mutex_.waiters) << 3 : SEEN(mutexes[2].waiters); }
 
 /* Or it was, but no longer: all leases are over. */
 static bool is_sought(void)
@@ -711,6 +726,7 @@ static void act(struct user *u, char what, const char *how)
 	case 'v': ww_class_stats(&c, &counts); MUST(counts.context_waits <= 8); break;
 	case 'T': take_number(u, strchr(how, '.')); break;
 	case 'G': put_number(u); break;
+	case 'O': leave_beside(); break;
 	case 'P': put[il_me()] = !ww_number_put(numbers[2], &c); break;
 	case 'q': (void)ww_number_is_locked(numbers[2], &c); break;
 	case 'p': MUST(ww_number_put(numbers[2], &c) == -EBUSY); break;
@@ -852,6 +868,9 @@ const struct il_program il_programs[] = {
 	{ "class-cancel-poll", { "na1~2A", "~1(3!yiaA2)", "~3C" }, CONTEXTS(4), 2 },
 	{ "class-cancel-poll-seek", { "(1~2)", "~13!yi()2", "~3C" }, CONTEXTS(1), 2 },
 	{ "class-cancel-tasks", { "y()yi()", "y()", "yi()C" }, TASKS, 2 },
+	{ "class-cancel-taken", { "(1~2)", "~1zi()", "~1!yi()2", "~1C" }, CONTEXTS(1), 1 },
+	{ "class-cancel-taken-on", { "(1~2)", "~1zi()", "~1!i()2", "~1C" }, CONTEXTS(1), 1 },
+	{ "class-cancel-tasks-on", { "y(1~3)", "y(2~3)", "~1~2!yi()3", "~1~2C" }, TASKS, 1 },
 	{ "deadline", { "(aA)(aA)", "(taA)" }, CONTEXTS(4), 3 },
 	{ "deadline-3", { "(aA)", "(taA)", "(aA)" }, CONTEXTS(4), 2 },
 	{ "deadline-alone", { "(aA)", "tnaA", "(aA)" }, CONTEXTS(2), 2 },
@@ -951,6 +970,7 @@ const struct il_program il_programs[] = {
 	{ "tasks-narrower-lent", { "y(1~2sN3)", "~1y(2~3)", "~2l()" }, TASKS, 1 },
 	{ "shared", { "(1)", "(~1)", "y()", "()" }, TASKS, 1 },
 	{ "shared-held", { "(1~2)", "~1(2)()", "~1y()y()", "~1()" }, TASKS | NARROW, 1 },
+	{ "shared-served", { "(1~4)", "~1y(2~3s)", "~1y(3~4)", "~2~3()4" }, TASKS, 1 },
 	{ "shared-soon", { "(1~2)", "(~1~2)", "~1[)2", "~1y()" }, TASKS, 1 },
 	{ "shared-hand", { "(1~2)", "~1y()2", "~1l()", "~1()()" }, HANDED | NARROW, 1 },
 	{ "numbers", { ".TG.TG", ".TG.TG" }, CONTEXTS(4), 3 },
@@ -961,6 +981,8 @@ const struct il_program il_programs[] = {
 	{ "number-put-waiter", { "(m1~2M)", "(~1m8M)", "~1w2dd" }, CONTEXTS(4) | NUMBERED, 2 },
 	{ "number-put-seeker", { "(1~2)", "~1nm8M", "~1sw2dd" }, CONTEXTS(1) | NUMBERED, 2 },
 	{ "number-puts", { "(mM)1P", "~1P" }, CONTEXTS(4) | NUMBERED, 3 },
+	{ "number-leave", { "(m18M)", "~1O" }, CONTEXTS(4) | NUMBERED, 3 },
+	{ "number-leave-waiter", { "(m1~2M)", "(~1m8M)", "~1w2O" }, CONTEXTS(4) | NUMBERED, 2 },
 	{ "number-again", { "P1.T~2~3G", "~1(mM)2", "~1(mM)3" }, CONTEXTS(4) | NUMBERED, 2 },
 	{ "number-look", { "(mM)", "q(mM)" }, CONTEXTS(4) | NUMBERED, 3 },
 	{ "number-look-3", { "(mM)", "q", "q" }, CONTEXTS(4) | NUMBERED, 3 },

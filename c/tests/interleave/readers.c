@@ -22,7 +22,7 @@
 #include "ww_context.h"
 #include "ww_shared.h"
 
-enum { SEATS = 32, MUTEXES = 2, WORD = 64, WORDS = 2 };
+enum { MUTEXES = 2, WORD = 64, WORDS = 2 };
 
 /* How far a context has come with reading a mutex. */
 enum progress { APART, HAS_MARK, FOUND_FREE, FOUND_BIT, READS };
@@ -137,14 +137,14 @@ static void look_at_desk(struct desk *d)
 static void is_made_or_gone(struct mutex *m)
 {
 	const struct ww_shared_mutex *at = m->at;
-	bool is_there = at->mutex_.pool == pool;
+	bool is_there = at->mutex_.pool == pool && (!is_of_number(&at->mutex_) || at->mutex_.waiters & IS_TAKEN);
 
 	if (is_there == m->is_there && (!is_there || m->number == at->mutex_.number))
 		return;
 	for (unsigned seat = 0; seat < SEATS; seat++)
 		ASK(m->progress[seat] != READS, "mutex %c is destroyed while seat %u reads it", name_of(m), seat);
 	*m = (struct mutex){ .at = at, .is_there = is_there, .number = at->mutex_.number, .bits = at->readers_ };
-	ASK(!is_there || !m->bits, "mutex %c is made with bits", name_of(m));
+	ASK(!is_there || !m->bits || is_of_number(&at->mutex_), "mutex %c is made with bits", name_of(m));
 }
 
 /* It had no marks until now, as is known to owners that read its list before. */
@@ -348,6 +348,8 @@ void il_steps(const void *pc)
 	is_hall(pc);
 	il.from = NULL;
 }
+
+void il_hall(void) { is_hall(NULL); }
 
 void il_finds_free(const ww_handle *h, uint32_t lock, const void *pc)
 {

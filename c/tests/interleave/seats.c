@@ -10,7 +10,6 @@
 #include "inside.h"
 #include "ww_seat.h"
 
-enum { SEATS = 32 };
 static uint64_t class_id; /* of the class that was open last; and of which run it was */
 static uint32_t run;
 static struct known {

@@ -8,7 +8,7 @@ use crate::{error, ffi, Error};
 use core::cell::UnsafeCell;
 use core::ffi::c_int;
 use core::hint;
-use core::mem::{self, ManuallyDrop, MaybeUninit};
+use core::mem::{ManuallyDrop, MaybeUninit};
 use core::ops::{Deref, DerefMut};
 use core::ptr;
 use core::sync::atomic::{AtomicBool, Ordering};
@@ -40,12 +40,10 @@ pub(super) struct Inside {
 pub(super) struct Rare {
     /// A lock call got `Deadlock`, so nothing is locked until all is released.
     pub(super) is_over: bool,
-    /// Where that was: it comes first from then on.
-    pub(super) contended: Option<Number>,
+    /// What comes first from then on: the mutex at which that was; or, where it was a shared one, who the library knows.
+    pub(super) contended: Option<Asked>,
     /// It came first, and nobody has asked for it yet.
     pub(super) prelocked: Option<Number>,
-    /// That was at a shared mutex, or at one who reads it: the library knows where.
-    pub(super) awaits: bool,
     pub(super) call: Call,
     /// Tasks whose lock calls come behind that one.
     pub(super) others: Vec<Waker>,
@@ -62,21 +60,22 @@ impl Rare {
         self.prelocked.take_if(|first| *first == number).is_some()
     }
 
-    /// The same of whatever is asked for: a shared mutex never comes so.
-    fn takes_asked(&mut self, asked: Asked) -> bool {
-        matches!(asked, Asked::Lock(number) if self.takes_first(number))
+    /// From now on this comes first.
+    fn comes_first(&mut self, contended: Asked) {
+        self.is_over = true;
+        self.contended = Some(contended);
     }
 }
 
-/// The one lock call that may be on its way.
+/// The one lock call that may be on its way: the library knows which one that is.
 #[derive(Default)]
 pub(super) enum Call {
     #[default]
     None,
-    /// It waits.
-    Waits(Asked, Lent),
-    /// The wait was ended, since a guard had to be released: what it returned, or nothing, if the call is to be made again.
-    Ended(Asked, Option<Result<(), Error>>),
+    /// It waits, with this waker; `None`: a panic came before there was another one.
+    Waits(Option<Lent>),
+    /// The wait was ended, since a guard had to be released: the call is to be made again.
+    Ended,
 }
 
 /// What is done when the context isn't used any more: wakers are other programs'.
@@ -214,17 +213,11 @@ impl Inside {
     pub(super) fn told(&mut self, asked: Asked, answer: c_int) -> Result<(), Error> {
         match -answer {
             0 => Ok(()),
-            ffi::EALREADY if self.rare().takes_asked(asked) => Ok(()),
             ffi::EALREADY => Err(Error::Duplicate),
             ffi::EDEADLK => {
-                match asked {
-                    Asked::Lock(number) => self.rare().contended = Some(number),
-                    _ => self.rare().awaits = true,
-                }
-                self.rare().is_over = true;
+                self.rare().comes_first(if matches!(asked, Asked::Lock(_)) { asked } else { Asked::Await });
                 Err(Error::Deadlock)
             }
-            ffi::EINTR => Err(Error::Cancelled),
             _ => Err(error::of_making(answer)),
         }
     }
@@ -235,97 +228,86 @@ impl Inside {
         unsafe { ffi::ww_poll_take_back(self.raw(), ptr::null_mut()).then(|| lent.back()) }
     }
 
-    /// No call is on its way any more that waits. Its waker, if that wasn't called.
+    /// No call is on its way any more that waits, and what one has acquired by then is released. Its waker, if that wasn't called.
     pub(super) fn end_wait(&mut self) -> Option<Waker> {
-        let Call::Waits(asked, lent) = self.rare.as_ref()?.call else { return None };
-        let back = self.take_back(lent);
-        // SAFETY: the call is on its way, and ends with this.
-        let told = match unsafe { asked.poll(self.raw(), ptr::null()) } {
-            answer if answer == -ffi::ETIMEDOUT => None,
-            answer => Some(self.told(asked, answer)),
-        };
-        self.rare().call = Call::Ended(asked, told);
+        let rare = self.rare.as_mut()?;
+        let Call::Waits(lent) = &mut rare.call else { return None };
+        let lent = lent.take();
+        rare.call = Call::Ended;
+        let back = lent.and_then(|lent| self.take_back(lent));
+        // SAFETY: the context has begun.
+        if unsafe { ffi::ww_acquire_end_wait(self.raw()) } == -ffi::EDEADLK {
+            self.rare().comes_first(Asked::Await);
+        }
         back
     }
 
     /// Acquires it if that can be at once.
     pub(super) fn tries(&mut self, number: Number) -> bool {
+        // SAFETY: the context has begun, and no call of it is on its way.
+        let tries = |inside: &mut Self| unsafe { ffi::ww_number_trylock(number.index(), inside.raw()) == 1 };
+        match self.rare.as_mut() {
+            None => tries(self),
+            Some(rare) => rare.is_free() && (rare.takes_first(number) || tries(self)),
+        }
+    }
+
+    /// The call, if it needn't wait; else `-ETIMEDOUT`.
+    #[inline]
+    pub(super) fn poll_once(&mut self, asked: Asked) -> c_int {
         if let Some(rare) = self.rare.as_mut() {
             if !rare.is_free() {
-                return false;
+                return -ffi::ETIMEDOUT;
             }
-            if rare.takes_first(number) {
-                return true;
+            if matches!(asked, Asked::Lock(number) if rare.takes_first(number)) {
+                return 0;
             }
         }
-        // SAFETY: the context has begun, and no call of it is on its way.
-        unsafe { ffi::ww_number_trylock(number.index(), self.raw()) == 1 }
+        // SAFETY: the number is one of the context's class, and no call is on its way.
+        unsafe { asked.poll_once(self.raw()) }
     }
 
     /// The lock call goes on, whose future this is, or begins.
-    pub(super) fn poll(
-        &mut self,
-        asked: Asked,
-        waker: &Waker,
-        first: Option<i32>,
-        later: &mut Later,
-    ) -> Poll<Result<(), Error>> {
-        let (mut lent, mut waits) = (None, false);
-        match mem::take(&mut self.rare().call) {
-            Call::Ended(_, Some(told)) => return Poll::Ready(told),
-            Call::Waits(_, old) => {
-                waits = true;
-                match self.take_back(old) {
-                    Some(back) if back.will_wake(waker) => lent = Some(Lent::lend(back)),
-                    back => later.back = back,
-                }
+    pub(super) fn poll(&mut self, asked: Asked, waker: &Waker, later: &mut Later) -> Poll<Result<(), Error>> {
+        let mut lent = None;
+        if let Call::Waits(old) = &mut self.rare().call {
+            match old.take().and_then(|old| self.take_back(old)) {
+                Some(back) if back.will_wake(waker) => lent = Some(Lent::lend(back)),
+                back => later.back = back,
             }
-            _ if self.is_over() => return Poll::Ready(Err(Error::Deadlock)),
-            // SAFETY: it has begun, and no call is on its way; others wait for this one until it is.
-            _ if unsafe { asked.is_duplicate(self.raw()) } => return Poll::Ready(Err(Error::Duplicate)),
-            _ => {}
+        } else if self.is_over() {
+            return Poll::Ready(Err(Error::Deadlock));
+        // SAFETY: it has begun, and no call is on its way; others wait for this one until it is.
+        } else if unsafe { asked.is_duplicate(self.raw()) } {
+            return Poll::Ready(Err(Error::Duplicate));
         }
-        let lent = lent.unwrap_or_else(|| {
-            let unarmed = Unarmed { inside: self, asked, first, waits };
-            let clone = waker.clone();
-            mem::forget(unarmed);
-            Lent::lend(clone)
-        });
+        // If the clone panics, the call is as it was, but for its waker.
+        let lent = lent.unwrap_or_else(|| Lent::lend(waker.clone()));
         // SAFETY: the context has begun; what is on its way is this call, or nothing.
-        let answer = unsafe { asked.poll_on(self.raw(), &raw const lent.0, first) };
+        let answer = unsafe { asked.poll(self.raw(), &raw const lent.0) };
         if answer == -ffi::EINPROGRESS {
-            self.rare().call = Call::Waits(asked, lent);
+            self.rare().call = Call::Waits(Some(lent));
             return Poll::Pending;
         }
+        self.rare().call = Call::None;
         // SAFETY: the library hasn't taken it.
         drop(unsafe { lent.back() });
         Poll::Ready(self.told(asked, answer))
     }
 
-    /// What the context has from its back-off; and what was forgotten, for which the library asks for each number. A lock
-    /// future that was forgotten may have left a call, whose waker this returns.
+    /// Whatever the context holds, also what was forgotten, for which the library asks for each number. A lock future that was
+    /// forgotten may have left a call, whose waker this returns.
     ///
     /// # Safety
     ///
     /// It has begun, and nobody has a guard of it any more.
     pub(super) unsafe fn release_all(&mut self) -> Option<Waker> {
         let back = self.end_wait();
-        let first = self.rare.as_mut().and_then(|rare| {
-            rare.call = Call::None;
-            rare.prelocked.take()
-        });
-        // SAFETY: as asked for here, and no call is on its way.
-        unsafe {
-            if let Some(first) = first {
-                ffi::unlock(first.index(), self.raw());
-            }
-            if self.held() != 0 {
-                ffi::ww_acquire_end_reads(self.raw());
-            }
-            if self.held() != 0 {
-                ffi::ww_number_unlock_all(self.raw());
-            }
+        if let Some(rare) = self.rare.as_mut() {
+            (rare.call, rare.prelocked) = (Call::None, None);
         }
+        // SAFETY: as asked for here.
+        unsafe { ffi::ww_acquire_unlock_all(self.raw()) };
         back
     }
 
@@ -347,34 +329,6 @@ impl Inside {
     unsafe fn end(&mut self) {
         // SAFETY: as asked for here.
         unsafe { ffi::ww_acquire_fini(self.raw()) };
-    }
-}
-
-/// A call whose waker is being cloned, by other programs' code. If that panics, this ends the call, of which nobody knows.
-struct Unarmed<'i> {
-    inside: &'i mut Inside,
-    asked: Asked,
-    /// What its first step returned.
-    first: Option<i32>,
-    /// It is on its way.
-    waits: bool,
-}
-
-impl Drop for Unarmed<'_> {
-    #[cold]
-    fn drop(&mut self) {
-        if self.first.is_none() && !self.waits {
-            return;
-        }
-        let raw = self.inside.raw();
-        // SAFETY: the context has begun, and the call is on its way, and ends with this; then it may have acquired the mutex.
-        unsafe {
-            match self.asked.poll_on(raw, ptr::null(), self.first) {
-                0 => self.asked.undo(raw),
-                answer if answer == -ffi::EDEADLK => drop(self.inside.told(self.asked, answer)),
-                _ => {}
-            }
-        }
     }
 }
 

@@ -1,10 +1,10 @@
 //! Lock calls and guards.
 
-use super::inner::{Call, Entered, Inner, Later, Rare};
+use super::inner::{Call, Entered, Inner, Later};
 use super::shared::Asked;
 use crate::events::{Event, Wait, Watch};
-use crate::number::Number;
 use crate::{ffi, Class, Error, Mutex};
+use core::ffi::c_int;
 use core::fmt;
 use core::future::Future;
 use core::marker::PhantomData;
@@ -28,39 +28,24 @@ impl<'x> Acquire<'x> {
     }
 
     #[inline]
-    pub(super) fn poll(&mut self, number: Number, waker: &Waker) -> Poll<Result<(), Error>> {
+    pub(super) fn poll(&mut self, asked: Asked, waker: &Waker) -> Poll<Result<(), Error>> {
         let mut inside = self.inner.enter();
-        let mut first = None;
-        if inside.rare.is_none() {
-            // SAFETY: the number is one of the context's class, and no call is on its way.
-            match unsafe { ffi::try_first(number.index(), inside.raw()) } {
-                Ok(()) => return Poll::Ready(Ok(())),
-                Err(r) => first = r,
-            }
+        match inside.poll_once(asked) {
+            0 => Poll::Ready(Ok(())),
+            answer => self.poll_on(inside, asked, answer, waker),
         }
-        self.poll_on(inside, Asked::Lock(number), waker, first)
     }
 
-    /// Another call than a lock.
-    pub(super) fn poll_shared(&mut self, asked: Asked, waker: &Waker) -> Poll<Result<(), Error>> {
-        let inside = self.inner.enter();
-        self.poll_on(inside, asked, waker, None)
-    }
-
+    /// Once a first look has returned this.
     #[cold]
-    fn poll_on(
-        &mut self,
-        mut inside: Entered<'_>,
-        asked: Asked,
-        waker: &Waker,
-        mut first: Option<i32>,
-    ) -> Poll<Result<(), Error>> {
-        if let (true, Asked::Lock(number)) = (inside.rare.as_ref().is_some_and(Rare::is_free), asked) {
-            // SAFETY: as in `poll`.
-            match unsafe { ffi::try_first(number.index(), inside.raw()) } {
-                Ok(()) => return Poll::Ready(Ok(())),
-                Err(r) => first = r,
-            }
+    fn poll_on(&mut self, inside: Entered<'_>, asked: Asked, answer: c_int, waker: &Waker) -> Poll<Result<(), Error>> {
+        // In this order: a panic leaves the context before it drops a waker, which may use it.
+        let mut later = Later::default();
+        let mut inside = inside;
+        if answer != -ffi::ETIMEDOUT {
+            let told = Poll::Ready(inside.told(asked, answer));
+            drop(inside);
+            return self.tell(told);
         }
         let rare = inside.rare();
         if !self.is_under_way && !matches!(rare.call, Call::None) {
@@ -69,8 +54,7 @@ impl<'x> Acquire<'x> {
             }
             return Poll::Pending;
         }
-        let mut later = Later::default();
-        let told = inside.poll(asked, waker, first, &mut later);
+        let told = inside.poll(asked, waker, &mut later);
         self.is_under_way = told.is_pending();
         if told.is_ready() {
             later.others = mem::take(&mut inside.rare().others);
@@ -78,21 +62,21 @@ impl<'x> Acquire<'x> {
         drop(inside);
         drop(later.back.take()); // The task runs, and has another one.
         later.wake();
-        if let Some(hook) = self.inner.class.hook() {
-            self.tell(hook, told);
-        }
-        told
+        self.tell(told)
     }
 
-    #[cold]
-    fn tell(&mut self, hook: fn(Event), told: Poll<Result<(), Error>>) {
-        match told {
-            Poll::Pending => self.watch.begins(Some(hook), Wait::Mutex),
-            Poll::Ready(told) => self.watch.ends(told),
+    /// Tells the class's hook of it.
+    fn tell(&mut self, told: Poll<Result<(), Error>>) -> Poll<Result<(), Error>> {
+        if let Some(hook) = self.inner.class.hook() {
+            match told {
+                Poll::Pending => self.watch.begins(Some(hook), Wait::Mutex),
+                Poll::Ready(told) => self.watch.ends(told),
+            }
+            if told == Poll::Ready(Err(Error::Deadlock)) {
+                hook(Event::BackedOff);
+            }
         }
-        if told == Poll::Ready(Err(Error::Deadlock)) {
-            hook(Event::BackedOff);
-        }
+        told
     }
 }
 
@@ -106,18 +90,14 @@ impl Drop for Acquire<'_> {
 }
 
 impl Acquire<'_> {
-    /// It is dropped under way: the call ends, and what it acquired all the same is released.
+    /// It is dropped under way: the call ends, and has acquired nothing.
     #[cold]
     fn stop(&mut self) {
         let mut inside = self.inner.enter();
         let back = inside.end_wait();
         let rare = inside.rare();
-        let (call, others) = (mem::take(&mut rare.call), mem::take(&mut rare.others));
-        if let Call::Ended(asked, Some(Ok(()))) = call {
-            // SAFETY: the context holds it, no call is on its way, and nobody gets a guard of it.
-            unsafe { asked.undo(inside.raw()) };
-        }
-        let later = Later { back: None, others };
+        rare.call = Call::None;
+        let later = Later { back: None, others: mem::take(&mut rare.others) };
         drop(inside);
         drop(back);
         later.wake();
@@ -139,7 +119,7 @@ impl<'x, C: Class, T: ?Sized> Future for Lock<'x, C, T> {
     fn poll(mut self: Pin<&mut Self>, cx: &mut core::task::Context<'_>) -> Poll<Self::Output> {
         let (mutex, inner) = (self.mutex, self.acquire.inner);
         let number = mutex.number(inner.class)?;
-        self.acquire.poll(number, cx.waker()).map(|told| told.map(|()| Guard::of(mutex, inner)))
+        self.acquire.poll(Asked::Lock(number), cx.waker()).map(|told| told.map(|()| Guard::of(mutex, inner)))
     }
 }
 
@@ -157,7 +137,7 @@ impl<'x, C: Class, T: ?Sized> Future for LockArc<'x, C, T> {
     fn poll(mut self: Pin<&mut Self>, cx: &mut core::task::Context<'_>) -> Poll<Self::Output> {
         let inner = self.acquire.inner;
         let number = self.mutex.number(inner.class)?;
-        let told = self.acquire.poll(number, cx.waker());
+        let told = self.acquire.poll(Asked::Lock(number), cx.waker());
         told.map(|told| told.map(|()| ArcGuard { mutex: self.mutex.clone(), inner, value: PhantomData }))
     }
 }

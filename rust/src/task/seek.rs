@@ -7,7 +7,6 @@ use core::cell::UnsafeCell;
 use core::marker::PhantomPinned;
 use core::mem::MaybeUninit;
 use core::pin::Pin;
-use core::ptr;
 use core::task::{Poll, Waker};
 
 /// A wait for a context: it stays where it is until it is dropped.
@@ -71,14 +70,8 @@ impl Drop for Seek {
             return;
         }
         let back = self.take_back();
-        let raw = self.raw.get().cast();
-        // SAFETY: a wait is on its way, which ends with this; where a context was given first, that ends, too, and
-        // somebody else gets it.
-        unsafe {
-            if ffi::ww_acquire_init_poll(raw, self.class.get(), self.inside.get(), ptr::null()) == 0 {
-                ffi::ww_acquire_fini(raw);
-            }
-        }
+        // SAFETY: a wait is on its way, which ends with this; where a context was given first, somebody else gets it.
+        unsafe { ffi::ww_seek_end(self.inside.get()) };
         drop(back);
     }
 }

@@ -12,48 +12,53 @@ use core::marker::PhantomData;
 use core::ops::{Deref, DerefMut};
 use core::ptr;
 
-/// What a call asks for: a mutex, or with the word beside its number a shared one; or that what a call collided with there is
-/// through, which acquires nothing.
+/// What a call asks for: a mutex, or to read or to write a shared one; or that what a call collided with is through, which
+/// acquires nothing.
 #[derive(Clone, Copy)]
 pub(super) enum Asked {
     Lock(Number),
-    Read(Number, *mut u64),
-    Write(Number, *mut u64),
+    Read(Number),
+    Write(Number),
     Await,
 }
 
 impl Asked {
+    /// Makes the call.
+    ///
     /// # Safety
     ///
-    /// The context has begun; what is on its way is this call, or nothing. The word is there as long as the call is.
+    /// The context has begun; what is on its way is this call, or nothing.
     pub(super) unsafe fn poll(self, raw: *mut ffi::ww_acquire_ctx, waker: *const ffi::ww_waker) -> c_int {
         // SAFETY: as asked for here.
         unsafe {
             match self {
                 Asked::Lock(number) => ffi::ww_number_lock_poll(number.index(), raw, waker),
-                Asked::Read(number, word) => ffi::ww_number_lock_shared_poll(number.index(), word, raw, waker),
-                Asked::Write(number, word) => ffi::ww_number_lock_exclusive_poll(number.index(), word, raw, waker),
+                Asked::Read(number) => ffi::ww_number_lock_shared_poll(number.index(), raw, waker),
+                Asked::Write(number) => ffi::ww_number_lock_exclusive_poll(number.index(), raw, waker),
                 Asked::Await => ffi::ww_shared_mutex_await_poll(raw, waker),
             }
         }
     }
 
-    /// The same, if the first step of a lock was made already, and returned this.
+    /// What the call returns if it needn't wait; else `-ETIMEDOUT`.
     ///
     /// # Safety
     ///
-    /// As above.
-    pub(super) unsafe fn poll_on(
-        self,
-        raw: *mut ffi::ww_acquire_ctx,
-        waker: *const ffi::ww_waker,
-        first: Option<i32>,
-    ) -> c_int {
+    /// The context has begun, and no call of it is on its way.
+    #[inline]
+    pub(super) unsafe fn poll_once(self, raw: *mut ffi::ww_acquire_ctx) -> c_int {
         // SAFETY: as asked for here.
         unsafe {
-            match (self, first) {
-                (Asked::Lock(number), Some(r)) => ffi::ww_number_lock_poll_further_(number.index(), raw, waker, r),
-                _ => self.poll(raw, waker),
+            match self {
+                Asked::Lock(number) => {
+                    if ffi::locks_at_once(number.index(), raw) {
+                        0
+                    } else {
+                        -ffi::ETIMEDOUT
+                    }
+                }
+                _ if self.is_duplicate(raw) => -ffi::EALREADY,
+                _ => self.poll(raw, ptr::null()),
             }
         }
     }
@@ -65,60 +70,16 @@ impl Asked {
     /// The context has begun, and no call of it is on its way.
     pub(super) unsafe fn is_duplicate(self, raw: *mut ffi::ww_acquire_ctx) -> bool {
         // SAFETY: as asked for here.
-        matches!(self, Asked::Write(number, _) if unsafe { ffi::ww_number_is_read(number.index(), raw) })
-    }
-
-    /// Nobody gets what it has acquired. A read ends with the others.
-    ///
-    /// # Safety
-    ///
-    /// The call has returned 0, and none is on its way.
-    pub(super) unsafe fn undo(self, raw: *mut ffi::ww_acquire_ctx) {
-        if let Asked::Lock(number) | Asked::Write(number, _) = self {
-            // SAFETY: as asked for here.
-            unsafe { ffi::unlock(number.index(), raw) };
-        }
+        matches!(self, Asked::Write(number) if unsafe { ffi::ww_number_is_read(number.index(), raw) })
     }
 }
 
 impl Inner {
-    /// The call, which needs no waker where it needn't wait.
-    async fn asks(&self, asked: Asked) -> Result<(), Error> {
-        {
-            let mut inside = self.enter();
-            if inside.rare.is_none() {
-                // SAFETY: the context has begun, no call is on its way, and the word is borrowed by the future. Without a waker it
-                // doesn't wait.
-                let answer = unsafe {
-                    if asked.is_duplicate(inside.raw()) {
-                        -ffi::EALREADY
-                    } else {
-                        asked.poll(inside.raw(), ptr::null())
-                    }
-                };
-                if answer != -ffi::ETIMEDOUT {
-                    return inside.told(asked, answer);
-                }
-            }
-        }
-        self.awaits(asked).await
-    }
-
-    async fn awaits(&self, asked: Asked) -> Result<(), Error> {
+    pub(super) async fn asks(&self, asked: Asked) -> Result<(), Error> {
         let mut acquire = Acquire::new(self);
-        poll_fn(|cx| acquire.poll_shared(asked, cx.waker())).await
-    }
-
-    /// After `Deadlock` at a shared mutex, and once all is released: waits for what the context collided with.
-    pub(super) async fn awaits_others(&self) -> Result<(), Error> {
-        self.awaits(Asked::Await).await
+        poll_fn(|cx| acquire.poll(asked, cx.waker())).await
     }
 }
-
-// SAFETY: the address is that of a word that any thread may use.
-unsafe impl Send for Asked {}
-// SAFETY: as above.
-unsafe impl Sync for Asked {}
 
 impl<C: Class> Tx<C> {
     /// Reads it, beside other transactions that do, and waits while one writes it; as [`Tx::read`](crate::Tx::read).
@@ -151,8 +112,7 @@ impl<C: Class> Tx<C> {
     ) -> impl Future<Output = Result<&'x T, Error>> + use<'x, C, T> {
         place::said();
         async {
-            let asked = Asked::Read(mutex.number(self.inner.class)?, mutex.readers());
-            self.inner.asks(asked).await?;
+            self.inner.asks(Asked::Read(mutex.number(self.inner.class)?)).await?;
             // SAFETY: the context reads it as long as `'x` may last, and while it does nobody has `&mut T`: another context can't
             // write it, nor this one (`Duplicate`).
             Ok(unsafe { &*mutex.value() })
@@ -176,7 +136,7 @@ impl<C: Class> Tx<C> {
         place::said();
         async {
             let number = mutex.number(self.inner.class)?;
-            self.inner.asks(Asked::Write(number, mutex.readers())).await?;
+            self.inner.asks(Asked::Write(number)).await?;
             Ok(SharedGuard { mutex, index: number.index(), inner: &self.inner, value: PhantomData })
         }
     }

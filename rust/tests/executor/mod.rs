@@ -252,7 +252,7 @@ impl Wake for Flag {
 }
 
 /// Once, by this waker.
-pub fn poll<F: Future>(future: Pin<&mut F>, flag: &Arc<Flag>) -> Poll<F::Output> {
+pub fn poll<F: Future + ?Sized>(future: Pin<&mut F>, flag: &Arc<Flag>) -> Poll<F::Output> {
     flag.clear();
     future.poll(&mut Context::from_waker(&Waker::from(Arc::clone(flag))))
 }
