@@ -27,14 +27,15 @@ _Static_assert(offsetof(ww_seat, handle) == 0, "a seat begins with its handle");
 
 /*
  * How long a call stays awake.  Who waits for longer than a sleep and a wake-up take had better have slept, and who
- * sleeps at once pays at most twice: A_SLEEP is about that long, where processors don't sleep deeply, and SHORTEST the
+ * sleeps at once pays at most twice: A_SLEEP is about that long where threads outnumber processors, so that these don't
+ * sleep deeply, and ALONE where each thread has one of its own, which sleeps while its thread does.  SHORTEST is the
  * least part of it that shows whether waits have become short again.  Times are in nanoseconds.
  */
 #ifndef WW_AWAKE
 #define WW_AWAKE 20000
 #define WW_LOOKS 16
 #endif
-enum { A_SLEEP = WW_AWAKE, SHORTEST = A_SLEEP / 4 };
+enum { A_SLEEP = WW_AWAKE, ALONE = 5 * A_SLEEP, SHORTEST = A_SLEEP / 4 };
 /* A wait that takes LONGER times as long as those before it is seldom over soon; these are the last 8 or so. */
 enum { LONGER = 16, REMEMBERS = 8 };
 /*
@@ -66,10 +67,12 @@ void ww_pause(unsigned count)
 
 void ww_futex_wait(uint32_t *word, uint32_t is, const struct timespec *until)
 {
-	syscall(SYS_futex, word, FUTEX_WAIT_BITSET_PRIVATE, is, ww_debug_sleeps(until), NULL, FUTEX_BITSET_MATCH_ANY);
+	if (!syscall(SYS_futex, word, FUTEX_WAIT_BITSET_PRIVATE, is, ww_debug_sleeps(until), NULL, FUTEX_BITSET_MATCH_ANY) ||
+	    errno != EAGAIN)
+		ww_mine.sleeps++;
 }
 
-void ww_futex_wake(uint32_t *word) { syscall(SYS_futex, word, FUTEX_WAKE_PRIVATE, 1, NULL, NULL, 0); }
+void ww_futex_wake(uint32_t *word, int many) { syscall(SYS_futex, word, FUTEX_WAKE_PRIVATE, many, NULL, NULL, 0); }
 
 bool ww_has_come(const struct timespec *until)
 {
@@ -169,7 +172,7 @@ bool ww_disarm(ww_seat *s)
 static void wake_thread(void *nothing, void *token)
 {
 	(void)nothing;
-	ww_futex_wake(token);
+	ww_futex_wake(token, 1);
 }
 
 /*
@@ -226,24 +229,24 @@ void ww_wake(ww_seat *s)
  * How long this thread stays awake in a wait, by how long its last ones took: those of which a sleep would have been
  * longer.
  */
-static uint64_t patience(void)
+static uint64_t patience(const struct ww_pool *p)
 {
-	uint64_t enough = SHORTEST + LONGER * ww_mine.usual;
+	uint64_t enough = SHORTEST + LONGER * ww_mine.usual, most = has_processors(p) ? ALONE : A_SLEEP;
 
-	return enough < A_SLEEP ? enough : A_SLEEP;
+	return enough < most ? enough : most;
 }
 
-void ww_begin_wait(struct ww_wait *wait)
+void ww_begin_wait(const ww_seat *s, struct ww_wait *wait)
 {
 	wait->from = ww_now();
-	wait->awake = wait->polls ? 0 : wait->from + patience();
+	wait->awake = wait->polls ? 0 : wait->from + patience(s->pool);
 }
 
 void ww_end_wait(ww_seat *s, const struct ww_wait *wait)
 {
 	uint64_t now = ww_now(), took = now - wait->from;
 
-	ww_mine.usual += (took < A_SLEEP ? took : 0) / REMEMBERS - ww_mine.usual / REMEMBERS;
+	ww_mine.usual += (took < ALONE ? took : 0) / REMEMBERS - ww_mine.usual / REMEMBERS;
 	ww_has_waited(s->pool, now, took);
 }
 
@@ -267,12 +270,15 @@ static bool is_in_cycle(ww_seat *s, int32_t seen)
 
 /*
  * Whether it is of no use to try a lock further, of which this was seen: this context has to die, which it does in the
- * list; or its wait is one of a cycle, which it ends there, as it wounds the owner, or dies.
+ * list; or its wait is one of a cycle, which it ends there, as it wounds the owner, or dies.  Or nobody owns the lock, and
+ * who waits for it was woken, but may come by only when it gets a processor: then this one takes it, inside the guard.
  */
 static bool has_to_queue(ww_seat *s, int32_t seen)
 {
 	int32_t ends = s->pool->class_->is_wait_die ? WW_OLDER_ : WW_YOUNGER_;
 
+	if (seen == WW_NOBODY_)
+		return is_short_of_processors(s->pool);
 	return seen & OWNER && (ww_is_wounded_(&s->handle) || (seen & ends && is_in_cycle(s, seen)));
 }
 

@@ -17,17 +17,14 @@
 
 /*
  * If a class says no number of contexts: how many it has besides those that threads may keep, how many these are, and
- * how many of the others tasks may have, at first for each processor, and at most.  In the search of schedules there
- * are few.
+ * how many of the others tasks may have at most.  In the search of schedules there are few.
  */
 #ifndef WW_FEW
-enum { MANY_CONTEXTS = 1024, MANY_KEPT = 256, EACH_TASKS = 2, MANY_TASKS = 896 };
+enum { MANY_CONTEXTS = 1024, MANY_KEPT = 256, MANY_TASKS = 896 };
 #else
-enum { MANY_CONTEXTS = WW_FEW + 1, MANY_KEPT = WW_FEW, EACH_TASKS = WW_FEW, MANY_TASKS = WW_FEW };
+enum { MANY_CONTEXTS = WW_FEW + 1, MANY_KEPT = WW_FEW, MANY_TASKS = WW_FEW };
 #endif
-/* So many contexts of tasks are counted at least: those that await a timer take long, and differ little. */
-enum { COUNTED = 32 };
-/* One more seat, which no context has: see ww_is_released. */
+/* One more seat, which no context has: see ww_look_from_outside. */
 enum { SPARE = 1 };
 
 pthread_mutex_t ww_opening = PTHREAD_MUTEX_INITIALIZER;
@@ -189,16 +186,20 @@ static void keep_memory(struct ww_pool *p)
 /* The queues of a class that is opened, which nobody uses yet. */
 static void open_seats_of(struct ww_pool *p)
 {
-	uint32_t first = EACH_TASKS * ww_processors();
 	struct ww_seats *tasks = &p->tasks;
 
+#ifndef WW_FEW
+	p->processors = ww_processors();
+#else
+	p->processors = 1;
+#endif
 	p->threads.count = (p->class_->contexts ? p->class_->contexts : MANY_CONTEXTS) + p->may_keep;
 	tasks->count = p->class_->contexts ? 0 : MANY_TASKS;
 	p->threads.limit = p->threads.count - tasks->count;
-	tasks->limit = first < tasks->count ? first : tasks->count;
+	ww_open_gate(tasks);
+	tasks->limit = tasks->gate.width;
 	tasks->sum = tasks->called = 0;
 	__atomic_store_n(&tasks->due, 0, __ATOMIC_RELAXED);
-	ww_gate_open(&tasks->gate, 1, first, tasks->count / 2, tasks->count, COUNTED);
 	__atomic_store_n(&p->threads.sought, 0, __ATOMIC_RELAXED);
 	__atomic_store_n(&tasks->sought, 0, __ATOMIC_RELAXED);
 }

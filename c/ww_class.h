@@ -33,13 +33,14 @@
  *	first end	seats		likewise						contexts-in-turn
  *	limit due gate begun sum	seats	who gives a seat while tasks wait, under `queue`	tasks-wider
  *	served_ seat_ waker_	seek	likewise						poll-contexts-end
- *	waiting		crowd		who stands in the line for a permit, and who began		crowd-free
+ *	waiting		crowd		who waits for a permit, and who began			crowd-free
+ *	calls		crowd		who calls those that wait, under its lock		class-cancel-permit
  *	begun		crowd		who begins contexts					crowd-checked
  *	rests due	crowd		who looks at it, under its lock; others read it		crowd-ends
- *	permits gate holds awaited rest	crowd	likewise						crowd-line-kept
- *	seat ends	permit		likewise						crowd-stale
- *	first next	crowd		who stands in the line, likewise				crowd-leaves
- *	is_called	in_line		itself, and who calls it, likewise				class-cancel-line
+ *	permits gate awaited rest	crowd	likewise					crowd-waits-kept
+ *	since held waited	crowd	who puts a permit back, likewise			mutex_crowd
+ *	seat ends	permit		who takes it and puts it back, likewise		crowd-stale
+ *	came went	crowd		who waits for a permit, likewise			crowd-waits
  *	awaits		seat		its user						ring
  *	readers_	shared mutex	each that reads it, and who writes it: see ww_shared.c	read-write
  *	marks		desk		who has it: likewise					again
@@ -140,6 +141,7 @@ struct ww_pool {
 	uint64_t copy;	  /* of the copy of the library that opened it: see ww_class.c */
 	uint32_t kept, may_keep; /* how many of its seats threads keep, and may; changed under the lock `ww_opening` */
 	uint32_t changed;	 /* how often that changed */
+	uint32_t processors;	 /* how many threads run at a time, of those that opened the class */
 	bool gone; /* it was opened before a fork, and this is the child */
 	bool is_large; /* it has had so many mutexes that they and what they guard don't stay in a processor's cache */
 	struct ww_pool *next;
@@ -190,10 +192,16 @@ struct ww_mine {
 		uint64_t ends;		/* its lease; 0: it goes on without one */
 		uint64_t seen, brief;	/* when it last read the clock; and if that was so recently, it needn't soon */
 		uint32_t at_once;	/* how many contexts it begins until it reads the clock */
-		uint32_t begun;		/* and how many it has begun since it counted them */
+		uint32_t begun, told;	/* how many it has begun in this lease, and of how many the crowd knows */
+		uint64_t waited;	/* for how long it has waited for locks meanwhile */
+		uint64_t ran;		/* for how long it had had a processor by the begin of that */
 	} permit;
 	uint64_t usual;		 /* how long its waits last: see ww.c */
 	uint64_t waited, counted; /* the sum of its waits, since then: see ww_crowd.c */
+	uint32_t sleeps;	 /* how often it slept in this library; */
+	uint64_t ran;		 /* for how long it had had a processor at the last look */
+	uint32_t elsewhere;	 /* and elsewhere, plus 1, at the last look, or 0 */
+	int awake;		 /* since how many looks it hasn't slept elsewhere, less AWAKE if it ever did */
 };
 WW_HIDDEN extern __thread struct ww_mine ww_mine __attribute__((tls_model("initial-exec")));
 
@@ -300,14 +308,10 @@ WW_HIDDEN int ww_number_at_first(struct ww_mutex *m);
 /* NULL if it isn't initialized. */
 WW_HIDDEN struct ww_class *ww_class_of(const struct ww_mutex *m);
 
-/* The mutex has its number from now on; and where that lies which has a number: relaxed, since who holds it comes after that. */
-static inline void lies_here(struct ww_pool *p, struct ww_mutex *m)
+/* This mutex has the number from now on, or none; and which one has it: relaxed, since who holds it comes after that. */
+static inline void lies_at(struct ww_pool *p, uint32_t number, struct ww_mutex *m)
 {
-	__atomic_store_n(&p->lies_at[m->number], m, __ATOMIC_RELAXED);
-}
-static inline void lies_nowhere(struct ww_pool *p, const struct ww_mutex *m)
-{
-	__atomic_store_n(&p->lies_at[m->number], NULL, __ATOMIC_RELAXED);
+	__atomic_store_n(&p->lies_at[number], m, __ATOMIC_RELAXED);
 }
 static inline struct ww_mutex *mutex_with(const struct ww_pool *p, uint32_t number)
 {
@@ -335,17 +339,23 @@ static inline void count(uint64_t *counted)
 }
 
 /* How many threads wait for a permit. Who frees the class at 0 sees the seats of those that did. */
-static inline uint32_t permit_seekers(const struct ww_pool *p)
-{
-	return __atomic_load_n(&p->crowd.waiting, __ATOMIC_ACQUIRE);
-}
+static inline uint32_t permit_seekers(const struct ww_pool *p) { return __atomic_load_n(&p->crowd.waiting, __ATOMIC_ACQUIRE); }
 
 static inline void ww_has_begun(struct ww_pool *p) { __atomic_sub_fetch(&p->crowd.waiting, 1, __ATOMIC_RELEASE); }
 
-static inline bool is_crowded(const struct ww_pool *p)
+/* Each thread that uses the class has a processor, as far as the seats tell that threads keep. */
+static inline bool has_processors(const struct ww_pool *p)
 {
-	return __atomic_load_n(&p->at_hand, __ATOMIC_RELAXED) == CROWDED;
+	return p->may_keep && __atomic_load_n(&p->kept, __ATOMIC_RELAXED) <= p->processors;
 }
+
+/* More threads use the class than run at a time, so one that is woken may not run for long. */
+static inline bool is_short_of_processors(const struct ww_pool *p)
+{
+	return __atomic_load_n(&p->kept, __ATOMIC_RELAXED) > p->processors;
+}
+
+static inline bool is_crowded(const struct ww_pool *p) { return __atomic_load_n(&p->at_hand, __ATOMIC_RELAXED) == CROWDED; }
 
 /* Whether this thread begins one more context with its permit, without a look at the clock. */
 static inline bool has_permit(const struct ww_pool *p)

@@ -6,11 +6,6 @@
 #define WW_NO_INLINE /* As ww_mutex.c. */
 #include "ww_context.h"
 
-static const char *reason_at_begin(int r)
-{
-	return r == -ENOSPC ? "it has begun as many contexts as it may" : reason_of(r);
-}
-
 /*
  * Relaxed: a thread that cancels the context that was here before may read these, and nothing is ordered by what it
  * reads.
@@ -121,7 +116,7 @@ static __attribute__((noinline)) void init_else(struct ww_acquire_ctx *x, struct
 	if (LIKELY(s))
 		begin_for_certain(x, p, s);
 	else if ((r = begin(x, c, NULL, false)))
-		end_of(c, "ww_acquire_init", reason_at_begin(r));
+		end_of(c, "ww_acquire_init", r == -ENOSPC ? "it has begun as many contexts as it may" : reason_of(r));
 }
 
 void ww_acquire_init(struct ww_acquire_ctx *x, struct ww_class *c)
@@ -243,5 +238,5 @@ bool ww_mutex_is_held_by(const struct ww_mutex *m, const struct ww_acquire_ctx *
 	const ww_seat *s = x ? __atomic_load_n(&x->own, __ATOMIC_RELAXED) : seat_of(m);
 	bool says_so = s && (x ? holder_of(m) == x : __atomic_load_n(&s->user, __ATOMIC_RELAXED) == ww_mine.thread);
 
-	return says_so && pool_at(m) == s->pool && ww_owner(s->pool, m) == place_among(s);
+	return says_so && pool_at(m) == s->pool && owner_in(ww_look_from_outside(s->pool, m)) == place_among(s);
 }

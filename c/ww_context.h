@@ -13,10 +13,7 @@
  * holder's accesses before the next one's, and for all others what they read is a hint.  `alone` leads others into the
  * seat.
  */
-static inline struct ww_acquire_ctx *holder_of(const struct ww_mutex *m)
-{
-	return __atomic_load_n(&m->ctx, __ATOMIC_RELAXED);
-}
+static inline struct ww_acquire_ctx *holder_of(const struct ww_mutex *m) { return __atomic_load_n(&m->ctx, __ATOMIC_RELAXED); }
 
 /* The seat by which it is held without a context, or NULL: anything else that lies there is even. */
 static inline ww_seat *seat_of(const struct ww_mutex *m)
@@ -156,24 +153,21 @@ WW_HIDDEN bool ww_owns(ww_seat *s, uint32_t number);
 static inline bool sits(const struct ww_acquire_ctx *x) { return x->own->desk && holder_of(&x->own->desk->mutex); }
 
 /*
- * What a context is to a mutex: its poll asks for that; it owes it to the body of its loop; it holds it, so of a shared one it
- * writes; it reads it.  Of these facts it tells those that are asked `of`, to the thread that uses the context.
+ * Whether the context reads the mutex; whether it has it, which it may owe to the body of its loop; and whether it holds it,
+ * so of a shared one it writes.  What its poll asks for it has not.  They are asked by the thread that uses the context.
  */
-enum { ASKS_FOR_IT = 1, OWES_IT = 2, HAS_IT = 4, READS_IT = 8 };
-static inline unsigned relation(const struct ww_acquire_ctx *x, const struct ww_mutex *m, unsigned of)
+static inline bool reads_it(const struct ww_acquire_ctx *x, const struct ww_mutex *m)
 {
-	unsigned is = 0;
-
-	if (!x->own || pool_at(m) != x->own->pool)
-		return 0;
-	if (of & READS_IT && sits(x) && has_mark(x->own->desk, m->number))
-		is = READS_IT;
-	if (is_polled(x) && x->call.of == m)
-		return is | ASKS_FOR_IT;
-	if (!(of & (HAS_IT | OWES_IT)) || !(says_whose(m, x) ? holder_of(m) == x : ww_owns(x->own, m->number)))
-		return is;
-	return is | (owes_it(x, m) ? OWES_IT : HAS_IT);
+	return fits(m, x) && sits(x) && has_mark(x->own->desk, m->number);
 }
+static inline bool has_it(const struct ww_acquire_ctx *x, const struct ww_mutex *m)
+{
+	/* who writes the mutex, and asks to read it, still has it while it waits for its own desk */
+	if (!fits(m, x) || (is_polled(x) && x->call.of == m && (x->call.what != TO_READ || x->polled == m)))
+		return false;
+	return says_whose(m, x) ? holder_of(m) == x : ww_owns(x->own, m->number);
+}
+static inline bool holds_it(const struct ww_acquire_ctx *x, const struct ww_mutex *m) { return has_it(x, m) && !owes_it(x, m); }
 
 /* ---- of ww_context.c ---- */
 
@@ -205,9 +199,12 @@ WW_HIDDEN int ww_admit(const char *name, enum lock_call call, struct ww_mutex *m
 WW_HIDDEN int ww_lock_as(struct ww_mutex *m, struct ww_acquire_ctx *x, const struct ww_wait *how);
 /* The same for a lock that comes first after -EDEADLK. */
 WW_HIDDEN int ww_lock_slowly(struct ww_mutex *m, struct ww_acquire_ctx *x, struct ww_wait how);
-/* Makes all steps of a lock by this seat, which is the context's, if that isn't NULL. */
-WW_HIDDEN int ww_lock_by(struct ww_mutex *m, struct ww_acquire_ctx *x, ww_seat *s, const struct ww_wait *how);
-/* Makes all steps after the first one, which returned r; or after a sleep of a poll, with r -EINPROGRESS. */
+/* Makes all steps of a lock by a context. */
+WW_HIDDEN int ww_lock_by(struct ww_mutex *m, struct ww_acquire_ctx *x, const struct ww_wait *how);
+/*
+ * Makes all steps after the first one, which returned r; or after a sleep of a poll, with r -EINPROGRESS.  The seat is the
+ * context's, if that isn't NULL.
+ */
 WW_HIDDEN int ww_lock_on(struct ww_mutex *m, struct ww_acquire_ctx *x, ww_seat *s, int r, const struct ww_wait *how);
 /* Releases a mutex that the context holds, which may lie elsewhere than as it acquired that; or that the seat visits. */
 WW_HIDDEN int ww_unlock_of(struct ww_mutex *m, struct ww_acquire_ctx *x);
@@ -217,21 +214,20 @@ WW_HIDDEN int ww_release_on(ww_seat *s, int r);
 /* A trylock by a context: 0, or -EBUSY, or another error if the context may acquire nothing. */
 WW_HIDDEN int ww_try_by(struct ww_mutex *m, struct ww_acquire_ctx *x);
 /*
- * Whether the mutex could be acquired; and 1 more than the number of the seat that has it, or 0.  Either may be out of date
- * when it returns, unless nobody else uses the mutex.
+ * What ww_look_ returns of the mutex's lock: 0 if it could be acquired; owner_in tells who has it.  That may be out of
+ * date when it returns, unless nobody else uses the mutex.
  */
-WW_HIDDEN bool ww_is_released(struct ww_pool *p, const struct ww_mutex *m);
-WW_HIDDEN uint32_t ww_owner(struct ww_pool *p, const struct ww_mutex *m);
+WW_HIDDEN int32_t ww_look_from_outside(struct ww_pool *p, const struct ww_mutex *m);
 /* Whether somebody has a shared mutex, waits for it or reads it. */
 struct ww_shared_mutex;
 WW_HIDDEN bool ww_is_used(struct ww_shared_mutex *m);
-/* As ww_mutex_end_, of one that somebody has read who reads on: its number is left. */
-WW_HIDDEN int ww_mutex_leave(struct ww_mutex *m);
+/* As ww_mutex_end_, which gives its number; that of one that somebody has read who reads on is left (ww_leave_number). */
+WW_HIDDEN int ww_end_mutex(struct ww_mutex *m, void (*gives)(struct ww_pool *p, uint32_t number));
 
 /* ---- of ww_loop.c ---- */
 
 /* Locks in a loop. */
-WW_HIDDEN int ww_lock_in_loop(struct ww_mutex *m, struct ww_acquire_ctx *x, const struct ww_wait *how);
+WW_HIDDEN int ww_lock_in_loop(struct ww_mutex *m, struct ww_acquire_ctx *x, struct ww_wait how);
 /* What a lock call in a loop returns, if the proved library returned r. */
 WW_HIDDEN int ww_result_in_loop(struct ww_mutex *m, struct ww_acquire_ctx *x, int r);
 /* Locks each of a list, up to the first one that fails. */

@@ -413,7 +413,7 @@ bool ww_debug_is_stale(const struct ww_mutex *m)
 {
 	struct ww_pool *p = pool_at(m);
 
-	return p && !__atomic_load_n(&p->debug->mutexes[m->number].seat, __ATOMIC_RELAXED) && !ww_owner(p, m);
+	return p && !__atomic_load_n(&p->debug->mutexes[m->number].seat, __ATOMIC_RELAXED) && !owner_in(ww_look_from_outside(p, m));
 }
 
 bool ww_debug_unheld(const struct ww_mutex *m)

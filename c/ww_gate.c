@@ -1,6 +1,6 @@
 /*
- * ww_gate.c - how many contexts of a class run at a time, found by measuring: those of threads in a crowd, and those of
- * tasks.
+ * ww_gate.c - how many contexts of a class run at a time, found by measuring: those of threads that need permits
+ * (ww_crowd.c), and those of tasks.
  *
  * Contexts that meet wait for one another, and each cache line that they share moves from processor to processor, which
  * costs more than a short context takes.  So more may end if fewer run; or if more do, where they wait for something
@@ -20,11 +20,11 @@
  *	tried, fewer, and nobody waits at the gate	half of it is tried at once: that many are no limit
  *	kept, and nobody waits at the gate		there is no use of a gate, unless a window began a half less
  *
- * Each is compared with the last window of the width that is kept: fewer have to pay, and more needn't.  Twice as many
- * as there may be are no limit; there is no use of a gate for threads once that is best, and for tasks fewer are tried
- * from time to time.  The first width is kept for a window, whoever waits.
+ * Each is compared with the last window of the width that is kept: fewer have to gain something, and more needn't.  Twice
+ * as many as there may be are no limit, which a bounded gate never tries.  Once no limit is best there is no use of a
+ * gate for threads; for tasks fewer are tried from time to time.  The first width is kept for a window, whoever waits.
  *
- * A crowd begins with one permit.  For the way from many to few leads through widths at which threads fall asleep one
+ * For threads the first width is 1.  For the way from many to few leads through widths at which threads fall asleep one
  * after another and a window takes long, and the way up through those that run well.  Where more are far worse, what
  * they began goes on for a while at the width before; so one window that is far worse isn't believed.
  */
@@ -35,8 +35,6 @@
 enum { WINDOW = 2000000 };
 /* A width is kept for so many windows at first, and at most: so tries that fail take a sixty-fourth of the time. */
 enum { FIRST_HOLDS = 8, MOST_HOLDS = 64 };
-/* A permit lasts as long as so many contexts take, so that few of them wait for one, within these bounds. */
-enum { IN_LEASE = 128, LEASE = 200000, LONGEST_LEASE = 1000000 };
 
 static void set_width(struct ww_gate *gate, uint32_t width)
 {
@@ -60,8 +58,7 @@ static uint32_t turn(const struct ww_gate *gate)
 void ww_gate_open(struct ww_gate *gate, uint32_t least, uint32_t first, uint32_t widest, uint32_t most, uint32_t many)
 {
 	*gate = (struct ww_gate){ .width = first, .kept = first, .least = least, .widest = widest, .most = most,
-				  .many = many, .holds = 1, .more = first >= widest, .climbs = true, .settles = true,
-				  .lease = LEASE };
+				  .many = many, .holds = 1, .more = first >= widest, .climbs = true, .settles = true };
 }
 
 /* Half of its width, or twice as many; or the same, where there is no such width. */
@@ -72,7 +69,7 @@ static uint32_t other_width(const struct ww_gate *gate)
 	if (gate->more && gate->width <= gate->most / times)
 		return times * gate->width;
 	if (gate->more)
-		return gate->width == gate->kept ? NO_LIMIT : gate->width;
+		return gate->width == gate->kept && !gate->is_bounded ? NO_LIMIT : gate->width;
 	if (gate->width == NO_LIMIT)
 		return gate->widest;
 	return gate->width / 2 < gate->least ? gate->width : gate->width / 2;
@@ -100,11 +97,8 @@ static void try_on(struct ww_gate *gate)
 
 static void keep(struct ww_gate *gate, uint64_t rate)
 {
-	uint64_t lease = gate->width < NO_LIMIT && rate ? (uint64_t)IN_LEASE * gate->width * 1000000000 / rate : 0;
-
 	gate->kept = gate->width;
 	gate->rate = rate;
-	gate->lease = lease < LEASE ? LEASE : lease < LONGEST_LEASE ? lease : LONGEST_LEASE;
 }
 
 /* A window has ended, at this rate of contexts a second. */
@@ -139,13 +133,15 @@ static void decide(struct ww_gate *gate, uint64_t rate, bool is_no_limit)
 
 /*
  * So many turns of contexts have begun, or would have at the rate that is kept: a width that is far worse is soon
- * known.
+ * known, and, a while later, that the load is another one.  So it is if next to nothing begins for long.
  */
 static bool is_enough(const struct ww_gate *gate, uint64_t took, uint64_t count, uint64_t turns)
 {
 	uint64_t enough = turns * turn(gate);
+	bool is_long = took >= 8 * WINDOW;
 
-	return count >= enough || (gate->tries && took / 1000 * gate->rate / 1000000 >= enough);
+	return count >= enough || ((gate->tries || is_long) && took / 1000 * gate->rate / 1000000 >= enough) ||
+	       (is_long && count < gate->many / 8);
 }
 
 /* Who comes here has read the clock before, so one may come with an earlier time. */
@@ -155,7 +151,7 @@ bool ww_gate_look(struct ww_gate *gate, uint64_t now, uint64_t begun, uint64_t w
 	bool is_no_limit = gate->width != NO_LIMIT && waited == gate->waited;
 
 	/* those of the width before may have yet to end */
-	if (gate->since && (took < gate->lease || !is_enough(gate, took, count, 1)))
+	if (gate->since && (took < WINDOW / 8 || !is_enough(gate, took, count, 1)))
 		return true;
 	if (gate->settles || !gate->since)
 		gate->settles = false;

@@ -82,7 +82,7 @@ WW_HIDDEN void ww_heap_opened(void);
  */
 WW_HIDDEN int ww_go_on(ww_seat *s, struct ww_wait *wait, bool sleeps);
 /* A wait for a lock begins, and has ended. */
-WW_HIDDEN void ww_begin_wait(struct ww_wait *wait);
+WW_HIDDEN void ww_begin_wait(const ww_seat *s, struct ww_wait *wait);
 WW_HIDDEN void ww_end_wait(ww_seat *s, const struct ww_wait *wait);
 /*
  * Tries a lock again, awake, after a try in vain, and goes into its list once it is time for that; returns what the
@@ -120,7 +120,7 @@ static inline void call_waker(struct ww_waker waker)
 WW_HIDDEN struct ww_waker ww_give_back(ww_seat *s, uint32_t lock);
 /* Sleeps while the word is this, at most until a time of the monotonic clock, if that isn't NULL. */
 WW_HIDDEN void ww_futex_wait(uint32_t *word, uint32_t is, const struct timespec *until);
-WW_HIDDEN void ww_futex_wake(uint32_t *word);
+WW_HIDDEN void ww_futex_wake(uint32_t *word, int many);
 /* The monotonic clock, in nanoseconds; and whether this time has come. */
 WW_HIDDEN uint64_t ww_now(void);
 WW_HIDDEN bool ww_has_come(const struct timespec *until);

@@ -83,9 +83,11 @@ size_t ww_acquire_mark(const struct ww_acquire_ctx *x) { return x->acquired - ow
 
 void ww_acquire_unlock_to(struct ww_acquire_ctx *x, size_t mark)
 {
+	if (!is_loop(x))
+		return; /* nothing says what came since the mark */
 	if (!mark)
 		ww_acquire_unlock_all(x);
-	else if (is_loop(x))
+	else
 		for (size_t left = mark + owes(x); x->acquired > left;)
 			ww_mutex_unlock(x->newest);
 }
@@ -181,35 +183,32 @@ int ww_result_in_loop(struct ww_mutex *m, struct ww_acquire_ctx *x, int r)
  * Before anything else, waits for the mutex at which the context got -EDEADLK.  A desk isn't kept: the body never asks
  * for it.
  */
-static int wait_first(struct ww_acquire_ctx *x, const struct ww_wait *how)
+static int wait_first(struct ww_acquire_ctx *x, struct ww_wait how)
 {
 	struct ww_mutex *m = x->contending_lock;
-	struct ww_wait first = *how;
 	int r;
 
-	first.visits = is_desk(m);
-	r = ww_lock_by(m, x, x->own, &first);
+	how.visits = is_desk(m);
+	r = ww_lock_by(m, x, &how);
 	if (!ww_debug_result(m, x, r, false)) {
 		x->prelocked = m;
-		become(x, TRIES, first.visits ? 0 : IS_PRELOCKED);
-		if (first.visits)
+		become(x, TRIES, how.visits ? 0 : IS_PRELOCKED);
+		if (how.visits)
 			(void)ww_unlock_by(m, x->own);
 	}
 	return r;
 }
 
-int ww_lock_in_loop(struct ww_mutex *m, struct ww_acquire_ctx *x, const struct ww_wait *of_call)
+int ww_lock_in_loop(struct ww_mutex *m, struct ww_acquire_ctx *x, struct ww_wait how)
 {
-	struct ww_wait how = *of_call;
-
 	how.heeds |= !!(x->state & WW_INTERRUPTIBLE);
 	if (x->state & WAITS_FIRST) {
-		int r = wait_first(x, &how);
+		int r = wait_first(x, how);
 
 		if (r || ww_has_for(x, m, false))
 			return r;
 	}
-	return ww_result_in_loop(m, x, ww_lock_by(m, x, x->own, &how));
+	return ww_result_in_loop(m, x, ww_lock_by(m, x, &how));
 }
 
 /* ---- loops ---- */

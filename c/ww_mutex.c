@@ -43,7 +43,7 @@ int ww_mutex_init_checked(struct ww_mutex *m, struct ww_class *c)
 	if (r)
 		return r;
 	*m = (struct ww_mutex){ .pool = p, .number = number };
-	lies_here(p, m);
+	lies_at(p, number, m);
 	return 0;
 }
 
@@ -59,7 +59,7 @@ bool ww_mutex_is_locked(struct ww_mutex *m)
 {
 	struct ww_pool *p = pool_at(m);
 
-	return p && !ww_is_released(p, m);
+	return p && ww_look_from_outside(p, m);
 }
 
 /*
@@ -82,12 +82,11 @@ COLD int ww_release_on(ww_seat *s, int r)
 }
 
 /*
- * What ww_look_ returns of a mutex's lock, by a look of the spare seat, which no context has: so it can be made even if
- * all contexts are in use.  An unlock's last access to the mutex comes before the step that releases its lock; so if it
+ * The look is that of the spare seat, which no context has: so it can be made even if all contexts are in use.  An unlock's last access to the mutex comes before the step that releases its lock; so if it
  * is free, all former holders are through with it, and what they wrote is seen here.  In a forked child the spare seat
  * may have been in use, which nobody uses there.
  */
-static int32_t look_from_outside(struct ww_pool *p, const struct ww_mutex *m)
+int32_t ww_look_from_outside(struct ww_pool *p, const struct ww_mutex *m)
 {
 	bool is_shared = !p->gone;
 	int32_t seen;
@@ -101,26 +100,21 @@ static int32_t look_from_outside(struct ww_pool *p, const struct ww_mutex *m)
 	return seen;
 }
 
-bool ww_is_released(struct ww_pool *p, const struct ww_mutex *m) { return !look_from_outside(p, m); }
-
-uint32_t ww_owner(struct ww_pool *p, const struct ww_mutex *m) { return owner_in(look_from_outside(p, m)); }
-/* Whether a context reads it, by this desk: its seat has the desk, and there is a read, so the mark is from there. */
-static bool is_read_at(struct ww_pool *p, struct ww_desk *d, uint32_t number)
-{
-	int32_t seen = ww_look_(&p->seats[seats_of(p)].handle, d->mutex.number);
-
-	__tsan_acquire(&d->mutex);
-	return seen == (int32_t)d->seat + 1 && __atomic_load_n(&d->reads, __ATOMIC_ACQUIRE) &&
-	       __atomic_load_n(&d->marks[number / MARKS_IN_A_WORD], __ATOMIC_ACQUIRE) & mark_of(number);
-}
-
-/* By a look of the spare seat, at desks with these bits. */
-static bool is_read(struct ww_pool *p, uint32_t number, uint64_t bits)
+/*
+ * Whether a context reads it, by a desk with one of these bits: its seat has the desk, as the spare seat sees, and there
+ * is a read, so the mark is from there.
+ */
+static bool is_read_by(struct ww_pool *p, uint32_t number, uint64_t bits)
 {
 	for (; bits; bits &= bits - 1)
-		for (struct ww_desk *d = __atomic_load_n(&p->desks[__builtin_ctzll(bits)], __ATOMIC_SEQ_CST); d; d = d->next)
-			if (is_read_at(p, d, number))
+		for (struct ww_desk *d = __atomic_load_n(&p->desks[__builtin_ctzll(bits)], __ATOMIC_SEQ_CST); d; d = d->next) {
+			int32_t seen = ww_look_(&p->seats[seats_of(p)].handle, d->mutex.number);
+
+			__tsan_acquire(&d->mutex);
+			if (seen == (int32_t)d->seat + 1 && __atomic_load_n(&d->reads, __ATOMIC_ACQUIRE) &&
+			    __atomic_load_n(&d->marks[number / MARKS_IN_A_WORD], __ATOMIC_ACQUIRE) & mark_of(number))
 				return true;
+		}
 	return false;
 }
 
@@ -136,7 +130,7 @@ bool ww_is_used(struct ww_shared_mutex *m)
 	is = ww_try_(&spare->handle, m->mutex_.number);
 	if (!is) {
 		is = __atomic_load_n(&m->mutex_.waiters, __ATOMIC_SEQ_CST) & ~(IS_TAKEN | IS_OF_NUMBER) ||
-		     is_read(p, m->mutex_.number, __atomic_load_n(&m->readers_, __ATOMIC_SEQ_CST));
+		     is_read_by(p, m->mutex_.number, __atomic_load_n(&m->readers_, __ATOMIC_SEQ_CST));
 		waker = ww_give_back(spare, m->mutex_.number);
 	}
 	pthread_mutex_unlock(&p->spare);
@@ -155,7 +149,7 @@ bool ww_is_used_by_number(struct ww_pool *p, uint32_t number)
 	bool is = m && __atomic_load_n(&m->waiters, __ATOMIC_SEQ_CST) & ~(IS_TAKEN | IS_OF_NUMBER);
 
 	pthread_mutex_lock(&p->spare);
-	is = is || ww_is_free_(&p->seats[seats_of(p)].handle, number) || is_read(p, number, UINT64_MAX);
+	is = is || ww_is_free_(&p->seats[seats_of(p)].handle, number) || is_read_by(p, number, UINT64_MAX);
 	pthread_mutex_unlock(&p->spare);
 	return is;
 }
@@ -166,11 +160,11 @@ bool ww_is_used_by_number(struct ww_pool *p, uint32_t number)
  *
  *	one that waited (ww_lock_on)	one that releases it		one that destroys it
  *	its lock is acquired		ctx or alone = NULL		waiters?
- *	waiters--			ww_unlock_, the last access	ww_look_ (ww_is_released)
+ *	waiters--			ww_unlock_, the last access	ww_look_from_outside
  *
  * In a forked child nobody uses the mutex any more, and its number isn't given.
  */
-static int end_by(struct ww_mutex *m, void (*gives)(struct ww_pool *p, uint32_t number))
+int ww_end_mutex(struct ww_mutex *m, void (*gives)(struct ww_pool *p, uint32_t number))
 {
 	struct ww_pool *p = pool_at(m);
 
@@ -180,20 +174,18 @@ static int end_by(struct ww_mutex *m, void (*gives)(struct ww_pool *p, uint32_t 
 		*m = (struct ww_mutex){ .class_ = p->class_ };
 		return 0;
 	}
-	if (__atomic_load_n(&m->waiters, __ATOMIC_SEQ_CST) || !ww_is_released(p, m)) {
+	if (__atomic_load_n(&m->waiters, __ATOMIC_SEQ_CST) || ww_look_from_outside(p, m)) {
 		ww_debug_fault(p->class_, "ww_mutex_destroy", "somebody holds the mutex, or waits for it");
 		return -EBUSY;
 	}
-	lies_nowhere(p, m);
+	lies_at(p, m->number, NULL);
 	m->class_ = p->class_;
 	__atomic_store_n(&m->pool, NULL, __ATOMIC_RELEASE);
 	gives(p, m->number);
 	return 0;
 }
 
-int ww_mutex_end_(struct ww_mutex *m) { return end_by(m, ww_give_number); }
-
-int ww_mutex_leave(struct ww_mutex *m) { return end_by(m, ww_leave_number); }
+int ww_mutex_end_(struct ww_mutex *m) { return ww_end_mutex(m, ww_give_number); }
 
 int ww_mutex_destroy(struct ww_mutex *m)
 {
@@ -222,7 +214,7 @@ static void count_waiter(struct ww_mutex *m, const struct ww_wait *wait, uint32_
 
 static void begin_wait(struct ww_mutex *m, struct ww_acquire_ctx *x, ww_seat *s, struct ww_wait *wait)
 {
-	ww_begin_wait(wait);
+	ww_begin_wait(s, wait);
 	__atomic_store_n(&s->awaits, m->number + 1, __ATOMIC_RELAXED);
 	count(&s->waits);
 	if (x)
@@ -292,17 +284,16 @@ COLD int ww_lock_on(struct ww_mutex *m, struct ww_acquire_ctx *x, ww_seat *s, in
 }
 
 /* A first step is a try, which can be made again; after -EDEADLK the slow one, which finds out whether it is due. */
-int ww_lock_by(struct ww_mutex *m, struct ww_acquire_ctx *x, ww_seat *s, const struct ww_wait *how)
+int ww_lock_by(struct ww_mutex *m, struct ww_acquire_ctx *x, const struct ww_wait *how)
 {
-	int r = how->slowly ? ww_lock_slow_(&s->handle, m->number, false) : ww_try_(&s->handle, m->number);
+	ww_handle *h = &x->own->handle;
 
-	return ww_lock_on(m, x, s, r, how);
+	return ww_lock_on(m, x, x->own, how->slowly ? ww_lock_slow_(h, m->number, false) : ww_try_(h, m->number), how);
 }
 
 /* ---- what may be locked ---- */
 
 static const char not_due[] = "no -EDEADLK of this mutex came before, or the context still holds a mutex";
-static const char waits_by_poll[] = WAITS_BY_POLL;
 
 /* Why the first lock of a mutex gave it no number, or its class no seat. */
 static const char *reason_of_first(const struct ww_mutex *m, int r)
@@ -310,29 +301,21 @@ static const char *reason_of_first(const struct ww_mutex *m, int r)
 	return ww_class_of(m) ? reason_of(r) : "the mutex isn't initialized";
 }
 
-/* Why a context may make no such call, or NULL. */
-static const char *why_not_by(const struct ww_acquire_ctx *x, enum lock_call call)
-{
-	enum phase phase = x ? phase_of(x) : HAS_ENDED;
-
-	if (phase == HAS_ENDED)
-		return x ? "the context has ended" : "there is no context";
-	if (phase == IN_POLL)
-		return waits_by_poll;
-	if (phase >= LOOP_EASE && (call == CALL_LIST || call == CALL_POLL))
-		return "the context is in or behind ww_until_all_locked";
-	return call == CALL_SLOW && !(x->state & IS_TOLD) ? not_due : NULL;
-}
-
 /* As ww_admit, of which the reason goes out.  A mutex that WW_MUTEX_INIT made gets its number here, before its first lock. */
 static int admit(enum lock_call call, struct ww_mutex *m, const struct ww_acquire_ctx *x, const struct timespec *until,
 		 const char **why)
 {
+	enum phase phase = x ? phase_of(x) : call == CALL_ALONE ? BY_HAND : HAS_ENDED;
+	bool is_timely = is_time(until);
 	int r;
 
-	*why = !is_time(until) ? "the time is none" : call == CALL_ALONE ? NULL : why_not_by(x, call);
+	*why = !is_timely ? "the time is none" :
+		phase == HAS_ENDED ? (x ? "the context has ended" : "there is no context") :
+		phase == IN_POLL ? WAITS_BY_POLL :
+		phase >= LOOP_EASE && (call == CALL_LIST || call == CALL_POLL) ? "the context is in or behind ww_until_all_locked" :
+		call == CALL_SLOW && !(x->state & IS_TOLD) ? not_due : NULL;
 	if (*why)
-		return *why == waits_by_poll ? -EBUSY : -EINVAL;
+		return is_timely && phase == IN_POLL ? -EBUSY : -EINVAL;
 	if (call == CALL_LIST || LIKELY(m && fits(m, x)))
 		return 0;
 	r = !m ? -EINVAL : pool_at(m) ? 0 : ww_number_at_first(m);
@@ -382,7 +365,7 @@ int ww_lock_as(struct ww_mutex *m, struct ww_acquire_ctx *x, const struct ww_wai
 
 	if (r)
 		return r;
-	r = is_loop(x) ? ww_lock_in_loop(m, x, how) : ww_lock_by(m, x, x->own, how);
+	r = is_loop(x) ? ww_lock_in_loop(m, x, *how) : ww_lock_by(m, x, how);
 	return ww_debug_result(m, x, r, true);
 }
 
@@ -412,7 +395,7 @@ int ww_lock_slowly(struct ww_mutex *m, struct ww_acquire_ctx *x, struct ww_wait 
 	if (r)
 		return r;
 	how.slowly = !ww_debug_injected(m, x);
-	r = ww_lock_by(m, x, x->own, &how);
+	r = ww_lock_by(m, x, &how);
 	return ww_debug_result(m, x, is_loop(x) ? ww_result_in_loop(m, x, r) : r, false);
 }
 
@@ -516,10 +499,14 @@ int ww_mutex_lock_interruptible(struct ww_mutex *m, struct ww_acquire_ctx *x) { 
 
 /* ---- trylocks ---- */
 
-/* Waits for no seat. A look first, since a try in vain would make the seat's next calls take the long way. */
+/*
+ * Waits for no seat, and takes none for a mutex that somebody holds: seats may be few.  That it seems held is a hint, since
+ * a copy of the mutex may have been unlocked, so a look follows.
+ */
 static int try_alone(struct ww_mutex *m)
 {
-	ww_seat *s = seat_at_once(m->pool);
+	bool is_held = (holder_of(m) || seat_of(m)) && ww_mutex_is_locked(m);
+	ww_seat *s = is_held ? NULL : seat_at_once(m->pool);
 
 	if (!s)
 		return 0;
@@ -581,7 +568,7 @@ int ww_unlock_by(struct ww_mutex *m, ww_seat *s)
 	uint32_t number = m->number;
 	int r;
 
-	__tsan_release(m);
+	__tsan_release(m); /* which orders what comes before it */
 	r = ww_unlock_(&s->handle, number);
 	return LIKELY(!r) ? 0 : ww_release_on(s, r);
 }
@@ -643,21 +630,15 @@ COLD static void end_unheld(const struct ww_mutex *m, int r)
 		"nobody holds the mutex, or it is a copy of that which is held");
 }
 
-void ww_mutex_unlock(struct ww_mutex *m)
+static inline void is_unlocked(const struct ww_mutex *m, int r)
 {
-	int r = ww_mutex_unlock_checked(m);
-
 	if (UNLIKELY(r))
 		end_unheld(m, r);
 }
 
-void ww_mutex_unlock_else_(struct ww_mutex *m)
-{
-	int r = unlock_alone(m);
+void ww_mutex_unlock(struct ww_mutex *m) { is_unlocked(m, ww_mutex_unlock_checked(m)); }
 
-	if (UNLIKELY(r))
-		end_unheld(m, r);
-}
+void ww_mutex_unlock_else_(struct ww_mutex *m) { is_unlocked(m, unlock_alone(m)); }
 
 /* In a loop the first step did nothing, so the mutex is still held. */
 void ww_mutex_unlock_further_(struct ww_mutex *m, struct ww_acquire_ctx *x, int r)
@@ -666,8 +647,7 @@ void ww_mutex_unlock_further_(struct ww_mutex *m, struct ww_acquire_ctx *x, int 
 		r = unlist(x, m) ? ww_unlock_by(m, x->own) : -EINVAL;
 	else
 		r = ww_release_on(x->own, r);
-	if (UNLIKELY(r))
-		end_unheld(m, r);
+	is_unlocked(m, r);
 }
 
 bool ww_is_contended(const struct ww_acquire_ctx *x) { return x->state & HAS_TO_BACK_OFF; }

@@ -264,9 +264,10 @@ void ww_class_init(struct ww_class *ww_class, int is_wait_die, const char *name)
 WW_MUST_CHECK int ww_class_limit(struct ww_class *ww_class, uint32_t mutexes, uint32_t contexts);
 /*
  * Sets how many threads at a time run contexts of the class in a crowd.  A crowd begins where threads spend an eighth of their
- * time in waits for its mutexes, and lasts while fewer of them at a time end more contexts.  Only threads with a permit begin
- * contexts then; the others wait in ww_acquire_init, in the order in which they came.  A permit lasts 0.2 to 1 ms, and at most
- * 4 ms longer while its context goes on, so no wait for one is endless.  0: as many as are measured to be best, at most 64.
+ * time in waits for its mutexes.  Only threads with a permit begin contexts then; the others wait in ww_acquire_init.  A permit
+ * lasts 1 ms, and then it is the turn of the thread that has waited longest; if its context goes on, the next thread waits at most
+ * 16 ms longer, so no wait for a permit is endless.  Threads that sleep by themselves, as those that do I/O under their locks,
+ * need no permit.  0: as many as are measured to be best, at most one for each processor.
  * -EINVAL: more than 64, except WW_NO_CROWD, with which no thread waits for one; -EBUSY: the class is open.
  */
 #define WW_NO_CROWD UINT32_MAX

@@ -1,5 +1,5 @@
 /*
- * ww_number.c - mutexes by their numbers.  The library has a struct ww_mutex for each number that was ever taken.  A
+ * ww_number.c - mutexes by their numbers.  The library has a shared mutex for each number that was ever taken.  A
  * call that isn't quick makes the call of ww_mutex.h on that mutex: so it waits, backs off and is listed like any
  * other.  A quick call uses only the number.  Therefore, outside loops, that mutex doesn't say who holds it: its lock
  * in the library does.
@@ -63,7 +63,7 @@ int ww_number_take(uint32_t *number, struct ww_class *c)
 		__atomic_store_n(&m->pool, p, __ATOMIC_RELEASE);
 	}
 	__atomic_fetch_add(&m->waiters, IS_TAKEN, __ATOMIC_RELAXED);
-	lies_here(p, m);
+	lies_at(p, *number, m);
 	return 0;
 }
 
@@ -111,7 +111,7 @@ bool ww_number_is_locked(uint32_t number, struct ww_class *c)
 {
 	struct ww_mutex *m;
 
-	return !mutex_in(c, number, &m) && !m->pool->gone && !ww_is_released(m->pool, m);
+	return !mutex_in(c, number, &m) && !m->pool->gone && ww_look_from_outside(m->pool, m);
 }
 
 /* ---- by a context ---- */
@@ -173,9 +173,8 @@ int ww_number_trylock_else_(uint32_t number, struct ww_acquire_ctx *x) { return 
 bool ww_number_is_held(uint32_t number, const struct ww_acquire_ctx *x)
 {
 	const struct ww_mutex *m = ww_number_of(number, x);
-	unsigned is = m ? relation(x, m, HAS_IT | OWES_IT) : 0;
 
-	return is & HAS_IT || (is & OWES_IT && !__atomic_load_n(&shared_of(m)->readers_, __ATOMIC_RELAXED));
+	return m && has_it(x, m) && (!owes_it(x, m) || !__atomic_load_n(&shared_of(m)->readers_, __ATOMIC_RELAXED));
 }
 
 int ww_number_unlock(uint32_t number, struct ww_acquire_ctx *x)
@@ -186,7 +185,7 @@ int ww_number_unlock(uint32_t number, struct ww_acquire_ctx *x)
 		return -EINVAL;
 	if (is_polled(x))
 		return -EBUSY;
-	if (!relation(x, m, HAS_IT | OWES_IT) && !is_let_go(x->own, ww_has_(&x->own->handle, number))) {
+	if (!has_it(x, m) && !is_let_go(x->own, ww_has_(&x->own->handle, number))) {
 		ww_debug_fault(x->own->pool->class_, "ww_number_unlock", "the context doesn't hold the mutex");
 		return -EINVAL;
 	}

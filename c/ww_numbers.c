@@ -35,9 +35,7 @@ static uint32_t lines_for(uint32_t mutexes)
 {
 	uint32_t quarter = (mutexes + IN_A_LINE - 1) / IN_A_LINE, sparse = SPARE_LINES * apart(mutexes);
 
-	if (sparse < LEAST_LINES)
-		return LEAST_LINES;
-	return quarter > sparse ? quarter : sparse;
+	return sparse < LEAST_LINES ? LEAST_LINES : quarter > sparse ? quarter : sparse;
 }
 
 void ww_open_numbers(struct ww_pool *p)
@@ -67,31 +65,24 @@ static uint32_t line_from(const struct ww_pool *p, uint32_t line, bool shares)
 	return line;
 }
 
-static uint32_t take(struct ww_pool *p, const struct ww_mutex *m)
-{
-	bool shares = p->taken + p->made >= apart(p->mutexes);
-	uint32_t line = line_from(p, m ? (uint32_t)ww_likely_(m, p->span) / LINE : p->low, shares);
-	uint32_t number = line * IN_A_LINE + (uint32_t)__builtin_ctz(~used_of(p, line));
-
-	p->used[number / 64] |= (uint64_t)1 << number % 64;
-	if (!m && shares)
-		p->low = line;
-	if (__atomic_fetch_add(&p->taken, 1, __ATOMIC_RELAXED) + 1 == WW_LARGE)
-		__atomic_store_n(&p->is_large, true, __ATOMIC_RELAXED);
-	return number;
-}
-
 /* Of desks' numbers there are `made`, which aren't counted as taken. */
 static bool takes(struct ww_pool *p, const struct ww_mutex *m, uint32_t *number)
 {
-	bool is_there;
+	uint32_t before, line;
 
 	pthread_mutex_lock(&p->numbers);
-	is_there = p->taken + p->made < p->mutexes;
-	if (is_there)
-		*number = take(p, m);
+	before = p->taken + p->made;
+	if (before < p->mutexes) {
+		line = line_from(p, m ? (uint32_t)ww_likely_(m, p->span) / LINE : p->low, before >= apart(p->mutexes));
+		*number = line * IN_A_LINE + (uint32_t)__builtin_ctz(~used_of(p, line));
+		p->used[*number / 64] |= (uint64_t)1 << *number % 64;
+		if (!m && before >= apart(p->mutexes))
+			p->low = line;
+		if (__atomic_fetch_add(&p->taken, 1, __ATOMIC_RELAXED) + 1 == WW_LARGE)
+			__atomic_store_n(&p->is_large, true, __ATOMIC_RELAXED);
+	}
 	pthread_mutex_unlock(&p->numbers);
-	return is_there;
+	return before < p->mutexes;
 }
 
 /* The debug library's messages say the lowest numbers. */
@@ -136,10 +127,7 @@ COLD void ww_give_left(struct ww_pool *p)
 		for (; bits; bits &= bits - 1) {
 			uint32_t number = k + (uint32_t)__builtin_ctzll(bits);
 
-			if (ww_is_used_by_number(p, number))
-				ww_leave_number(p, number);
-			else
-				ww_give_number(p, number);
+			(ww_is_used_by_number(p, number) ? ww_leave_number : ww_give_number)(p, number);
 		}
 	}
 }
@@ -161,7 +149,7 @@ COLD int ww_number_at_first(struct ww_mutex *m)
 			r = ww_take_number(c->pool, m, &number);
 		if (!r) {
 			__atomic_store_n(&m->number, number, __ATOMIC_RELAXED); /* who locks a list may look for it already */
-			lies_here(c->pool, m);
+			lies_at(c->pool, number, m);
 			__atomic_store_n(&m->pool, c->pool, __ATOMIC_RELEASE);
 		}
 	}

@@ -154,6 +154,8 @@ static int seek(struct ww_class *c, struct ww_seek *me, const struct ww_waker *w
 	if (r)
 		return r;
 	*s = ww_task_seat(p);
+	if (!*s && me && me->is_within)
+		*s = ww_seat_within(of_tasks(p));
 	if (*s)
 		return 0;
 	if (p->gone)
@@ -185,19 +187,11 @@ static __attribute__((noinline)) int begin_later(struct ww_acquire_ctx *x, struc
 	return r == -EINPROGRESS ? r : begin_by(x, s, r);
 }
 
-/* The seat that a task of this thread used last, if it is free, and nobody waits for a seat. */
-static inline ww_seat *task_seat_at_hand(struct ww_pool *p)
-{
-	const struct ww_seats *of = of_tasks(p);
-
-	return claim_last(of, p, of->id);
-}
-
-/* Most contexts of Rust's tasks come without a seek. */
+/* Most contexts of Rust's tasks come without a seek, and find the seat that a task of this thread used last. */
 int ww_acquire_init_poll(struct ww_acquire_ctx *x, struct ww_class *c, struct ww_seek *me, const struct ww_waker *waker)
 {
 	struct ww_pool *p = LIKELY(!me) ? __atomic_load_n(&c->pool, __ATOMIC_ACQUIRE) : NULL;
-	ww_seat *s = LIKELY(p) ? task_seat_at_hand(p) : NULL;
+	ww_seat *s = LIKELY(p) ? claim_last(of_tasks(p), p, of_tasks(p)->id) : NULL;
 
 	return LIKELY(s) ? begin_by(x, s, 0) : begin_later(x, c, me, waker);
 }

@@ -35,19 +35,24 @@ struct ww_waker {
 	void *loop, *task;
 };
 
-/* One wait for a context: { 0 } before, and the library's while polls return -EINPROGRESS; it doesn't move then. */
+/*
+ * One wait for a context: { 0 } before, and the library's while polls return -EINPROGRESS; it doesn't move then.  Whoever begins
+ * a context within another one of the class sets is_within before: it gets any context that is free, since it would otherwise wait
+ * for tasks that may wait for it.
+ */
 struct ww_seek {
 	struct ww_seek *next_;
 	struct ww_seats *of_;
 	struct ww_seat *seat_;
 	struct ww_waker waker_;
-	uint32_t served_, heeds_;
+	uint32_t served_;
+	uint16_t heeds_, is_within;
 };
 
 /*
  * Begins a context, as ww_acquire_init_checked, but waits for one.  Tasks may have as many at a time as end the most in a second,
  * which is measured while one waits: two for each processor at first, and at most 896 of the 1,280 of the class.  One that ends
- * goes to whoever begins next, but each 0.2 to 1 ms to the task that has waited longest; that may be called before, and then its
+ * goes to whoever begins next, but each millisecond to the task that has waited longest; that may be called before, and then its
  * polls look for one, of which those in vain call their own waker some times.  If ww_class_limit set how many contexts the class
  * has, tasks and threads share these, and wait in one queue, in which nobody is passed.  Without a waker (NULL) it ends the wait,
  * or doesn't wait, and then seek may be NULL: it returns 0 if a context was begun, else -ETIMEDOUT.

@@ -24,12 +24,16 @@
 #define _GNU_SOURCE
 #include "ww_seat.h"
 
-/* Who was called looks so often before it looks at all seats. */
+/* Who was called looks so often before it looks at all seats; and so many tasks may begin for each processor at first. */
 #ifndef WW_FEW
-enum { LOOKS = 16 };
+enum { LOOKS = 16, EACH_TASKS = 2 };
 #else
-enum { LOOKS = 1 };
+enum { LOOKS = 1, EACH_TASKS = WW_FEW };
 #endif
+/* So many contexts of tasks are counted at least: those that await a timer take long, and differ little. */
+enum { COUNTED = 32 };
+/* If nobody has waited for so long, in nanoseconds, what comes may be another load. */
+enum { ANOTHER_LOAD = 16000000 };
 
 /* ---- who waits, and gets a seat ---- */
 
@@ -37,7 +41,7 @@ enum { LOOKS = 1 };
 static void wake_thread(void *nothing, void *served)
 {
 	(void)nothing;
-	ww_futex_wake(served); /* uses only the address: the thread may have ended */
+	ww_futex_wake(served, 1); /* uses only the address: the thread may have ended */
 }
 
 /* Takes its waker, which is then called at most once. The queue is locked. */
@@ -138,7 +142,18 @@ static uint32_t given(const struct ww_seats *of)
 	return sum;
 }
 
-/* Looks how many seats may be claimed; those that may from now on are handed to tasks that wait. */
+/* How many may begin is measured anew. */
+void ww_open_gate(struct ww_seats *of)
+{
+	uint32_t first = EACH_TASKS * of->pool->processors;
+
+	ww_gate_open(&of->gate, 1, first < of->count ? first : of->count, of->count / 2, of->count, COUNTED);
+}
+
+/*
+ * Looks how many seats may be claimed; those that may from now on are handed to tasks that wait.  What was found for one
+ * load isn't for the next: the gate is opened anew once nobody has waited for long.
+ */
 COLD static void look_at_gate(struct ww_seats *of, uint64_t now)
 {
 	struct ww_pool *p = of->pool;
@@ -151,8 +166,11 @@ COLD static void look_at_gate(struct ww_seats *of, uint64_t now)
 		uint32_t sum = given(of);
 
 		of->begun += (sum - of->sum) / GIVEN_ONCE;
-		(void)ww_gate_look(&of->gate, now, of->begun, now);
-		__atomic_store_n(&of->due, now + of->gate.lease / 4, __ATOMIC_RELAXED);
+		if (!of->first && now - of->due > ANOTHER_LOAD)
+			ww_open_gate(of);
+		else
+			(void)ww_gate_look(&of->gate, now, of->begun, now);
+		__atomic_store_n(&of->due, now + LEASE / 4, __ATOMIC_RELAXED);
 		limit = of->gate.width < of->count ? of->gate.width : of->count;
 		__atomic_store_n(&of->limit, limit, __ATOMIC_SEQ_CST);
 		of->sum = limit == was ? sum : given(of);
@@ -192,7 +210,7 @@ bool ww_hands_over(struct ww_seats *of, ww_seat *s)
 	pthread_mutex_lock(&p->queue);
 	hands = is_for(of, s);
 	if (hands) {
-		s->lent = now + of->gate.lease;
+		s->lent = now + LEASE;
 		__atomic_fetch_add(&s->busy, GIVEN_ONCE, __ATOMIC_SEQ_CST);
 		waker = hand_to(of, &of->first, s);
 	}
@@ -363,6 +381,8 @@ bool ww_queue_up(struct ww_seek *me)
 	ww_seat *s = NULL;
 	bool served, is_long_wait = false;
 
+	if (of == &p->tasks)
+		look_if_due(of, ww_now());
 	pthread_mutex_lock(&p->queue);
 	at = of->end;
 	__atomic_fetch_add(&of->seekers, 1, __ATOMIC_SEQ_CST);

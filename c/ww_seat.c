@@ -9,6 +9,7 @@
  *	a lock without a context	seat_at_hand	claim_last	any_seat		ww_seek_seat
  *	a trylock without one		seat_at_hand	claim_last	any_seat		-
  *	a begin by a poll		-		claim_last	any_seat		ww_queue_up
+ *		within another		-		-		any_seat, ww_seat_within	ww_queue_up
  *
  * any_seat comes first to the seat of the class that the thread keeps, and to others only if no thread waits.  In a
  * crowd no seat is at hand, so that each begin asks for a permit; then claim_last finds none either.
@@ -263,6 +264,16 @@ ww_seat *ww_seat_to_begin(struct ww_pool *p)
 }
 
 ww_seat *ww_task_seat(struct ww_pool *p) { return any_seat(p, of_tasks(p)); }
+
+ww_seat *ww_seat_within(const struct ww_seats *of)
+{
+	uint32_t was;
+
+	for (uint32_t k = 0; k < of->count && !of->pool->gone; k++)
+		if (claim(&of->seats[k], &was))
+			return &of->seats[k];
+	return NULL;
+}
 
 /* ---- seats that are given ---- */
 

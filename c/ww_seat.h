@@ -40,6 +40,8 @@ WW_HIDDEN ww_seat *ww_other_seat(struct ww_pool *p);
 WW_HIDDEN ww_seat *ww_seat_to_begin(struct ww_pool *p);
 /* For polls: any seat that is free, unless it is another's turn; or NULL. */
 WW_HIDDEN ww_seat *ww_task_seat(struct ww_pool *p);
+/* The same for a task that has a context already: whosever turn it is, and however many may be claimed. */
+WW_HIDDEN ww_seat *ww_seat_within(const struct ww_seats *of);
 /* Any seat that is free, of so many of these, from this one on or from where this thread begins; or NULL. */
 WW_HIDDEN ww_seat *ww_claim_from(const struct ww_seats *of, uint32_t from, uint32_t many);
 WW_HIDDEN ww_seat *ww_claim_any(const struct ww_seats *of, uint32_t many);
@@ -69,6 +71,8 @@ enum { WAITS, CALLED, SERVED };
 
 /* The seat of a class with this number was given: it is handed to who waits first, or that is called for it. */
 COLD WW_HIDDEN void ww_serve(struct ww_seats *of, uint64_t id, ww_seat *s, bool hands);
+/* Nothing is known of how many contexts of tasks are best. */
+WW_HIDDEN void ww_open_gate(struct ww_seats *of);
 /* Whether a task's seat, whose user is through, was handed to the task that waits first, as it isn't lent any more. */
 WW_HIDDEN bool ww_hands_over(struct ww_seats *of, ww_seat *s);
 /* The task that has this seat has waited for a lock. */

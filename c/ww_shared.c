@@ -31,9 +31,11 @@
  *	bit		any reader sets it; it is cleared by who has the mutex, once no desk with it has the mark
  *	mark, dirty	who has the desk: its reader sets it and takes it back; whoever acquires the desk next wipes it
  *	reads		the seat's user: 0 before it acquires the desk; then how many reads are to be ended
+ *	mutex.ctx	of a desk: not NULL while its seat's context is there; a writer that visits it leaves no word
  *
  * Bits stay after the reads, and so do marks.  So who reads a mutex again writes nothing but its own desk, and all its
- * reads end by one unlock, that of the desk.  Desks stay until the class is freed.
+ * reads end by one unlock, that of the desk.  Desks stay until the class is freed.  Who reads is a seat, and not an address
+ * of its context, which may move where it goes by numbers.  Of these the bits lie in the class, beside the mutex.
  */
 #define _GNU_SOURCE
 #include "ww_context.h"
@@ -62,13 +64,24 @@ struct limit {
 	};
 };
 
-static inline int acquire(struct ww_mutex *m, struct ww_acquire_ctx *x, struct limit limit)
+/* Of a call that asks for a mutex: acquires that, or its own desk, or comes to another's desk, where it leaves no word. */
+static int acquire(struct ww_mutex *m, struct ww_mutex *asks, struct ww_acquire_ctx *x, struct limit limit)
 {
-	if (LIKELY(limit.how == WAITS_ON))
-		return ww_mutex_lock(m, x);
+	const struct ww_desk *own = x->own->desk;
+	const struct ww_wait how = {
+		.heeds = limit.how == ENDS || x->state & WW_INTERRUPTIBLE, .until = limit.how == ENDS ? limit.until : NULL,
+		.asks = m != asks ? asks : NULL, .visits = m != asks && !(own && m == &own->mutex),
+	};
+
 	if (limit.how == POLLS)
 		return ww_poll_on(m, x, limit.waker);
-	return limit.how == ENDS ? ww_mutex_lock_until(m, x, limit.until) : ww_mutex_trylock_checked(m, x) == 1 ? 0 : -EBUSY;
+	if (limit.how == TRIES_ONCE && how.visits) {
+		int r = ww_try_(&x->own->handle, m->number);
+
+		__tsan_acquire(m);
+		return r;
+	}
+	return limit.how == TRIES_ONCE ? ww_try_by(m, x) : ww_lock_as(m, x, &how);
 }
 
 /* ---- desks ---- */
@@ -139,7 +152,7 @@ COLD static int make_desk(ww_seat *s)
 	d->mutex.pool = p;
 	d->mutex.waiters = IS_DESK;
 	d->seat = (uint32_t)(s - p->seats);
-	lies_here(p, &d->mutex);
+	lies_at(p, d->mutex.number, &d->mutex);
 	pthread_mutex_lock(&p->numbers);
 	__atomic_fetch_sub(&p->taken, 1, __ATOMIC_RELEASE);
 	k = p->made++ % WW_BITS;
@@ -151,21 +164,14 @@ COLD static int make_desk(ww_seat *s)
 	return 0;
 }
 
-/* Takes a desk on the way to a mutex: its own, or another's, for a moment. */
-static int take_desk(struct ww_desk *d, struct ww_mutex *m, struct ww_acquire_ctx *x, struct limit limit)
+/* The context has come to its desk: so it may acquire, whatever it was told before. */
+static inline void sits_down(struct ww_acquire_ctx *x, struct ww_desk *d)
 {
-	struct ww_mutex *desk = &d->mutex;
-	struct ww_wait how = { .heeds = limit.how == ENDS || x->state & WW_INTERRUPTIBLE, .asks = m, .visits = d != x->own->desk };
-
-	if (limit.how == POLLS)
-		return ww_poll_on(desk, x, limit.waker);
-	if (limit.how == TRIES_ONCE)
-		return how.visits ? ww_try_(&x->own->handle, d->mutex.number) : ww_mutex_trylock_checked(desk, x) == 1 ? 0 : -EBUSY;
-	how.until = limit.until;
-	return ww_lock_as(desk, x, &how);
+	wipe(d);
+	x->state &= ~(unsigned)IS_TOLD;
 }
 
-/* The context comes to its desk. */
+/* The context comes there. */
 static inline __attribute__((always_inline)) int sit(struct ww_mutex *m, struct ww_acquire_ctx *x, struct limit limit)
 {
 	int r = LIKELY(x->own->desk) ? 0 : make_desk(x->own);
@@ -178,12 +184,11 @@ static inline __attribute__((always_inline)) int sit(struct ww_mutex *m, struct 
 		own_it(&d->mutex, x, NULL);
 		(void)ww_debug_result(&d->mutex, x, 0, false);
 	} else {
-		r = take_desk(d, m, x, limit);
+		r = acquire(&d->mutex, m, x, limit);
 	}
 	if (UNLIKELY(r))
 		return r;
-	wipe(d);
-	x->state &= ~(unsigned)IS_TOLD;
+	sits_down(x, d);
 	return 0;
 }
 
@@ -210,7 +215,7 @@ COLD static bool sit_for_certain(struct ww_acquire_ctx *x, struct ww_desk *d)
 		ww_await_guard(&looks, &until);
 	x->state |= is_done;
 	if (!r)
-		wipe(d);
+		sits_down(x, d);
 	return !r;
 }
 
@@ -254,7 +259,7 @@ static bool is_used(struct ww_shared_mutex *m)
 /* Its memory goes: a context that has read it and reads on names the number alone. */
 int ww_shared_mutex_end_(struct ww_shared_mutex *m)
 {
-	return is_used(m) ? ww_mutex_leave(&m->mutex_) : ww_mutex_end_(&m->mutex_);
+	return ww_end_mutex(&m->mutex_, is_used(m) ? ww_leave_number : ww_give_number);
 }
 
 int ww_shared_mutex_destroy(struct ww_shared_mutex *m) { return is_used(m) ? -EBUSY : ww_mutex_destroy(&m->mutex_); }
@@ -263,12 +268,12 @@ size_t ww_shared_mutex_size(void) { return sizeof(struct ww_shared_mutex); }
 
 bool ww_shared_mutex_is_written_by(const struct ww_shared_mutex *m, const struct ww_acquire_ctx *x)
 {
-	return relation(x, &m->mutex_, HAS_IT) & HAS_IT;
+	return holds_it(x, &m->mutex_);
 }
 
 bool ww_shared_mutex_is_read_by(const struct ww_shared_mutex *m, const struct ww_acquire_ctx *x)
 {
-	return relation(x, &m->mutex_, READS_IT) & READS_IT;
+	return reads_it(x, &m->mutex_);
 }
 
 /* ---- which calls may go on ---- */
@@ -282,10 +287,10 @@ COLD static int admit(const char *call, struct ww_shared_mutex *m, struct ww_acq
 	return !r && what == TO_READ && x->state & IS_TOLD && sits(x) ? ww_debug_result(&m->mutex_, x, -EINVAL, true) : r;
 }
 
-/* Whether it may, as a call without a time may of a mutex that fits. */
+/* Whether it may, as a call without a time may of a mutex that fits. The debug library looks at each call. */
 static inline bool may_at_once(const struct ww_shared_mutex *m, const struct ww_acquire_ctx *x, struct limit limit)
 {
-	return limit.how != POLLS && (limit.how != ENDS || LIKELY(!limit.until)) && LIKELY(x) && LIKELY(pool_at(&m->mutex_) == x->pool) &&
+	return !ww_debug_lists() && limit.how != POLLS && (limit.how != ENDS || LIKELY(!limit.until)) && LIKELY(x) && LIKELY(pool_at(&m->mutex_) == x->pool) &&
 	       LIKELY(!(x->state & (IS_POLLED | IS_TOLD)));
 }
 
@@ -333,8 +338,8 @@ static void read_held(struct ww_shared_mutex *m, struct ww_desk *d)
  */
 COLD static int reads_in_turn(struct ww_shared_mutex *m, struct ww_acquire_ctx *x, struct limit limit)
 {
-	bool writes = relation(x, &m->mutex_, HAS_IT) & HAS_IT;
-	int r = !writes ? acquire(&m->mutex_, x, limit) : is_of_number(&m->mutex_) && !is_loop(x) ? -EALREADY : 0;
+	bool writes = holds_it(x, &m->mutex_);
+	int r = !writes ? acquire(&m->mutex_, &m->mutex_, x, limit) : is_of_number(&m->mutex_) && !is_loop(x) ? -EALREADY : 0;
 
 	if (!r) {
 		read_held(m, x->own->desk);
@@ -383,7 +388,7 @@ int ww_shared_mutex_trylock_shared(struct ww_shared_mutex *m, struct ww_acquire_
 /* It comes to somebody's desk, and leaves it without a mark. */
 static int wipe_desk(struct ww_mutex *m, struct ww_desk *d, struct ww_acquire_ctx *x, struct limit limit)
 {
-	int r = take_desk(d, m, x, limit);
+	int r = acquire(&d->mutex, m, x, limit);
 
 	if (r)
 		return r;
@@ -410,7 +415,7 @@ static int await_desk(struct ww_mutex *m, struct ww_desk *d, struct ww_acquire_c
 /* The lines of a writer, above, which has the mutex. By its own desk nobody else reads. */
 COLD static int await_readers(struct ww_shared_mutex *m, struct ww_acquire_ctx *x, struct limit limit)
 {
-	bool reads = relation(x, &m->mutex_, READS_IT) & READS_IT;
+	bool reads = reads_it(x, &m->mutex_);
 
 	for (uint64_t bits = __atomic_load_n(&m->readers_, __ATOMIC_SEQ_CST); bits; bits &= bits - 1) {
 		struct ww_desk *d = __atomic_load_n(&x->own->pool->desks[__builtin_ctzll(bits)], __ATOMIC_SEQ_CST);
@@ -453,8 +458,8 @@ static int write_slowly(struct ww_shared_mutex *m, struct ww_acquire_ctx *x, str
 		r = wipe_desk(&m->mutex_, (struct ww_desk *)(void *)x->polled, x, limit);
 		return r ? kept(m, x, r) : write_on(m, x, limit);
 	}
-	writes = is_loop(x) && relation(x, &m->mutex_, HAS_IT) & HAS_IT;
-	r = acquire(&m->mutex_, x, limit);
+	writes = is_loop(x) && holds_it(x, &m->mutex_);
+	r = acquire(&m->mutex_, &m->mutex_, x, limit);
 	return r || writes ? r : write_on(m, x, limit);
 }
 
@@ -464,14 +469,11 @@ static inline int write_by(struct ww_shared_mutex *m, struct ww_acquire_ctx *x, 
 
 	if (UNLIKELY(!may_at_once(m, x, limit)) || UNLIKELY(x->state & WW_IGNORE_DUPLICATES))
 		return write_slowly(m, x, limit);
-	r = acquire(&m->mutex_, x, limit);
+	r = limit.how == WAITS_ON ? ww_mutex_lock(&m->mutex_, x) : acquire(&m->mutex_, &m->mutex_, x, limit);
 	return UNLIKELY(r) ? r : write_on(m, x, limit);
 }
 
-int ww_shared_mutex_lock(struct ww_shared_mutex *m, struct ww_acquire_ctx *x)
-{
-	return write_by(m, x, (struct limit){ 0 });
-}
+int ww_shared_mutex_lock(struct ww_shared_mutex *m, struct ww_acquire_ctx *x) { return write_by(m, x, (struct limit){ 0 }); }
 
 int ww_shared_mutex_lock_until(struct ww_shared_mutex *m, struct ww_acquire_ctx *x, const struct timespec *until)
 {
@@ -485,12 +487,10 @@ int ww_shared_mutex_trylock(struct ww_shared_mutex *m, struct ww_acquire_ctx *x)
 
 void ww_shared_mutex_downgrade(struct ww_shared_mutex *m, struct ww_acquire_ctx *x)
 {
-	if (UNLIKELY(!x || !x->own || is_polled(x) || !(relation(x, &m->mutex_, HAS_IT) & HAS_IT)))
+	if (UNLIKELY(!x || !x->own || is_polled(x) || !holds_it(x, &m->mutex_)))
 		end("ww_shared_mutex_downgrade",
 	    x && x->own && is_polled(x) ? WAITS_BY_POLL : "the context doesn't write the mutex");
-	if (!x->own->desk && make_desk(x->own))
-		return;
-	if (!sits(x) && !sit_for_certain(x, x->own->desk))
+	if ((!x->own->desk && make_desk(x->own)) || (!sits(x) && !sit_for_certain(x, x->own->desk)))
 		return;
 	read_held(m, x->own->desk);
 	(void)ww_unlock_of(&m->mutex_, x);
@@ -500,9 +500,9 @@ int ww_shared_mutex_unlock(struct ww_shared_mutex *m, struct ww_acquire_ctx *x)
 {
 	if (is_polled(x))
 		return -EBUSY;
-	if (holder_of(&m->mutex_) && relation(x, &m->mutex_, HAS_IT) & HAS_IT)
+	if (holder_of(&m->mutex_) && holds_it(x, &m->mutex_))
 		return ww_unlock_of(&m->mutex_, x);
-	if (!(relation(x, &m->mutex_, READS_IT) & READS_IT)) {
+	if (!reads_it(x, &m->mutex_)) {
 		ww_debug_fault(NULL, "ww_shared_mutex_unlock", "the context neither reads nor writes the mutex");
 		return -EINVAL;
 	}
@@ -633,42 +633,37 @@ int ww_shared_mutex_await_poll(struct ww_acquire_ctx *x, const struct ww_waker *
 
 /* ---- by number ---- */
 
-static struct ww_shared_mutex *asked(const char *call, uint32_t number, const struct ww_acquire_ctx *x)
-{
-	return shared_of(ww_number_asked(call, number, x, 0));
-}
-
 int ww_number_lock_shared(uint32_t number, struct ww_acquire_ctx *x, const struct timespec *until)
 {
-	struct ww_shared_mutex *m = asked("ww_number_lock_shared", number, x);
+	struct ww_mutex *m = ww_number_asked("ww_number_lock_shared", number, x, 0);
 
-	return LIKELY(m) ? read_by(m, x, (struct limit){ ENDS, { until } }) : -EINVAL;
+	return LIKELY(m) ? read_by(shared_of(m), x, (struct limit){ ENDS, { until } }) : -EINVAL;
 }
 
 int ww_number_lock_exclusive(uint32_t number, struct ww_acquire_ctx *x, const struct timespec *until)
 {
-	struct ww_shared_mutex *m = asked("ww_number_lock_exclusive", number, x);
+	struct ww_mutex *m = ww_number_asked("ww_number_lock_exclusive", number, x, 0);
 
-	return m ? ww_shared_mutex_lock_until(m, x, until) : -EINVAL;
+	return m ? ww_shared_mutex_lock_until(shared_of(m), x, until) : -EINVAL;
 }
 
 int ww_number_lock_shared_poll(uint32_t number, struct ww_acquire_ctx *x, const struct ww_waker *waker)
 {
-	struct ww_shared_mutex *m = asked("ww_number_lock_shared_poll", number, x);
+	struct ww_mutex *m = ww_number_asked("ww_number_lock_shared_poll", number, x, 0);
 
-	return m ? ww_shared_mutex_lock_shared_poll(m, x, waker) : -EINVAL;
+	return m ? ww_shared_mutex_lock_shared_poll(shared_of(m), x, waker) : -EINVAL;
 }
 
 int ww_number_lock_exclusive_poll(uint32_t number, struct ww_acquire_ctx *x, const struct ww_waker *waker)
 {
-	struct ww_shared_mutex *m = asked("ww_number_lock_exclusive_poll", number, x);
+	struct ww_mutex *m = ww_number_asked("ww_number_lock_exclusive_poll", number, x, 0);
 
-	return m ? ww_shared_mutex_lock_poll(m, x, waker) : -EINVAL;
+	return m ? ww_shared_mutex_lock_poll(shared_of(m), x, waker) : -EINVAL;
 }
 
 bool ww_number_is_read(uint32_t number, const struct ww_acquire_ctx *x)
 {
 	const struct ww_mutex *m = ww_number_of(number, x);
 
-	return m && relation(x, m, READS_IT) & READS_IT;
+	return m && reads_it(x, m);
 }

@@ -42,7 +42,10 @@ struct ww_shared_mutex {
 /* As ww_mutex_init, and ww_mutex_init_checked. */
 void ww_shared_mutex_init(struct ww_shared_mutex *lock, struct ww_class *ww_class);
 WW_MUST_CHECK int ww_shared_mutex_init_checked(struct ww_shared_mutex *lock, struct ww_class *ww_class);
-/* As ww_mutex_destroy: -EBUSY also while a context reads it. */
+/*
+ * As ww_mutex_destroy: -EBUSY also while a context reads it.  It has the mutex while it looks, so a trylock may be 0 meanwhile, and a
+ * lock call waits.
+ */
 int ww_shared_mutex_destroy(struct ww_shared_mutex *lock);
 
 /*

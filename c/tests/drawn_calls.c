@@ -728,7 +728,8 @@ static void lock_all(struct task *t)
 static void shared_result(struct task *t, int k, enum what as, int r, bool polls, bool at_once)
 {
 	bool has = holds(t, k) || (as == READ && t->has_read[k]);
-	int again = as == READ || (t->loop && t->flags & WW_IGNORE_DUPLICATES) ? 0 : -EALREADY;
+	bool refused_by_number = as == READ && holds(t, k) && !t->has_read[k] && is_number(k) && !t->loop;
+	int again = !refused_by_number && (as == READ || (t->loop && t->flags & WW_IGNORE_DUPLICATES)) ? 0 : -EALREADY;
 
 	t->slow = false;
 	if (t->told && t->count) {
@@ -741,7 +742,9 @@ static void shared_result(struct task *t, int k, enum what as, int r, bool polls
 		IS(r == again);
 		return;
 	}
-	IS(!r || !at_once);
+	if (refused_by_number && r == again) /* once it has its desk */
+		return;
+	IS(r ? !at_once : !refused_by_number);
 	if (r == -EDEADLK) {
 		is_told(t);
 	} else if (r) {

@@ -58,6 +58,7 @@ static void step(struct run *r, const struct machine *m, unsigned threads)
 	r->waited += run < threads;
 	r->is_of_use = ww_gate_look(&r->gate, r->now, r->begun / 1000000000, r->waited);
 	r->windows += r->gate.since != since;
+	MUST(!r->gate.is_bounded || r->gate.width != NO_LIMIT);
 }
 
 /* Until the gate keeps this width, and then for long; or until it is of no use: within so many windows. */
@@ -77,7 +78,7 @@ static void goes_to(struct run *r, const struct machine *m, unsigned threads, ui
 }
 
 /* In the order of the text: the machine, its threads, the gate's bounds, where it ends up and within how many windows; 0: it is of no use. */
-static const struct {
+static const struct load {
 	struct machine machine;
 	unsigned threads, least, first, most;
 	uint32_t width;
@@ -99,16 +100,26 @@ static const struct {
 	{ { 64, 1000000, FLAT }, 64, 1, 1, 64, 0, 60 },
 	{ { 64, 1000000, FLAT }, 3, 1, 64, 64, 0, 60 },
 	{ { 64, 1000000, PEAK }, 64, 2, 2, 2, 0, 60 },
+},
+/* Where no limit is never tried it is of no use only if nobody waits. */
+bounded[] = {
+	{ { 64, 1000000, PEAK }, 64, 1, 1, 8, 8, 40 },
+	{ { 64, 1000000, FLAT }, 64, 1, 1, 4, 4, 40 },
+	{ { 64, 1000000, PEAK }, 64, 1, 1, 1, 1, 40 },
+	{ { 64, 1000000, PEAK }, 64, 1, 1, 2, 2, 40 },
+	{ { 1, 1000000, PEAK }, 64, 1, 1, 8, 1, 8 },
+	{ { 2, 1000000, PEAK }, 2, 1, 1, 8, 0, 60 },
 };
 
-static void ends_up(void)
+static void ends_up(const struct load *loads, size_t count, bool is_bounded)
 {
-	for (size_t k = 0; k < sizeof cases / sizeof *cases; k++) {
+	for (size_t k = 0; k < count; k++) {
 		struct run r;
 
-		begin(&r, cases[k].least, cases[k].first, cases[k].most);
-		goes_to(&r, &cases[k].machine, cases[k].threads, cases[k].width, cases[k].within);
-		MUST(r.is_of_use == (cases[k].width > 0));
+		begin(&r, loads[k].least, loads[k].first, loads[k].most);
+		r.gate.is_bounded = is_bounded;
+		goes_to(&r, &loads[k].machine, loads[k].threads, loads[k].width, loads[k].within);
+		MUST(r.is_of_use == (loads[k].width > 0));
 	}
 }
 
@@ -199,6 +210,35 @@ static void follows_tasks(void)
 	}
 }
 
+/* In milliseconds, how long 64 tasks wait for a context each, all of which await a timer for 50: one that ends looks. */
+static uint64_t takes(struct run *r)
+{
+	uint64_t since = r->now;
+
+	for (unsigned k = 0; k < 64; k++) {
+		r->now += 50 * (uint64_t)MILLISECOND / (r->gate.width < 64 ? r->gate.width : 64);
+		r->begun += 1000000000;
+		(void)ww_gate_look(&r->gate, r->now, r->begun / 1000000000, ++r->waited);
+	}
+	return (r->now - since) / MILLISECOND;
+}
+
+/* They don't take much longer behind a load at which one at a time was best, wherever the gate was in its tries. */
+static void forgets_another_load(void)
+{
+	static const struct machine one = { 1, 400000, PEAK };
+	struct run before, r;
+
+	begin_tasks(&before);
+	for (unsigned k = 0; k < 2 * LONG * (MILLISECOND / STEP); k++) {
+		step(&before, &one, 896);
+		r = before;
+		MUST(k < LONG * (MILLISECOND / STEP) || (r.gate.kept == 1 && takes(&r) < 600));
+	}
+	begin_tasks(&r);
+	MUST(takes(&r) < 150);
+}
+
 /* A look by a thread that read the clock before the window began changes nothing. */
 static void knows_no_past(void)
 {
@@ -218,34 +258,16 @@ static void knows_no_past(void)
 	MUST(r.gate.kept == 2);
 }
 
-/* A permit lasts as long as 128 contexts, but at least 0.2 ms, and at most 1 ms. */
-static void leases(void)
-{
-	static const struct {
-		unsigned rate;
-		uint64_t lease;
-	} due[] = { { 10, 1000000 }, { 256, 500000 }, { 320, 400000 }, { 5000, 200000 } };
-
-	for (size_t k = 0; k < sizeof due / sizeof *due; k++) {
-		const struct machine one = { 1, 1000 * due[k].rate, PEAK };
-		struct run r;
-
-		begin(&r, 1, 1, 64);
-		MUST(r.gate.lease == 200000);
-		goes_to(&r, &one, 64, 1, 8);
-		MUST(r.gate.lease > due[k].lease / 16 * 15 && r.gate.lease < due[k].lease / 16 * 17);
-	}
-}
-
 int main(void)
 {
-	ends_up();
+	ends_up(cases, sizeof cases / sizeof *cases, false);
+	ends_up(bounded, sizeof bounded / sizeof *bounded, true);
 	ends_with_its_load();
 	follows();
 	falls();
 	follows_tasks();
+	forgets_another_load();
 	knows_no_past();
-	leases();
 	puts("gate: where each machine is at its best, and soon");
 	return 0;
 }

@@ -303,7 +303,7 @@ TABLE = {
     "alone": {"seat_of": "load acq", "own_it": "store rel", "unlock_alone": "store rlx"},
     # By what lies there before, the words that a list fetches ahead are of no use, and nothing else.
     "number": {"ww_number_at_first": "store rlx", "fetch_ahead": "load rlx"},
-    "is_large": {"ww_open_numbers": "store rlx", "take": "store rlx", "begin_list": "load rlx"},
+    "is_large": {"ww_open_numbers": "store rlx", "takes": "store rlx", "begin_list": "load rlx"},
     # It lies in the place of that, and others see that it is even.
     "older": {"WW_HOLDS_": "store rlx", "enlist": "store rlx"},
     "link": {"unlist": "store rlx"},
@@ -311,7 +311,7 @@ TABLE = {
     # A waiter says first that it holds the mutex, and then that it waits no more; who destroys looks the other way round.
     # Of one that is known by its number also that this is taken, which nobody asks for before.
     "waiters": {
-        "end_by": "load sc", "ww_is_used": "load sc", "ww_is_used_by_number": "load sc", "ww_number_leave": "fetch_sub sc", "count_waiter": "fetch_add sc, fetch_add sc",
+        "ww_end_mutex": "load sc", "ww_is_used": "load sc", "ww_is_used_by_number": "load sc", "ww_number_leave": "fetch_sub sc", "count_waiter": "fetch_add sc, fetch_add sc",
         "lock_by_any": "fetch_add sc, fetch_sub sc", "ww_number_put": "load sc, compare_exchange sc/sc",
         "ww_number_take": "store rlx, fetch_add rlx",
         "is_desk": "load rlx", # which it always is
@@ -325,27 +325,27 @@ TABLE = {
         "await_readers": "load sc, fetch_and sc", "write_on": "load sc", "ww_is_used": "load sc",
         "ww_number_is_held": "load rlx", # by who has the mutex
     },
-    "desks": {"make_desk": "store sc", "is_read": "load sc", "await_readers": "load sc", "desk_at": "load sc"},
+    "desks": {"make_desk": "store sc", "is_read_by": "load sc", "await_readers": "load sc", "desk_at": "load sc"},
     # What was read comes before a mark that is gone. Others than its own thread look at marks alone.
     "marks": {
-        "mark": "exchange sc", "unmark": "store rel", "wipe": "store rel", "await_desk": "load sc", "is_read_at": "load acq",
+        "mark": "exchange sc", "unmark": "store rel", "wipe": "store rel", "await_desk": "load sc", "is_read_by": "load acq",
         "has_mark": "load rlx", "reads_at_once": "load rlx", "read_held": "load rlx",
     },
     # Whoever sees a read sees that the marks from before it are gone.
     "reads": {
-        "sit": "store rlx", "sit_for_certain": "store rlx", "reads_more": "store rel", "is_read_at": "load acq",
+        "sit": "store rlx", "sit_for_certain": "store rlx", "reads_more": "store rel", "is_read_by": "load acq",
         "reads_on": "store rlx", "ww_debug_reads": "load rlx",
     },
     # All of an open class; and of a mutex the number, which its first lock may just have given it.
     "pool": {
         "pool_of": "load acq, load acq", "pool_at": "load acq", "open_now": "store rel", "ww_number_at_first": "store rel",
         "ww_class_free": "store rel", "is_open": "load rlx", "ww_acquire_init": "load acq", "begin_by_any": "load acq", "ww_acquire_init_poll": "load acq", "ww_mutex_lock": "load acq",
-        "ww_mutex_trylock": "load acq", "end_by": "store rel", "ww_number_take": "store rel",
+        "ww_mutex_trylock": "load acq", "ww_end_mutex": "store rel", "ww_number_take": "store rel",
     },
     # The proved library's, of which a lock's owner sees at least what it wrote there itself.
     "owners": {"release_by_numbers": "load rlx"},
     # Where a mutex lies: who holds it comes after that.
-    "lies_at": {"lies_here": "store rlx", "lies_nowhere": "store rlx", "mutex_with": "load rlx"},
+    "lies_at": {"lies_at": "store rlx", "mutex_with": "load rlx"},
     # The mutexes of numbers, which are empty then.
     "numbered": {"mutex_at": "load acq", "mutexes_of": "store rel"},
     "last_thread": {"my_thread": "add_fetch rlx"},
@@ -365,22 +365,22 @@ TABLE = {
     "at_hand": {
         "seat_at_hand": "load rlx", "ww_other_seat": "load rlx", "is_crowded": "load rlx", "set_crowded": "store rlx", "set_id": "store rlx",
     },
-    "rests": {"ww_crowd_open": "store rlx", "ww_has_waited": "load rlx", "look_at_crowd": "store rlx"},
+    "rests": {"ww_crowd_open": "store rlx", "ww_has_waited": "load rlx", "end_crowd": "store rlx"},
     # Hints for who stays awake, for a while at most.
     "awaits": {
         "begin_wait": "store rlx", "end_wait": "store rlx", "is_in_cycle": "load rlx",
     },
     # Written under the crowd's lock, and a word for the futex to look at.
-    "is_called": {"call": "store rlx", "stand_in_line": "store rlx"},
+    "calls": {"call": "fetch_add rlx", "wait_for_permit": "load rlx"},
     # A count for the gate.
-    "begun": {"ww_await_permit": "fetch_add rlx", "look_at_crowd": "load rlx"},
+    "begun": {"begin_crowd": "store rlx", "is_of_use": "load rlx", "ww_await_permit": "fetch_add rlx"},
     "awaited": {"ww_crowd_open": "store rlx", "ww_class_stats": "load rlx"},
-    # Whoever frees a class at 0 sees the seats, in use, of those that stood in the line.
-    "waiting": {"join": "add_fetch rlx", "ww_has_begun": "sub_fetch rel", "permit_seekers": "load acq"},
+    # Whoever frees a class at 0 sees the seats, in use, of those that waited for a permit.
+    "waiting": {"wait_for_permit": "add_fetch rlx", "ww_has_begun": "sub_fetch rel", "permit_seekers": "load acq"},
     # To all threads but the one that it names, or named, it is the same. Who may be the next keeper is a glance before the lock.
     "keeper": {"give_seat": "load rlx", "let_go": "store rlx", "keep": "store rlx"},
     # How many seats are kept, a hint; whoever sees that it didn't change between two passes saw in both that the same were.
-    "kept": {"keeps_more": "store rlx", "any_seat": "load rlx", "report_leak": "load rlx"},
+    "kept": {"keeps_more": "store rlx", "any_seat": "load rlx", "has_processors": "load rlx", "is_short_of_processors": "load rlx", "report_leak": "load rlx"},
     "changed": {"keeps_more": "fetch_add sc", "ww_claim_from": "load sc"},
     # Written before others see the class; whoever serves late finds nobody in the queue, or somebody who saw that.
     "id": {"set_id": "store rlx", "ww_serve": "load rlx"},
@@ -392,7 +392,7 @@ TABLE = {
         "look_if_due": "load rlx",
     },
     # Changed under the lock of numbers; whoever frees a class at 0 sees all that those wrote who had one.
-    "taken": {"take": "fetch_add rlx", "ww_give_number": "fetch_sub rel", "taken_numbers": "load acq", "make_desk": "fetch_sub rel"},
+    "taken": {"takes": "fetch_add rlx", "ww_give_number": "fetch_sub rel", "taken_numbers": "load acq", "make_desk": "fetch_sub rel"},
     # The seat that is handed over, and all that goes with it.
     "served_": {"call_first": "store rlx", "take_out": "store rel", "ww_seek_seat": "load acq", "ww_is_served": "load acq"},
     # Counts, which order nothing; and glances of the debug library. What a waiter in its list did before is ordered by its lock.
@@ -400,7 +400,7 @@ TABLE = {
     "waits": {"ww_class_stats": "load rlx"},
     "back_offs": {"ww_class_stats": "load rlx"},
     # Said before a waiter is woken, which looks at it after it took its token away, or was taken out of the queue under its lock; or
-    # before those in the line for a permit are called, which look at it under its lock.
+    # before those that wait for a permit are called, which look at it under its lock.
     "ends_waits": {"make_pool": "store sc", "ww_ends_waits": "load sc", "ww_class_cancel": "store sc"},
     "is_reported": {"make_pool": "store rlx", "is_stuck": "exchange rlx"},
     "is_lock_reported": {"make_pool": "store rlx", "ww_says_if_long": "exchange rlx"},
@@ -507,14 +507,16 @@ PLAIN = {
     "crowd->permits": "crowd: ww_crowd_open",
     "crowd->rest": "crowd: ww_crowd_open",
     "crowd->gate": "crowd: ",
-    "gate->holds": "crowd: ",
-    "crowd->first": "crowd: ww_crowd_open",
-    "crowd->end": "crowd: ww_crowd_open",
+    "gate->kept": "crowd: ",
+    "crowd->came": "crowd: ww_crowd_open",
+    "crowd->went": "crowd: ww_crowd_open",
+    "crowd->since": "crowd: ",
+    "crowd->held": "crowd: ",
+    "crowd->waited": "crowd: ",
     "crowd->awaited": "crowd: ",
-    "it->seat": "crowd: is_free",
-    "it->ends": "crowd: is_free is_stale",
-    "it->next": "crowd: ww_event_wake", # of a crowd; and of an event
-    "me->next": "crowd: ",
+    "it->seat": "crowd: is_over",
+    "it->ends": "crowd: is_over",
+    "it->next": "by: ww_event_wake",
     # Before others see the class, by its pool.
     "p->seats": "by: make_pool",
     "p->class_": "by: make_pool",
@@ -536,7 +538,7 @@ PLAIN = {
     # By whoever holds the mutex, which its lock orders, or makes or destroys it.
     "m->older": "by: ",
     # In that place, too: read where it has no number, before whoever gives it one, under the lock of opening, or by itself.
-    "m->class_": "by: ww_mutex_destroy end_by",
+    "m->class_": "by: ww_mutex_destroy ww_end_mutex",
     # By nobody, so by __atomic_* alone; but for number, which is given before `pool` is stored.
     "m->pool": "by: ",
     "m->number": "by: ww_number_take",
@@ -553,7 +555,7 @@ PLAIN = {
     "desk->reads": "by: ",
     # Before others see the mutex.
     "m->readers_": "by: ww_shared_mutex_init ww_shared_mutex_init_checked",
-    "p->made": "numbers: free_desks take",
+    "p->made": "numbers: free_desks",
     "p->desks": "numbers: free_desks",
     "s->desk": "by: make_desk",
     "x->own": "by: ",
@@ -561,14 +563,14 @@ PLAIN = {
     "x->pool": "by: begin_core close_or_open draw_age_by_hand may_be_older no_more of_seat",
     # By the user of a seat, and by its keeper, or whoever frees the class, once nobody uses it: all that goes with `busy`.
     "s->ages": "by: has_met may_be_older stop_rest unlock_alone_on ww_acquire_fini ww_acquire_fini_checked",
-    "p->low": "numbers: take ww_open_numbers",
-    "p->taken": "numbers: take",
+    "p->low": "numbers: ww_open_numbers",
+    "p->taken": "numbers: ",
     "p->left": "numbers: make_pool",
-    "p->used": "numbers: keep_memory line_from make_pool take used_of",
+    "p->used": "numbers: keep_memory line_from make_pool used_of",
     "p->lies_at": "by: make_pool",
 }
 # What a thread has for itself, under names of fields that others share; and names under which others stand for the same.
-OWN = ["permit", "wait", "waker", "front", "f", "ww_mine", "kept", "counts", "s->seat", "s->id", "last"]
+OWN = ["permit", "had", "wait", "waker", "front", "f", "ww_mine", "kept", "counts", "s->seat", "s->id", "last"]
 SAME = {"lock": "m", "owed": "m", "older": "m", "ctx": "x", "victim": "s", "by": "s", "own": "s", "seat": "s", "seats": "s"}
 
 
@@ -883,8 +885,8 @@ def given(gives):
     )
 
 
-def stood(begins):
-    """Whoever stood in the line for a permit uses a seat, against whoever frees the class."""
+def waited(begins):
+    """Whoever waited for a permit uses a seat, against whoever frees the class."""
     return (
         [[W("busy", 1, "rlx"), X("w", "waiting", add(-1), begins)], [R("w", "waiting", "acq"), IF("w", 0, R("b", "busy", "acq"))]],
         lambda r, f: r[1].get("b") == 0,
@@ -1000,7 +1002,7 @@ def wrong():
     yield "a keeper looks relaxed", kept("ar", "rlx")
     yield "whoever comes second acquires nothing", let_go("rel", "rel")
     yield "a number is put back relaxed", given("rlx")
-    yield "whoever stood in the line says relaxed that it begins", stood("rlx")
+    yield "whoever stood in the line says relaxed that it begins", waited("rlx")
     yield "a reader marks by a release", share("rel", "sc", "sc")
     yield "a reader looks relaxed whether the mutex is free", share("sc", "rlx", "sc")
     yield "a writer looks relaxed for a mark", share("sc", "sc", "rlx")
@@ -1043,7 +1045,7 @@ def ours():
         [R("b", "busy", "acq"), R("o", "other", "acq"), IF("b", 0, IF("o", 0, R("h", "handle"), W("handle", 9)))],
     ], lambda r, f: r[2].get("h") == 0, {"busy": 1, "other": 1}
     yield "a class is freed once all numbers are put back", *given("rel")
-    yield "a class isn't freed while who stood in the line begins", *stood("rel")
+    yield "a class isn't freed while who stood in the line begins", *waited("rel")
     yield "a seat of a world goes from user to user", [
         [W("handle", 1), X("p", "taken", put(0), "rel")],
         [X("t", "taken", put(1), "acq"), IF("t", 0, R("h", "handle"))],

@@ -5,7 +5,7 @@
  */
 #include "crowd.h"
 
-enum { PERMITS = 2, THREADS = 24, HOT = 4, WARM = 64, QUICK = 10000, SLOW = 20, FAIR = 100, LEASE = 200000 };
+enum { PERMITS = 2, THREADS = 24, HOT = 4, WARM = 64, QUICK = 10000, SLOW = 20, FAIR = 100 };
 
 static DEFINE_WW_CLASS(wound_wait);
 static DEFINE_WD_CLASS(wait_die);
@@ -33,6 +33,7 @@ static void *begins_together(void *arg)
 	for (unsigned k = 0; k < 3; k++) {
 		struct ww_acquire_ctx x, y;
 
+		is_awake();
 		ww_acquire_init(&x, c);
 		pthread_barrier_wait(&meet);
 		ww_acquire_init(&y, c); /* who runs one waits for no permit */
@@ -130,13 +131,13 @@ static void storms(unsigned count, unsigned times, unsigned sleeps)
 	}
 	for (unsigned k = 0; k < WARM; k++)
 		counted += sum[k];
-	MUST(counted == 2 * done && !permit_seekers(c->pool) && !c->pool->crowd.first);
+	MUST(counted == 2 * done && !permit_seekers(c->pool));
 	__atomic_store_n(&c->pool->at_hand, c->pool->id, __ATOMIC_RELAXED);
 }
 
 /* ---- a cancel ---- */
 
-/* Far more than permits, so some always have to stand in the line, until the first of them was told to stop. */
+/* Far more than permits, so some always have to wait for one, until the first of them was told to stop. */
 static void *until_cancelled(void *arg)
 {
 	struct ww_acquire_ctx x;
@@ -155,12 +156,9 @@ static void *until_cancelled(void *arg)
 	return arg;
 }
 
-/* Again and again, as its gate may end a crowd. */
 static void *cancels(void *arg)
 {
 	while (!__atomic_load_n(&stops, __ATOMIC_SEQ_CST)) {
-		if (!is_crowded(c->pool))
-			crowds(c, PERMITS, LEASE);
 		if (permit_seekers(c->pool))
 			MUST(!ww_class_cancel(c));
 		usleep(100);
@@ -168,18 +166,18 @@ static void *cancels(void *arg)
 	return arg;
 }
 
-/* All end, whoever sleeps in the line then. */
+/* All end, whoever waits for a permit then. */
 static void a_cancel_ends_all(void)
 {
 	pthread_t by;
 
-	crowds(c, PERMITS, LEASE);
+	crowds(c, PERMITS);
 	stops = false;
 	to_do = THREADS;
 	by = begin_thread(cancels, NULL);
 	in_many(until_cancelled);
 	end_thread(by);
-	MUST(to_do < THREADS && !permit_seekers(c->pool) && !c->pool->crowd.first);
+	MUST(to_do < THREADS && !permit_seekers(c->pool));
 	__atomic_store_n(&c->pool->at_hand, c->pool->id, __ATOMIC_RELAXED);
 }
 
@@ -190,7 +188,7 @@ static void all(struct ww_class *of)
 	for (unsigned k = 0; k < WARM; k++)
 		ww_mutex_init(&hot[k], c);
 	MUST(ww_class_crowd(c, 1) == -EBUSY);
-	crowds(c, PERMITS, LEASE);
+	crowds(c, PERMITS);
 	in_many(begins_together);
 	MUST(permit_waits(c));
 	__atomic_store_n(&c->pool->at_hand, c->pool->id, __ATOMIC_RELAXED);

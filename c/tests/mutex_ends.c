@@ -5,6 +5,7 @@
 #include "mutex_test.h"
 #include "../ww_number.h"
 #include "../ww_poll.h"
+#include "../ww_shared.h"
 #include <signal.h>
 #include <sys/wait.h>
 
@@ -100,16 +101,17 @@ static void amid_a_wait(void (*what)(struct ww_acquire_ctx *waits, struct ww_mut
 	static DEFINE_WW_CLASS(own);
 	const struct ww_waker waker = { never, &x, NULL };
 	struct ww_acquire_ctx waits, holds;
-	struct ww_mutex m, n;
+	struct ww_shared_mutex m;
+	struct ww_mutex n;
 
-	ww_mutex_init(&m, &own);
+	ww_shared_mutex_init(&m, &own);
 	ww_mutex_init(&n, &own);
 	ww_acquire_init(&waits, &own);
 	ww_acquire_init(&holds, &own);
 	if (it_holds)
-		MUST(!ww_mutex_lock(&m, &waits));
+		MUST(!ww_shared_mutex_lock(&m, &waits));
 	MUST(!ww_mutex_lock(&n, &holds) && ww_mutex_lock_poll(&n, &waits, &waker) == -EINPROGRESS);
-	what(&waits, it_holds ? &m : NULL);
+	what(&waits, it_holds ? &m.mutex_ : NULL);
 }
 static void loops(struct ww_acquire_ctx *waits, struct ww_mutex *holds)
 {
@@ -131,6 +133,17 @@ static void unlocks_all(struct ww_acquire_ctx *waits, struct ww_mutex *holds)
 	(void)holds;
 	ww_acquire_unlock_all(waits);
 }
+static void downgrades(struct ww_acquire_ctx *waits, struct ww_mutex *holds)
+{
+	ww_shared_mutex_downgrade((struct ww_shared_mutex *)(void *)holds, waits);
+}
+static void ends_reads(struct ww_acquire_ctx *waits, struct ww_mutex *holds)
+{
+	(void)holds;
+	ww_acquire_end_reads(waits);
+}
+static void downgrade_amid_a_wait(void) { amid_a_wait(downgrades, true); }
+static void end_of_reads_amid_a_wait(void) { amid_a_wait(ends_reads, false); }
 static void loop_amid_a_wait(void) { amid_a_wait(loops, false); }
 static void unlock_amid_a_wait(void) { amid_a_wait(unlocks, true); }
 static void unlock_all_amid_a_wait(void) { amid_a_wait(unlocks_all, true); }
@@ -285,6 +298,8 @@ int main(void)
 	ends(unlock_amid_a_wait, "ww_mutex_unlock: its context waits by a poll, or is another one");
 	ends(unlock_all_amid_a_wait, "ww_acquire_unlock_all: class \"own\": the context waits by a poll");
 	ends(fini_amid_a_wait, "ww_acquire_fini: class \"own\": the context waits by a poll");
+	ends(downgrade_amid_a_wait, "ww_shared_mutex_downgrade: the context waits by a poll");
+	ends(end_of_reads_amid_a_wait, "ww_acquire_end_reads: the context waits by a poll");
 	forks();
 	ww_mutex_unlock(&a);
 	ww_mutex_unlock(&b);

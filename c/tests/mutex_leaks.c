@@ -3,6 +3,7 @@
  * only if none was given meanwhile; and it goes on waiting.  So does the next task that comes to wait, and one that waits for a mutex, once a class.
  */
 #include "mutex_test.h"
+#include "../ww_class.h"
 #include "../ww_poll.h"
 #include "later.h"
 
@@ -182,6 +183,8 @@ static void is_said_of_tasks(void)
 
 	__atomic_store_n(&ahead, -60, __ATOMIC_SEQ_CST);
 	ww_class_init(&c, 0, "it");
+	MUST(!ww_class_open(&c));
+	c.pool->tasks.due = UINT64_MAX; /* nobody looks whether more contexts would be better */
 	while (!ww_acquire_init_poll(&tasks[count], &c, &seeks[0], &waker))
 		count++;
 	snprintf(all, sizeof all, "a wait for a context: class \"it\": all %u contexts have been in use for 10 seconds; one that isn't "

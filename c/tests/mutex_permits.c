@@ -1,55 +1,92 @@
 /*
- * Each line of the tables of ww_crowd.c.  A crowd, and how many permits it has, for how long, is set by hand, so no load and no time
- * decides what comes: where a thread has to be called it would otherwise sleep for longer than this test may take.
+ * Each sentence and line at the head of ww_crowd.c.  A crowd and its permits are set by hand; and what happens while this thread waits
+ * for a permit it does itself, in place of the sleep (`asleep`).  So neither a load nor the time decides what comes.
  */
 #include "crowd.h"
-#include <semaphore.h>
+#include <linux/futex.h>
+#include <limits.h>
+#include <stdarg.h>
+#include <sys/resource.h>
+#include <sys/syscall.h>
 #include <sys/wait.h>
 
-/* In milliseconds: the lease of a permit for which nobody should wait; what is too late; and GRACE of ww_crowd.c. */
-enum { FAR = 8000, LATE = 5000, GRACE = 4 };
+/* As in ww_crowd.c, in nanoseconds; and longer than this test may take. */
+enum { TIMER_SLACK = 50000, GRACE = 16000000, REST = 16000000, LONGEST_REST = 512000000, MEETING = 1000, AWAKE = 2 };
+#define FAR ((uint64_t)1 << 50)
 
 static struct ww_class c, other;
 
-static uint64_t now(void)
+static uint64_t nanoseconds(const struct timespec *at) { return (uint64_t)at->tv_sec * 1000000000 + (uint64_t)at->tv_nsec; }
+
+/* ---- what comes in place of a sleep ---- */
+
+static __thread void (*asleep)(void); /* without it the thread sleeps */
+static __thread unsigned slept;	      /* how often it did, or would have */
+static __thread uint64_t looks;	      /* until when */
+static int called;		      /* how many were woken at most, in all */
+static bool goes_on;		      /* who slept last would have been woken, or not have slept */
+
+long __real_syscall(long number, ...);
+long __wrap_syscall(long number, ...);
+long __wrap_syscall(long number, ...)
 {
-	struct timespec at = in_ms(0);
+	va_list list;
+	uint32_t *word, is;
+	int command;
+	const struct timespec *until;
 
-	return (uint64_t)at.tv_sec * 1000000000 + (uint64_t)at.tv_nsec;
+	va_start(list, number);
+	word = va_arg(list, uint32_t *);
+	command = va_arg(list, int);
+	is = va_arg(list, uint32_t);
+	until = va_arg(list, const struct timespec *);
+	va_end(list);
+	if (c.pool && word == &c.pool->crowd.calls && (command & FUTEX_CMD_MASK) == FUTEX_WAKE)
+		called = is > (uint32_t)INT_MAX - (uint32_t)called ? INT_MAX : called + (int)is;
+	if (!c.pool || word != &c.pool->crowd.calls || (command & FUTEX_CMD_MASK) == FUTEX_WAKE)
+		return __real_syscall(number, word, command, is, until, NULL, FUTEX_BITSET_MATCH_ANY);
+	slept++;
+	looks = nanoseconds(until);
+	called = 0;
+	if (!asleep)
+		return __real_syscall(number, word, command, is, until, NULL, FUTEX_BITSET_MATCH_ANY);
+	asleep();
+	goes_on = __atomic_load_n(word, __ATOMIC_RELAXED) != is && called;
+	return 0;
 }
-
-static uint64_t ms(uint64_t count) { return count * 1000000; }
-
-static uint32_t in_line(struct ww_class *of) { return permit_seekers(of->pool); }
-static bool has_one(void) { return ww_mine.permit.ends > now(); }
 
 /* ---- what is set by hand ---- */
 
-static void opens_crowded(struct ww_class *of, uint32_t permits)
+static void opens(struct ww_class *of, uint32_t permits)
 {
 	ww_class_init(of, 0, "crowded");
 	MUST(!ww_class_open(of));
-	crowds(of, permits, ms(FAR));
+	if (permits)
+		crowds(of, permits);
+	is_awake();
+	asleep = NULL;
+	ww_mine.permit = (struct ww_my_permit){ 0 };
 }
 
-/* From now on whoever has it, it is so long until its lease is over. */
-static void ends_in(struct ww_class *of, unsigned permit, uint64_t in)
+/* Whoever has it, its lease is over then, or it was put back. */
+static void ends_at(unsigned permit, uint64_t at) { c.pool->crowd.permits[permit] = (struct ww_permit){ .ends = at }; }
+static void all_end(void)
 {
-	pthread_mutex_lock(&of->pool->crowd.lock);
-	of->pool->crowd.permits[permit] = (struct ww_permit){ .ends = now() + in };
-	pthread_mutex_unlock(&of->pool->crowd.lock);
+	for (unsigned k = 0; k < MANY_PERMITS; k++)
+		ends_at(k, 0);
 }
+
+/* So many wait, before whoever comes next; and so many no longer do. */
+static void come(uint32_t many) { c.pool->crowd.came += many; }
+static void go(uint32_t many) { c.pool->crowd.went += many; }
 
 /* This thread's lease is over. */
-static void is_over(struct ww_class *of)
+static void lease_ends(void)
 {
-	pthread_mutex_lock(&of->pool->crowd.lock);
-	ww_mine.permit.it->ends = ww_mine.permit.ends = now();
+	ww_mine.permit.it->ends = ww_mine.permit.ends = ww_now();
 	ww_mine.permit.at_once = 0;
-	pthread_mutex_unlock(&of->pool->crowd.lock);
+	ww_mine.permit.waited = FAR; /* so its contexts aren't long */
 }
-
-/* ---- threads ---- */
 
 static void begins_and_ends(struct ww_class *of)
 {
@@ -59,427 +96,691 @@ static void begins_and_ends(struct ww_class *of)
 	ww_acquire_fini(&x);
 }
 
-/* Whether it has a permit, then. If this thread was late, so that its time came before it stood in the line, once more. */
-static bool begins_within(struct ww_class *of, uint64_t in)
+/* How often a thread that is awake would have slept until it began a context of c. */
+static unsigned sleeps(void)
 {
-	uint64_t waits;
-
-	do {
-		struct timespec until = in_ms((long)in);
-		struct ww_acquire_ctx x;
-
-		waits = permit_waits(of);
-		MUST(!ww_acquire_init_until(&x, of, &until));
-		ww_acquire_fini(&x);
-	} while (in && is_crowded(of->pool) && !has_one() && permit_waits(of) == waits);
-	return has_one();
+	slept = 0;
+	is_awake();
+	begins_and_ends(&c);
+	return slept;
 }
 
-/* What a thread is to do, and did; it ends once it may. */
-static struct one {
-	struct ww_class *of;
-	uint64_t in;	 /* its time, or 0 */
-	bool keeps;	 /* a seat, before there is a crowd */
-	bool gives_back; /* its permit, once it may go on, and stays */
-	bool heeds_none; /* that something ends its wait */
-	pthread_t thread;
-	sem_t keeps_one, may_begin, begun, may_go_on;
-	int r;
-	bool had;
-	unsigned place;
-} ones[8];
-static unsigned places;
-
-static void *one_begins(void *arg)
+/* It has a permit, of its class; this one. */
+static bool has(unsigned permit)
 {
-	struct one *me = arg;
-	struct timespec until = in_ms((long)me->in);
-	struct ww_acquire_ctx x;
-
-	if (me->keeps) {
-		begins_and_ends(me->of);
-		sem_post(&me->keeps_one);
-		sem_wait(&me->may_begin);
-	}
-	if (me->heeds_none)
-		ww_acquire_init(&x, me->of);
-	else
-		me->r = ww_acquire_init_until(&x, me->of, me->in ? &until : NULL);
-	me->had = has_one();
-	me->place = __atomic_add_fetch(&places, 1, __ATOMIC_SEQ_CST);
-	sem_post(&me->begun);
-	if (me->r)
-		return NULL;
-	sem_wait(&me->may_go_on);
-	ww_acquire_fini(&x);
-	if (me->gives_back) {
-		is_over(me->of);
-		(void)begins_within(me->of, 1);
-	}
-	return NULL;
+	return ww_mine.permit.id == c.pool->id && ww_mine.permit.it == &c.pool->crowd.permits[permit] &&
+	       ww_mine.permit.ends == c.pool->crowd.permits[permit].ends;
 }
+static bool has_one(void) { return ww_mine.permit.id == c.pool->id && ww_mine.permit.ends; }
 
-static struct one *begins(unsigned k, struct one what)
-{
-	ones[k] = what;
-	MUST(!sem_init(&ones[k].keeps_one, 0, 0) && !sem_init(&ones[k].may_begin, 0, 0));
-	MUST(!sem_init(&ones[k].begun, 0, 0) && !sem_init(&ones[k].may_go_on, 0, 0));
-	ones[k].thread = begin_thread(one_begins, &ones[k]);
-	return &ones[k];
-}
+/* When this thread took its permit. */
+static uint64_t taken(void) { return ww_mine.permit.ends - LEASE; }
 
-/* This one stands in the line, behind all that do so already. */
-static struct one *stands(unsigned k, struct one what)
-{
-	uint32_t before = in_line(what.of);
-	struct one *it = begins(k, what);
-
-	while (in_line(what.of) == before)
-		usleep(100);
-	return it;
-}
-
-/* What its begin returned; it goes on. */
-static int began(struct one *it)
-{
-	const struct timespec late = in_ms(LATE);
-
-	MUST(!sem_clockwait(&it->begun, CLOCK_MONOTONIC, &late));
-	sem_post(&it->may_go_on);
-	end_thread(it->thread);
-	return it->r;
-}
-
-/* Whether it began with a permit; it goes on. */
-static bool got_one(struct one *it)
-{
-	MUST(!began(it));
-	return it->had;
-}
-
-/* The crowd is locked. */
-static void calls_first(struct ww_class *of)
-{
-	struct ww_in_line { /* as in ww_crowd.c */
-		struct ww_in_line *next;
-		uint32_t is_called;
-	} *first = (void *)of->pool->crowd.first;
-
-	__atomic_store_n(&first->is_called, 1, __ATOMIC_RELAXED);
-	ww_futex_wake(&first->is_called);
-}
-
-/* ---- free: taken by who comes, if nobody stands in the line ---- */
+/* ---- over: taken by who comes, if nobody waits, or by whose turn it is ---- */
 
 static void each_is_taken(void)
 {
 	enum { PERMITS = 5 };
-	uint64_t begun;
 
-	opens_crowded(&c, PERMITS);
+	opens(&c, PERMITS);
 	for (unsigned k = 0; k < PERMITS; k++) {
-		unsigned taken = 0;
-
-		MUST(got_one(begins(k, (struct one){ .of = &c })) && !permit_waits(&c));
-		for (unsigned j = 0; j < MANY_PERMITS; j++)
-			taken += c.pool->crowd.permits[j].ends > now();
-		MUST(taken == k + 1);
+		ww_mine.permit = (struct ww_my_permit){ 0 }; /* as another thread */
+		ends_at(k, 0);
+		MUST(!sleeps() && has(k) && !permit_waits(&c));
+		ends_at(k, ww_now() + FAR);
 	}
-	/* No more than these; who waits goes on at its time, and has none. */
-	for (uint64_t k = 0; k < 3; k++)
-		MUST(!begins_within(&c, 20) && permit_waits(&c) == k + 1 && !in_line(&c));
-	/* Who can't wait goes on at once. All are counted. */
-	begun = c.pool->crowd.begun;
-	for (unsigned k = 0; k < 3; k++) {
-		struct ww_acquire_ctx x;
-
-		MUST(!ww_acquire_init_checked(&x, &c));
-		ww_acquire_fini(&x);
-		MUST(!begins_within(&c, 0) && permit_waits(&c) == 3);
-	}
-	MUST(c.pool->crowd.begun == begun + 6 && !ww_class_free(&c));
+	ww_mine.permit = (struct ww_my_permit){ 0 };
+	ends_at(PERMITS, 0); /* that is none */
+	asleep = all_end;
+	MUST(sleeps() == 1 && has(0) && permit_waits(&c) == 1 && !permit_seekers(c.pool) && !ww_class_free(&c));
 }
 
-/* With a permit as many contexts as a thread likes, until its lease is over; each is counted. */
-static void for_many_contexts(void)
+static void is_free_then(void)
 {
-	uint64_t begun;
-
-	opens_crowded(&c, 1);
-	begun = c.pool->crowd.begun;
-	for (unsigned k = 1; k < 1000; k++) {
-		begins_and_ends(&c);
-		MUST(c.pool->crowd.begun + ww_mine.permit.begun == begun + k && !permit_waits(&c) && has_one());
-	}
-	MUST(!ww_class_free(&c));
+	MUST(!ww_mine.permit.ends && permit_seekers(c.pool) == 1 && ww_class_free(&c) == -EBUSY);
+	ends_at(0, 0);
 }
 
-/* ---- returned as the next context begins behind its lease, to the first in the line ---- */
-
-static void in_turn(void)
-{
-	struct one *it[4];
-
-	opens_crowded(&c, 1);
-	begins_and_ends(&c);
-	places = 0;
-	for (unsigned k = 0; k < 4; k++)
-		it[k] = stands(k, (struct one){ .of = &c, .gives_back = true });
-	MUST(permit_waits(&c) == 4);
-	is_over(&c);
-	MUST(!begins_within(&c, 1)); /* it comes behind all of these */
-	for (unsigned k = 0; k < 4; k++)
-		MUST(got_one(it[k]) && it[k]->place == k + 1);
-	MUST(!ww_class_free(&c));
-}
-
-/* Two permits come to be free while the first one in the line rises: that calls the second one. */
-static void two_at_once(void)
-{
-	struct one *it[2];
-
-	opens_crowded(&c, 2);
-	ends_in(&c, 0, ms(FAR));
-	ends_in(&c, 1, ms(FAR));
-	for (unsigned k = 0; k < 2; k++)
-		it[k] = stands(k, (struct one){ .of = &c });
-	pthread_mutex_lock(&c.pool->crowd.lock);
-	c.pool->crowd.permits[0].ends = c.pool->crowd.permits[1].ends = now();
-	calls_first(&c);
-	pthread_mutex_unlock(&c.pool->crowd.lock);
-	MUST(got_one(it[0]) && got_one(it[1]) && !ww_class_free(&c));
-}
-
-/* The first in the line leaves at its time, as a permit comes to be free: that calls the second one. */
-static void who_leaves_calls(void)
-{
-	struct one *leaves, *stays;
-
-	opens_crowded(&c, 1);
-	ends_in(&c, 0, ms(FAR));
-	leaves = stands(0, (struct one){ .of = &c, .in = 50 });
-	stays = stands(1, (struct one){ .of = &c });
-	pthread_mutex_lock(&c.pool->crowd.lock);
-	usleep(60000);
-	c.pool->crowd.permits[0].ends = now();
-	pthread_mutex_unlock(&c.pool->crowd.lock);
-	MUST(!got_one(leaves) && got_one(stays) && !ww_class_free(&c));
-}
-
-/* One that comes takes none before those in the line, though one is free. */
+/* Who comes waits though a permit is over, if others wait; it counts as one that does. */
 static void none_is_passed(void)
 {
-	struct one *it;
-
-	opens_crowded(&c, 1);
-	ends_in(&c, 0, ms(FAR));
-	it = stands(0, (struct one){ .of = &c });
-	ends_in(&c, 0, 0);
-	MUST(!begins_within(&c, 20) && got_one(it) && !ww_class_free(&c));
+	opens(&c, 1);
+	come(1);
+	asleep = is_free_then;
+	MUST(sleeps() == 1 && has(0) && permit_waits(&c) == 1);
+	go(1);
+	MUST(!ww_class_free(&c));
 }
 
-/* ---- free if its thread begins none and isn't amid one; and stale, whatever it does ---- */
-
-static void behind_its_lease(bool is_amid)
+/* When each looks: by its place, and when the first permit should be over; soon, if that should be so already. */
+static void looks_in_turn(void)
 {
-	bool waited = !is_amid;
+	enum { PERMITS = 3 };
+	static const uint64_t ahead[] = { 0, LEASE / 2, LEASE, FAR };
 
-	for (unsigned tries = 0; !tries || !waited; tries++) { /* again if this thread was late */
-		struct one *holder;
-		uint64_t over;
+	opens(&c, PERMITS);
+	for (uint32_t place = 0; place <= 6000; place = place ? place * 10 : 6)
+		for (unsigned k = place ? 0 : 2; k < sizeof ahead / sizeof *ahead; k++) {
+			uint64_t before = ww_now(), first = before + ahead[k], least, most;
 
-		MUST(tries < 100);
-		ww_class_init(&c, 0, "crowded");
-		MUST(!ww_class_open(&c));
-		holder = begins(0, (struct one){ .of = &c, .keeps = true });
-		sem_wait(&holder->keeps_one);
-		crowds(&c, 1, ms(FAR));
-		sem_post(&holder->may_begin);
-		sem_wait(&holder->begun);
-		MUST(holder->had && c.pool->crowd.permits[0].seat);
-		if (!is_amid) {
-			sem_post(&holder->begun);
-			MUST(got_one(holder));
+			ww_mine.permit = (struct ww_my_permit){ 0 };
+			ends_at(0, before + FAR);
+			ends_at(1, first);
+			ends_at(2, before + FAR);
+			come(place);
+			asleep = all_end;
+			MUST(sleeps() == 1 && has(0));
+			go(place);
+			/* From when this thread came until it took the permit, for which it waited. */
+			least = before + (ahead[k] < LEASE ? LEASE / 16 : LEASE - TIMER_SLACK);
+			least = ahead[k] < LEASE && least < first - TIMER_SLACK ? first - TIMER_SLACK : least;
+			most = taken() + (ahead[k] < LEASE ? LEASE / 16 : LEASE - TIMER_SLACK);
+			most = ahead[k] < LEASE && most < first - TIMER_SLACK ? first - TIMER_SLACK : most;
+			MUST(looks >= least + (uint64_t)LEASE * place / PERMITS && looks <= most + (uint64_t)LEASE * place / PERMITS);
 		}
-		crowds(&c, 1, ms(1)); /* so that who waits looks again soon */
-		pthread_mutex_lock(&c.pool->crowd.lock);
-		over = c.pool->crowd.permits[0].ends = now();
-		pthread_mutex_unlock(&c.pool->crowd.lock);
+	MUST(!ww_class_free(&c));
+}
+
+/* Those before it ended their waits. */
+static void next_in_turn(void)
+{
+	uint64_t soon = ww_now() + LEASE;
+
+	MUST(looks > soon + 4 * LEASE);
+	go(6);
+	asleep = all_end;
+}
+static void moves_up(void)
+{
+	opens(&c, 1);
+	ends_at(0, ww_now() + FAR);
+	come(5);
+	asleep = next_in_turn;
+	MUST(sleeps() == 2 && looks <= taken() + LEASE - TIMER_SLACK && has(0));
+	go(UINT32_MAX); /* back by one */
+	MUST(!ww_class_free(&c));
+}
+
+/* ---- taken: for many contexts, until its lease is over; then it is put back ---- */
+
+/* Each context is counted. */
+static void for_many_contexts(void)
+{
+	uint64_t begun, first;
+
+	opens(&c, 1);
+	begun = c.pool->crowd.begun;
+	MUST(!sleeps());
+	first = taken();
+	for (unsigned k = 2; k < 1000; k++) {
+		is_awake();
 		begins_and_ends(&c);
-		waited = permit_waits(&c) || !is_amid;
-		MUST(ww_mine.permit.it == &c.pool->crowd.permits[0] && permit_waits(&c) <= is_amid);
-		MUST(!permit_waits(&c) || ww_mine.permit.ends >= over + ms(GRACE));
-		if (is_amid) {
-			sem_post(&holder->may_go_on);
-			end_thread(holder->thread);
-		}
-		MUST(!ww_class_free(&c));
+		MUST(c.pool->crowd.begun + ww_mine.permit.begun - ww_mine.permit.told == begun + k && !permit_waits(&c) && has(0));
+		MUST(taken() == first || taken() >= first + LEASE);
+		first = taken();
+	}
+	MUST(!ww_class_free(&c));
+}
+
+static void gives_back(void)
+{
+	MUST(!ww_mine.permit.ends && !c.pool->crowd.permits[0].seat && c.pool->crowd.permits[0].ends <= ww_now());
+	ends_at(0, 0);
+}
+static void keeps_it(void)
+{
+	MUST(c.pool->crowd.permits[0].ends == FAR);
+	ends_at(0, 0);
+}
+
+/* To those that wait, before it comes again; but not once another has taken it. */
+static void is_given_back(void)
+{
+	opens(&c, 0);
+	begins_and_ends(&c);
+	crowds(&c, 1);
+	for (unsigned k = 0; k < 2; k++) {
+		ww_mine.permit = (struct ww_my_permit){ 0 };
+		ends_at(0, 0);
+		MUST(!sleeps() && has(0) && c.pool->crowd.permits[0].seat);
+		lease_ends();
+		if (k)
+			ends_at(0, FAR);
+		come(1);
+		asleep = k ? keeps_it : gives_back;
+		MUST(sleeps() == 1 && has(0));
+		go(1);
+	}
+	MUST(!ww_class_free(&c));
+}
+
+/* Its thread is amid a context, by the seat that it keeps: then its permit isn't over, but for GRACE. */
+static ww_seat *used;
+static uint64_t over;
+static void is_amid(void)
+{
+	if (slept == 1) {
+		over = ww_now();
+		c.pool->crowd.permits[0].ends = over;
+	} else if (c.pool->crowd.permits[0].seat) {
+		usleep(1000);
 	}
 }
-
-/* Nobody puts it back: the first in the line looks for it long before it would be its turn. */
-static void first_looks_for_it(void)
+static void amid_its_context(void)
 {
-	opens_crowded(&c, 1);
-	crowds(&c, 1, ms(FAR / 2));
-	ends_in(&c, 0, ms(50));
-	MUST(got_one(begins(0, (struct one){ .of = &c })) && !ww_class_free(&c));
+	opens(&c, 1);
+	used = &c.pool->seats[7];
+	used->busy |= 1;
+	c.pool->crowd.permits[0] = (struct ww_permit){ ww_now() + FAR, used };
+	asleep = is_amid;
+	MUST(sleeps() && has(0) && taken() >= over + GRACE);
+	used->busy &= ~1u;
+	c.pool->crowd.permits[0] = (struct ww_permit){ ww_now(), used };
+	MUST(!sleeps() && !ww_class_free(&c));
 }
 
-/* ---- times, classes, contexts amid others ---- */
-
-/* A time that is centuries away is too early for no permit. */
-static void waits_for_ever(void)
+/* A thread that keeps a seat says by which one it is amid. */
+static void says_its_seat(void)
 {
-	static const struct timespec never = { .tv_sec = (time_t)1 << 62 };
 	struct ww_acquire_ctx x;
 
-	opens_crowded(&c, 1);
-	crowds(&c, 1, ms(1));
-	ends_in(&c, 0, ms(20));
-	MUST(!ww_acquire_init_until(&x, &c, &never) && ww_mine.permit.it == c.pool->crowd.permits);
+	opens(&c, 0);
+	begins_and_ends(&c);
+	crowds(&c, 1);
+	ww_acquire_init(&x, &c);
+	MUST(has(0) && c.pool->crowd.permits[0].seat == x.own);
 	ww_acquire_fini(&x);
 	MUST(!ww_class_free(&c));
+}
+
+/* ---- who is called ---- */
+
+static bool calls; /* the other thread did, before it slept */
+
+/* Another thread has a permit, and begins a context. */
+static void *begins_by_permit(void *arg)
+{
+	ww_mine.permit = (struct ww_my_permit){ .id = c.pool->id, .it = c.pool->crowd.permits, .ends = ww_now() + FAR };
+	begins_and_ends(&c);
+	return arg;
+}
+static void another_begins(void)
+{
+	uint32_t before = c.pool->crowd.calls;
+
+	end_thread(begin_thread(begins_by_permit, NULL));
+	calls = c.pool->crowd.calls != before;
+}
+
+/* By who begins another context with its permit: if another one is over, and it hasn't looked a moment ago. */
+static void one_is_over(void)
+{
+	c.pool->crowd.due = 0;
+	ends_at(1, 0);
+	another_begins();
+	MUST(calls && called == 1);
+}
+static void none_looks(void)
+{
+	c.pool->crowd.due = UINT64_MAX;
+	ends_at(1, 0);
+	another_begins();
+	ends_at(1, ww_now() + FAR);
+	asleep = one_is_over;
+	MUST(!calls);
+}
+static void none_is_over(void)
+{
+	c.pool->crowd.due = 0;
+	another_begins();
+	asleep = none_looks;
+	MUST(!calls);
+}
+static void one_is_called(void)
+{
+	opens(&c, 2);
+	ends_at(0, ww_now() + FAR);
+	ends_at(1, ww_now() + FAR);
+	asleep = none_is_over;
+	MUST(sleeps() == 3 && goes_on && has(1) && !ww_class_free(&c));
+}
+
+/* Who puts its permit back calls one, where a processor is free for that one; else not before it sleeps itself. */
+static uint32_t calls_before;
+static void sees_calls(void)
+{
+	calls = c.pool->crowd.calls != calls_before;
+	asleep = NULL;
+}
+static void *gives_back_and_waits(void *arg)
+{
+	do {
+		struct timespec until = in_ms(10);
+		struct ww_acquire_ctx x;
+
+		c.pool->crowd.permits[0].ends = ww_now();
+		ww_mine.permit = (struct ww_my_permit){ .id = c.pool->id, .it = c.pool->crowd.permits, .ends = c.pool->crowd.permits->ends, .waited = FAR };
+		calls_before = c.pool->crowd.calls;
+		asleep = sees_calls;
+		slept = 0;
+		MUST(!ww_acquire_init_until(&x, &c, &until));
+		ww_acquire_fini(&x);
+	} while (!slept); /* its time came before it looked */
+	return arg;
+}
+static void it_gives_back(void)
+{
+	end_thread(begin_thread(gives_back_and_waits, NULL));
+	all_end();
+}
+static void by_who_gives_back(bool has_processor)
+{
+	opens(&c, 1);
+	c.pool->processors = has_processor ? 8 : 1;
+	ends_at(0, ww_now() + FAR);
+	asleep = it_gives_back;
+	MUST(sleeps() == 1 && calls == has_processor && !ww_class_free(&c));
+}
+
+/* Who got one calls the next, if another is over. */
+static void two_are_over(void)
+{
+	come(1);
+	all_end();
+}
+static void the_next_one(void)
+{
+	opens(&c, 2);
+	ends_at(0, ww_now() + FAR);
+	ends_at(1, ww_now() + FAR);
+	asleep = two_are_over;
+	called = 0;
+	MUST(sleeps() == 1 && has(0) && called == 1);
+	go(1);
+	MUST(!ww_class_free(&c));
+}
+
+/* ---- whom it leaves alone ---- */
+
+/* How often this thread gave up its processor, if the system counts that. */
+static long gave_up(void)
+{
+	struct rusage is;
+
+	getrusage(RUSAGE_THREAD, &is);
+	return is.ru_nvcsw;
+}
+static void sleeps_elsewhere(void)
+{
+	for (long before = gave_up(); gave_up() == before;)
+		usleep(1000);
+}
+
+/* Who slept elsewhere since its last permit goes on without one; as it does till it was awake for long. */
+static void not_for_sleepers(void)
+{
+	opens(&c, 1);
+	MUST(!sleeps() && has(0));
+	lease_ends();
+	sleeps_elsewhere();
+	slept = 0;
+	begins_and_ends(&c);
+	MUST(!slept && !has_one() && ww_mine.awake == -AWAKE && c.pool->crowd.permits[0].ends <= ww_now());
+	ends_at(0, ww_now() + FAR);
+	begins_and_ends(&c);
+	MUST(!slept && !permit_waits(&c) && !ww_class_free(&c));
+}
+
+/* Whoever runs a context, by the seat that it keeps, waits for none: others may wait for what it holds. */
+static void amid_another(void)
+{
+	struct ww_acquire_ctx x, y;
+
+	opens(&c, 0);
+	ww_acquire_init(&x, &c);
+	crowds(&c, 1);
+	ends_at(0, ww_now() + FAR);
+	ww_acquire_init(&y, &c);
+	MUST(!permit_waits(&c));
+	ww_acquire_fini(&y);
+	ww_acquire_fini(&x);
+	asleep = all_end;
+	MUST(sleeps() == 1 && !ww_class_free(&c));
 }
 
 /* A permit of one class is none of another, also for a class that has the memory of one before. */
 static void of_its_class_alone(void)
 {
 	for (unsigned k = 0; k < 20; k++) {
-		opens_crowded(&c, 1);
-		opens_crowded(&other, 1);
-		ends_in(&other, 0, ms(FAR));
-		begins_and_ends(&c);
-		MUST(has_one() && !begins_within(&other, 10) && permit_waits(&other) == 1 && !permit_waits(&c));
-		MUST(!ww_class_free(&c) && !ww_class_free(&other));
+		opens(&c, 1);
+		opens(&other, 1);
+		begins_and_ends(&other);
+		ends_at(0, ww_now() + FAR);
+		asleep = all_end;
+		MUST(sleeps() == 1 && has(0) && !permit_waits(&other) && !ww_class_free(&c) && !ww_class_free(&other));
 	}
 }
 
-/* Whoever runs a context, by the seat that it keeps, waits for none: others may wait for what it holds. */
-static void amid_a_context(void)
+/* Where there is no limit, nobody waits. */
+static void without_limit(void)
 {
-	struct ww_acquire_ctx x, y;
+	opens(&c, 1);
+	ends_at(0, ww_now() + FAR);
+	c.pool->crowd.gate.width = NO_LIMIT;
+	MUST(!sleeps() && has_one());
+	for (unsigned k = 0; k < MANY_PERMITS; k++)
+		ends_at(k, ww_now() + FAR);
+	ww_mine.permit = (struct ww_my_permit){ 0 };
+	MUST(!sleeps() && has_one() && !ww_mine.permit.it && !ww_class_free(&c));
+}
 
-	ww_class_init(&c, 0, "crowded");
-	ww_acquire_init(&x, &c);
-	crowds(&c, 1, ms(FAR));
-	ends_in(&c, 0, ms(FAR));
-	ww_acquire_init(&y, &c);
-	MUST(!permit_waits(&c));
-	ww_acquire_fini(&y);
+/* ---- times, and cancels ---- */
+
+/* Who can't wait goes on at once; who can, at its time, without a permit.  All are counted. */
+static void in_time(void)
+{
+	static const struct timespec never = { .tv_sec = (time_t)1 << 62 }, long_ago = { .tv_sec = -1 };
+	struct timespec soon = in_ms(20), now = in_ms(0);
+	struct ww_acquire_ctx x;
+	uint64_t begun;
+
+	opens(&c, 1);
+	ends_at(0, ww_now() + FAR);
+	begun = c.pool->crowd.begun;
+	slept = 0;
+	MUST(!ww_acquire_init_checked(&x, &c));
 	ww_acquire_fini(&x);
-	MUST(!begins_within(&c, 1) && permit_waits(&c) == 1 && !ww_class_free(&c));
+	MUST(!ww_acquire_init_until(&x, &c, &now));
+	ww_acquire_fini(&x);
+	MUST(!ww_acquire_init_until(&x, &c, &long_ago));
+	ww_acquire_fini(&x);
+	MUST(!slept && !permit_waits(&c));
+	MUST(!ww_acquire_init_until(&x, &c, &soon) && !has_one() && ww_now() >= nanoseconds(&soon));
+	ww_acquire_fini(&x);
+	asleep = all_end;
+	MUST(!ww_acquire_init_until(&x, &c, &never) && has(0));
+	ww_acquire_fini(&x);
+	MUST(c.pool->crowd.begun == begun + 5);
+	/* It comes before this thread's turn; once more if it came before the thread slept. */
+	for (slept = 0; !slept; ww_acquire_fini(&x)) {
+		soon = in_ms(0);
+		soon.tv_nsec += soon.tv_nsec < 999000000 ? LEASE / 2 : 0;
+		ww_mine.permit = (struct ww_my_permit){ 0 };
+		ends_at(0, ww_now() + FAR);
+		MUST(!ww_acquire_init_until(&x, &c, &soon) && (!slept || looks == nanoseconds(&soon)));
+	}
+	MUST(!ww_class_free(&c));
 }
 
-/* The class has no mutex and no context, but somebody stands in the line. */
-static void stays_while_one_waits(void)
+/* A cancel of the class calls all, and ends the waits that heed it, and each later one at once. */
+static void cancels(void)
 {
-	struct one *it;
-
-	opens_crowded(&c, 1);
-	ends_in(&c, 0, ms(FAR));
-	it = stands(0, (struct one){ .of = &c, .in = 500 });
-	MUST(ww_class_free(&c) == -EBUSY);
-	sem_wait(&it->begun);
-	MUST(ww_class_free(&c) == -EBUSY);
-	sem_post(&it->begun);
-	MUST(!got_one(it) && !ww_class_free(&c));
+	MUST(!ww_class_cancel(&c));
+	asleep = all_end;
 }
-
-/*
- * A cancel of the class ends the waits in the line that heed that, wherever they stand, and each later one at once.  Who needn't wait
- * goes on, as does who heeds no cancel, which then gets the permit.
- */
-static void a_cancel_ends_it(void)
+static void a_cancel_ends_it(bool heeds)
 {
 	struct ww_acquire_ctx x;
-	struct one *it[4];
 
-	opens_crowded(&c, 1);
-	ends_in(&c, 0, ms(FAR));
-	for (unsigned k = 0; k < 4; k++)
-		it[k] = stands(k, (struct one){ .of = &c, .in = k == 2 ? FAR : 0, .heeds_none = k == 1 });
-	MUST(!ww_class_cancel(&c));
-	for (unsigned k = 0; k < 4; k++)
-		MUST(k == 1 || (began(it[k]) == -EINTR && !it[k]->had));
-	MUST(in_line(&c) == 1 && ww_acquire_init_until(&x, &c, NULL) == -EINTR && ww_acquire_init_until(&x, &c, NULL) == -EINTR);
-	MUST(in_line(&c) == 1 && ww_acquire_fini_checked(&x) == -EINVAL && !ww_acquire_init_checked(&x, &c));
-	ww_acquire_fini(&x);
-	pthread_mutex_lock(&c.pool->crowd.lock);
-	c.pool->crowd.permits[0].ends = now();
-	calls_first(&c);
-	pthread_mutex_unlock(&c.pool->crowd.lock);
-	MUST(got_one(it[1]) && !in_line(&c));
-	ends_in(&c, 0, 0);
-	MUST(!ww_acquire_init_until(&x, &c, NULL) && has_one());
-	ww_acquire_fini(&x);
+	opens(&c, 1);
+	ends_at(0, ww_now() + FAR);
+	asleep = cancels;
+	slept = 0;
+	if (heeds) {
+		MUST(ww_acquire_init_until(&x, &c, NULL) == -EINTR && called == INT_MAX && goes_on && slept == 1);
+		MUST(ww_acquire_fini_checked(&x) == -EINVAL && ww_acquire_init_until(&x, &c, NULL) == -EINTR && slept == 1);
+		MUST(!permit_seekers(c.pool) && !ww_acquire_init_checked(&x, &c)); /* who needn't wait goes on */
+		ww_acquire_fini(&x);
+		ends_at(0, 0);
+	} else {
+		MUST(sleeps() == 2 && has(0));
+	}
 	MUST(!ww_class_free(&c));
 	/* One that is opened again isn't cancelled. */
-	opens_crowded(&c, 1);
-	ends_in(&c, 0, ms(FAR));
-	MUST(!begins_within(&c, 1) && permit_waits(&c) == 1 && !ww_class_free(&c));
+	opens(&c, 1);
+	ends_at(0, ww_now() + FAR);
+	asleep = all_end;
+	MUST(!ww_acquire_init_until(&x, &c, NULL) && has(0));
+	ww_acquire_fini(&x);
+	MUST(!ww_class_free(&c));
 }
 
 /* ---- when there is a crowd ---- */
 
-/* A thread spent an eighth of its time in waits; not if the class has none, or is about to rest, or in a child. */
+/* A thread spent an eighth of its time in waits; not if the class has none, or is about to rest. */
 static void begins_by_waits(void)
 {
 	static const struct {
-		uint32_t said;
+		uint32_t said, processors, kept;
 		uint64_t each, apart; /* nanoseconds */
 		bool rests, begins;
 	} cases[] = {
-		{ 0, 10000, 20000, false, true },
-		{ 0, 10000, 70000, false, true },
-		{ 0, 10000, 100000, false, false },
-		{ 0, 100, 1000, false, true }, /* each costs a microsecond more */
-		{ 0, 100, 10000, false, false },
-		{ 3, 10000, 20000, false, true },
-		{ WW_NO_CROWD, 10000, 20000, false, false },
-		{ 0, 10000, 20000, true, false },
+		{ 0, 8, 0, 10000, 20000, false, true },
+		{ 0, 1, 2, 10000, 70000, false, true },
+		{ 0, 8, 0, 10000, 100000, false, false },
+		{ 0, 4, 4, 100, 1000, false, true }, /* each costs a microsecond more */
+		{ 0, 8, 0, 100, 10000, false, false },
+		{ 3, 2, 3, 10000, 20000, false, true },
+		{ WW_NO_CROWD, 8, 0, 10000, 20000, false, false },
+		{ 0, 8, 0, 10000, 20000, true, false },
 	};
 
 	for (size_t k = 0; k < sizeof cases / sizeof *cases; k++) {
-		uint64_t at = now();
+		uint64_t at = ww_now();
+		const struct ww_gate *gate;
 
 		ww_class_init(&c, 0, "waits");
 		MUST(!ww_class_crowd(&c, cases[k].said) && !ww_class_open(&c));
+		gate = &c.pool->crowd.gate;
+		c.pool->processors = cases[k].processors;
+		c.pool->kept = cases[k].kept;
+		c.pool->crowd.begun = c.pool->crowd.waited = 77;
 		if (cases[k].rests)
 			c.pool->crowd.rests = UINT64_MAX;
 		ww_mine.waited = 0;
 		ww_mine.counted = at;
-		for (unsigned i = 0; i < 100; i++)
+		is_awake();
+		for (unsigned i = 0; i < 1000; i++)
 			ww_has_waited(c.pool, at += cases[k].apart, cases[k].each);
 		MUST(is_crowded(c.pool) == cases[k].begins);
-		MUST(!cases[k].begins || c.pool->crowd.gate.width == (cases[k].said ? 3 : 1));
-		MUST(!cases[k].said || !cases[k].begins || (c.pool->crowd.gate.least == 3 && c.pool->crowd.gate.most == 3));
+		if (cases[k].begins) {
+			MUST(gate->width == (cases[k].said ? 3 : 1) && gate->least == gate->width);
+			MUST(gate->most == (cases[k].said ? 3 : cases[k].processors));
+			MUST(!c.pool->crowd.begun && !c.pool->crowd.waited && !c.pool->crowd.held && c.pool->crowd.since > at - 1000 * cases[k].apart && c.pool->crowd.since <= at);
+		}
+		c.pool->kept = 0;
 		MUST(!ww_class_free(&c));
 	}
 }
 
-/* A gate of no use ends it: all that stand in the line go on, though no permit is free. */
+/* So many samples, each of which is far more than an eighth of this thread's time: whether there is a crowd then. */
+static uint64_t at;
+static bool waits(unsigned samples)
+{
+	for (unsigned k = 0; k < samples; k++)
+		ww_has_waited(c.pool, at += 20000, 40000);
+	return is_crowded(c.pool);
+}
+
+/* A crowd begins by a thread that is awake for AWAKE samples; in a thread that slept elsewhere, for twice as many. */
+static void begins_by_who_is_awake(void)
+{
+	long before;
+
+	do {
+		bool too_early, in_time_;
+
+		opens(&c, 0);
+		ww_mine.waited = 0;
+		ww_mine.counted = at = ww_now();
+		before = gave_up();
+		too_early = waits(AWAKE - 1);
+		in_time_ = waits(1);
+		MUST(gave_up() != before || (!too_early && in_time_));
+		__atomic_store_n(&c.pool->at_hand, c.pool->id, __ATOMIC_RELAXED);
+		sleeps_elsewhere();
+		if (gave_up() != before + 1)
+			before = gave_up() - 1;
+		too_early = waits(2 * AWAKE);
+		in_time_ = waits(1);
+		MUST(gave_up() != before + 1 || (!too_early && in_time_));
+		/* A sleep in this library is none; nor are fewer than at the last look. */
+		__atomic_store_n(&c.pool->at_hand, c.pool->id, __ATOMIC_RELAXED);
+		ww_mine.sleeps += 3;
+		in_time_ = waits(1);
+		MUST(gave_up() != before + 1 || in_time_);
+		MUST(!ww_class_free(&c));
+	} while (gave_up() != before + 1); /* a page that came from the disk, or the like */
+}
+
+/*
+ * Contexts are long by what a lease has shown, if its thread didn't mostly wait.  Then there are as many permits as there may be, if
+ * threads outnumber processors, one waits for a permit, and those with permits mostly wait; else there is no crowd any more.
+ */
+static void ends_if_contexts_are_long(void)
+{
+	enum { HELD = 1000000000 }; /* so long that it doesn't matter when this thread goes on */
+	static const struct {
+		uint64_t each, waited, others; /* nanoseconds */
+		bool is_short, one_waits, is_long, goes_on;
+	} cases[] = {
+		{ 4000, 0, 0, true, true, false, true },
+		{ 16000, 0, HELD, true, true, true, true },
+		{ 16000, 0, 0, true, true, true, false },
+		{ 16000, 0, HELD, true, false, true, false },
+		{ 16000, 0, HELD, false, true, true, false },
+		{ 64000, HELD / 5 * 3, 0, true, true, false, true },
+		{ 64000, HELD / 5 * 2, HELD, true, true, true, true },
+	};
+
+	for (size_t k = 0; k < sizeof cases / sizeof *cases; k++) {
+		struct ww_crowd *crowd;
+
+		opens(&c, 1);
+		c.pool->processors = 1;
+		c.pool->kept = cases[k].is_short ? 2 : 0;
+		crowd = &c.pool->crowd;
+		crowd->gate.most = 4;
+		crowd->was_short = crowd->held = crowd->looked = 0;
+		crowd->waited = cases[k].others;
+		MUST(!sleeps() && has(0));
+		lease_ends();
+		ww_mine.permit.ends = crowd->permits[0].ends = ww_now() - HELD + LEASE;
+		ww_mine.permit.begun = ww_mine.permit.told = (uint32_t)(HELD / cases[k].each);
+		ww_mine.permit.waited = 0;
+		ww_mine.permit.ran -= HELD;
+		ww_has_waited(c.pool, ww_now(), cases[k].waited);
+		ww_mine.awake = 0, ww_mine.elsewhere = 0;
+		come(cases[k].one_waits);
+		asleep = all_end;
+		begins_and_ends(&c);
+		go(cases[k].one_waits);
+		c.pool->kept = 0;
+		MUST(crowd->is_long == cases[k].is_long && is_crowded(c.pool) == cases[k].goes_on);
+		MUST(crowd->gate.width == (cases[k].is_long ? 4 : 1) && !ww_class_free(&c));
+	}
+}
+
+/* With a permit for each processor a crowd ends if less than one part in 128 of the time goes into waits. */
+static void ends_by_few_waits(void)
+{
+	enum { HELD = 1000000000 };
+	static const struct {
+		uint64_t waited;
+		bool has_most, is_short, goes_on;
+	} cases[] = { { HELD / 120, true, true, true }, { HELD / 136, true, true, false }, { 0, false, true, true }, { 0, true, false, true } };
+
+	for (size_t k = 0; k < sizeof cases / sizeof *cases; k++) {
+		struct ww_crowd *crowd;
+
+		opens(&c, 1);
+		c.pool->processors = 1;
+		c.pool->kept = cases[k].is_short ? 2 : 0;
+		crowd = &c.pool->crowd;
+		MUST(!sleeps() && has(0));
+		crowd->gate.kept = 1;
+		crowd->gate.most = cases[k].has_most ? 1 : 4;
+		crowd->held = HELD;
+		crowd->waited = cases[k].waited;
+		crowd->looked = 0;
+		lease_ends();
+		ww_mine.permit.waited = 0;
+		ww_mine.permit.begun = UINT32_MAX;
+		come(1);
+		asleep = another_begins;
+		begins_and_ends(&c);
+		go(1);
+		c.pool->kept = 0;
+		MUST(is_crowded(c.pool) == cases[k].goes_on && !ww_class_free(&c));
+	}
+}
+
+/* A crowd ends once two threads on end have slept elsewhere in their leases; one that didn't is between others. */
+static void ends_by_who_sleeps(void)
+{
+	for (uint32_t before = 0; before < 3; before++) {
+		struct ww_crowd *crowd;
+
+		opens(&c, 1);
+		crowd = &c.pool->crowd;
+		MUST(!sleeps() && has(0));
+		crowd->sleepers = before == 2 ? 1 : before;
+		lease_ends();
+		if (before < 2)
+			sleeps_elsewhere();
+		begins_and_ends(&c);
+		MUST(crowd->sleepers == (before + 1) % 3 && is_crowded(c.pool) == (before != 1));
+		MUST(!ww_class_free(&c));
+	}
+}
+
+/* All that wait go on then, without a permit. */
+static const struct ww_gate no_use = { .width = 1, .kept = NO_LIMIT, .rate = 1 };
+static void it_ends(void)
+{
+	c.pool->crowd.gate = no_use;
+	c.pool->crowd.due = 0;
+	another_begins();
+	MUST(!is_crowded(c.pool) && called == INT_MAX);
+}
 static void ends_for_all(void)
 {
-	struct one *it[4];
-	uint64_t before;
+	opens(&c, 1);
+	ends_at(0, ww_now() + FAR);
+	asleep = it_ends;
+	MUST(sleeps() == 1 && goes_on && !has_one() && !permit_seekers(c.pool) && !ww_class_free(&c));
+}
 
-	opens_crowded(&c, 1);
-	for (unsigned k = 0; k < MANY_PERMITS; k++)
-		ends_in(&c, k, ms(FAR));
-	for (unsigned k = 0; k < 4; k++)
-		it[k] = stands(k, (struct one){ .of = &c });
-	/* A window of one permit is at its end, which is worse than no limit was. */
-	pthread_mutex_lock(&c.pool->crowd.lock);
-	c.pool->crowd.gate = (struct ww_gate){ .width = 1, .kept = NO_LIMIT, .least = 1, .widest = 1, .most = 1, .tries = true, .since = 1,
-		.waited = UINT64_MAX, .rate = UINT64_MAX / 4, .lease = ms(FAR), .holds = 1 };
-	c.pool->crowd.begun = 1000;
-	pthread_mutex_unlock(&c.pool->crowd.lock);
-	before = now();
-	MUST(!got_one(begins(4, (struct one){ .of = &c })) && !is_crowded(c.pool) && c.pool->crowd.rests > before);
-	for (unsigned k = 0; k < 4; k++)
-		MUST(!got_one(it[k]));
-	MUST(permit_waits(&c) == 4 && !in_line(&c) && !ww_class_free(&c));
+/* The next crowd begins once the class has rested: each time for twice as long; anew, once a crowd has lasted. */
+static void rests(void)
+{
+	uint64_t rest = REST;
+
+	opens(&c, 0);
+	for (unsigned k = 0; k < 9; k++) {
+		uint64_t before, after, till;
+
+		crowds(&c, 1);
+		c.pool->crowd.gate = no_use;
+		c.pool->crowd.since = ww_now();
+		if (k == 7) {
+			c.pool->crowd.since = 0;
+			rest = REST;
+		}
+		before = ww_now();
+		ww_mine.permit = (struct ww_my_permit){ 0 };
+		begins_and_ends(&c);
+		after = ww_now();
+		till = c.pool->crowd.rests;
+		MUST(!is_crowded(c.pool) && till >= before + rest && till <= after + rest);
+		rest = rest < LONGEST_REST ? 2 * rest : rest;
+		/* Till then there is none. */
+		is_awake();
+		ww_mine.waited = 0;
+		ww_mine.counted = at = till - 40 * 20000;
+		MUST(!waits(39) && waits(AWAKE));
+	}
+	MUST(!ww_class_free(&c));
 }
 
 /* In a child there is none, whoever has its lock; and a call by a seat from before the fork returns. */
@@ -487,144 +788,67 @@ static void none_in_a_child(void)
 {
 	static struct ww_mutex m;
 	struct ww_acquire_ctx x, y;
-	struct one *it;
 	int status;
 	pid_t child;
 
-	ww_class_init(&c, 0, "forks");
+	opens(&c, 0);
 	ww_mutex_init(&m, &c);
 	ww_acquire_init(&x, &c);
-	MUST(!ww_mutex_lock(&m, &x));
-	crowds(&c, 1, ms(FAR));
-	ends_in(&c, 0, ms(FAR));
-	it = stands(0, (struct one){ .of = &c });
-	__atomic_store_n(&c.pool->at_hand, c.pool->id, __ATOMIC_RELAXED);
 	ww_acquire_init(&y, &c);
+	MUST(!ww_mutex_lock(&m, &x));
 	pthread_mutex_lock(&c.pool->crowd.lock);
 	child = fork();
 	if (!child) {
 		alarm(200);
+		at = ww_now();
 		for (unsigned k = 0; k < 200; k++) {
-			ww_mine.counted = now();
-			if (ww_mutex_lock(&m, &y) != -EINVAL)
+			ww_mine.counted = at;
+			if (waits(1) || ww_mutex_lock(&m, &y) != -EINVAL)
 				_exit(1);
 		}
-		_exit(ww_acquire_init_checked(&x, &c) != -EINVAL || ww_class_free(&c) || ww_acquire_init_checked(&x, &c) || ww_acquire_fini_checked(&x));
+		if (ww_acquire_init_checked(&x, &c) != -EINVAL || ww_class_cancel(&c) != -EINVAL || ww_class_free(&c))
+			_exit(2);
+		opens(&c, 1);
+		_exit(sleeps() || !has(0) || ww_class_free(&c));
 	}
 	pthread_mutex_unlock(&c.pool->crowd.lock);
 	MUST(child > 0 && waitpid(child, &status, 0) == child && WIFEXITED(status) && !WEXITSTATUS(status));
 	ww_mutex_unlock(&m);
 	ww_acquire_fini(&y);
 	ww_acquire_fini(&x);
-	ends_in(&c, 0, 0);
-	(void)begins_within(&c, 1);
-	crowds(&c, 1, ms(1));
-	(void)begins_within(&c, 1);
-	(void)got_one(it);
 	MUST(!ww_mutex_destroy(&m) && !ww_class_free(&c));
-}
-
-/* ---- threads of fixed priority, on one processor: stale, also if who is first gets no processor ---- */
-
-static uint64_t from, waited; /* nanoseconds */
-enum { LOW = 10, HIGH = 20, ENDS = 30, COMPUTES = 300, MOST = 150 }; /* priorities; and milliseconds */
-
-static void sleeps_till(uint64_t at)
-{
-	const struct timespec until = { .tv_sec = (time_t)(at / 1000000000), .tv_nsec = (long)(at % 1000000000) };
-
-	while (clock_nanosleep(CLOCK_MONOTONIC, TIMER_ABSTIME, &until, NULL) == EINTR)
-		;
-}
-static void *computes(void *arg)
-{
-	while (now() < from + ms(COMPUTES))
-		;
-	return arg;
-}
-static void *begins_high(void *of)
-{
-	uint64_t at;
-
-	sleeps_till(from + ms(4));
-	at = now();
-	begins_and_ends(of);
-	waited = now() - at;
-	return NULL;
-}
-static void *begins_low(void *of)
-{
-	begins_and_ends(of);
-	return NULL;
-}
-
-/* False if that isn't permitted here. */
-static bool begins_at(pthread_t *thread, int policy, int priority, void *(*work)(void *))
-{
-	const struct sched_param at = { .sched_priority = priority };
-	pthread_attr_t with;
-	int r;
-
-	MUST(!pthread_attr_init(&with) && !pthread_attr_setinheritsched(&with, PTHREAD_EXPLICIT_SCHED));
-	MUST(!pthread_attr_setschedpolicy(&with, policy) && !pthread_attr_setschedparam(&with, &at));
-	r = pthread_create(thread, &with, work, &c);
-	MUST(!r || r == EPERM);
-	pthread_attr_destroy(&with);
-	return !r;
-}
-
-/* A thread waits for a permit behind one of low priority, which gets no processor. False: fixed priorities aren't permitted. */
-static bool not_behind_who_cannot_run(void)
-{
-	cpu_set_t all, one;
-	pthread_t threads[3];
-	bool permitted;
-
-	CPU_ZERO(&one);
-	CPU_SET((size_t)sched_getcpu(), &one);
-	MUST(!sched_getaffinity(0, sizeof all, &all) && !sched_setaffinity(0, sizeof one, &one));
-	opens_crowded(&c, 1);
-	crowds(&c, 1, ms(1));
-	ends_in(&c, 0, ms(ENDS));
-	from = now();
-	threads[0] = begin_thread(begins_low, &c);
-	while (!permit_waits(&c) && now() < from + ms(ENDS))
-		sched_yield();
-	from = now();
-	permitted = begins_at(&threads[1], SCHED_FIFO, HIGH, begins_high);
-	if (permitted) {
-		MUST(begins_at(&threads[2], SCHED_FIFO, LOW, computes));
-		end_thread(threads[1]);
-		end_thread(threads[2]);
-		MUST(waited < ms(MOST));
-	}
-	end_thread(threads[0]);
-	MUST(!ww_class_free(&c) && !sched_setaffinity(0, sizeof all, &all));
-	return permitted;
 }
 
 int main(void)
 {
 	alarm(300);
 	each_is_taken();
-	for_many_contexts();
-	in_turn();
-	two_at_once();
-	who_leaves_calls();
 	none_is_passed();
-	behind_its_lease(false);
-	behind_its_lease(true);
-	first_looks_for_it();
-	waits_for_ever();
+	looks_in_turn();
+	moves_up();
+	for_many_contexts();
+	is_given_back();
+	amid_its_context();
+	says_its_seat();
+	one_is_called();
+	by_who_gives_back(true);
+	by_who_gives_back(false);
+	the_next_one();
+	not_for_sleepers();
+	amid_another();
 	of_its_class_alone();
-	amid_a_context();
-	stays_while_one_waits();
-	a_cancel_ends_it();
+	without_limit();
+	in_time();
+	a_cancel_ends_it(true);
+	a_cancel_ends_it(false);
 	begins_by_waits();
+	begins_by_who_is_awake();
+	ends_if_contexts_are_long();
+	ends_by_few_waits();
+	ends_by_who_sleeps();
 	ends_for_all();
+	rests();
 	none_in_a_child();
-	if (!not_behind_who_cannot_run())
-		puts("mutex_permits: threads of fixed priority aren't permitted here, so none were tried");
 	puts("mutex_permits: as many as there are, for whom and as long as they are");
 	return 0;
 }

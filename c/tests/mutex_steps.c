@@ -4,6 +4,7 @@
  * steps, the library's locks and its system calls come by wrappers (ld --wrap).
  */
 #include "mutex_test.h"
+#include "../ww_class.h"
 #include "../ww_number.h"
 #include <stdarg.h>
 
@@ -22,6 +23,8 @@ static __thread struct {
 static __thread struct ww_acquire_ctx *cancelled_amid; /* before the first step, and behind each that answers WW_AGAIN, as by another thread */
 static void (*before_a_step)(void); /* as another thread would, once */
 static __thread unsigned shut_out, slept; /* so many tries to go inside a guard are in vain; and how often it slept behind one */
+static __thread unsigned looks; /* at locks */
+static __thread void (*asleep)(void); /* in place of its next sleep */
 
 static bool has_to_ask(int32_t answer) { return answer <= 0 || answer == WW_SLEEPS; }
 static void does_anything_else(void) { MUST(at.answer != WW_AGAIN); }
@@ -75,6 +78,14 @@ int32_t __wrap_ww_cancel_(ww_handle *seat, uint16_t victim)
 	return __real_ww_cancel_(seat, victim);
 }
 
+int32_t __real_ww_look_(ww_handle *seat, uint32_t lock);
+int32_t __wrap_ww_look_(ww_handle *seat, uint32_t lock);
+int32_t __wrap_ww_look_(ww_handle *seat, uint32_t lock)
+{
+	looks++;
+	return __real_ww_look_(seat, lock);
+}
+
 int __real_pthread_mutex_lock(pthread_mutex_t *mutex);
 int __wrap_pthread_mutex_lock(pthread_mutex_t *mutex);
 int __wrap_pthread_mutex_lock(pthread_mutex_t *mutex)
@@ -96,6 +107,13 @@ long __wrap_syscall(long number, ...)
 	va_end(list);
 	does_anything_else();
 	slept += at.answer == WW_AWAITS;
+	if (asleep) {
+		void (*what)(void) = asleep;
+
+		asleep = NULL;
+		what();
+		return 0;
+	}
 	return __real_syscall(number, words[0], words[1], words[2], words[3], words[4], words[5]);
 }
 
@@ -158,6 +176,54 @@ static void is_awaited(void)
 	MUST(ww_number_put(number, c) == -EBUSY && !ww_number_unlock(number, &x) && !ww_number_put(number, c));
 	ww_acquire_fini(&x);
 	ww_acquire_fini(&holder);
+}
+
+/* As many threads keep a seat as there are processors, and so many more. */
+static void are_more(uint32_t threads) { c->pool->kept = c->pool->processors + threads; }
+
+static uint32_t more;
+
+/* The mutex is released, and who waits for it hasn't gone on yet. */
+static void has_no_owner(void)
+{
+	struct ww_acquire_ctx y;
+
+	ww_acquire_init(&y, c);
+	ww_mutex_unlock(&m);
+	are_more(more);
+	looks = 0;
+	MUST(!ww_mutex_lock(&m, &y) && (more ? looks == 1 : looks > 1));
+	ww_mutex_unlock(&m);
+	ww_acquire_fini(&y);
+}
+
+/*
+ * Where threads are short of processors a call takes a mutex that nobody owns, though another thread waits for that, and doesn't look
+ * at it any longer; and it stays awake for less long.
+ */
+static void by_processors(void)
+{
+	struct ww_acquire_ctx older, x;
+	struct ww_wait wait = { 0 };
+	uint32_t kept = c->pool->kept;
+
+	for (more = 0; more < 2; more++) {
+		ww_acquire_init(&older, c);
+		ww_acquire_init(&x, c);
+		MUST(!ww_mutex_lock(&m, &older));
+		asleep = has_no_owner;
+		MUST(!ww_mutex_lock(&m, &x) && !asleep);
+		ww_mutex_unlock(&m);
+		ww_mine.usual = 1000000;
+		ww_begin_wait(x.own, &wait);
+		MUST(wait.awake == wait.from + (more ? 20000 : 100000));
+		ww_mine.usual = 100;
+		ww_begin_wait(x.own, &wait);
+		MUST(wait.awake == wait.from + 5000 + 16 * 100);
+		ww_acquire_fini(&x);
+		ww_acquire_fini(&older);
+	}
+	c->pool->kept = kept;
 }
 
 /* ---- by several threads, where a step is made in vain inside a guard ---- */
@@ -231,6 +297,7 @@ int main(void)
 		waits_in_vain();
 		is_shut_out();
 		is_awaited();
+		by_processors();
 		in_a_storm();
 		MUST(!ww_mutex_destroy(&m) && !ww_class_free(c));
 	}

@@ -759,7 +759,7 @@ static void prints_crowd(void)
 	pthread_t threads[2];
 
 	MUST(!ww_class_limit(&c, 8, 0) && !ww_class_crowd(&c, 0) && !ww_class_open(&c) && !is_printed("crowd"));
-	crowds(&c, 1, 1000000);
+	crowds(&c, 1);
 	permit_ends(UINT64_MAX / 2);
 	for (unsigned k = 0; k < 2; k++)
 		threads[k] = begin_thread(begins_later, NULL);

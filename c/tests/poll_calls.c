@@ -327,20 +327,64 @@ static void as_many_as_the_gate_says(void)
 	end_both(both);
 }
 
-/* Each task has a context, so nobody waits for one: whoever has waited for a lock measures. */
+/* Within another one it gets any that is free, if there is one; else it waits, as others. */
+static void begins_within_another(void)
+{
+	static struct ww_acquire_ctx rest[896 - 2];
+	enum { LAST = sizeof rest / sizeof *rest - 1 };
+	struct ww_acquire_ctx both[2];
+
+	all_in_use(both, 1);
+	for (unsigned k = 0; k <= LAST; k++)
+		MUST(!ww_acquire_init_poll(&rest[k], c, &(struct ww_seek){ .is_within = true }, k ? NULL : &wakers[1]));
+	seeks[1] = (struct ww_seek){ .is_within = true };
+	wakers[1] = counts_in(&called[1]);
+	MUST(ww_acquire_init_poll(&x, c, &(struct ww_seek){ .is_within = true }, NULL) == -ETIMEDOUT);
+	MUST(looks(1, &y) == -EINPROGRESS);
+	/* What the gate doesn't let begin is nobody's who waits. */
+	ww_acquire_fini(&rest[LAST]);
+	MUST(!called[0] && !called[1]);
+	ww_acquire_fini(&both[1]);
+	MUST(called[0] == 1 && !called[1] && !looks(0, &x));
+	ww_acquire_fini(&x);
+	MUST(called[1] == 1 && !looks(1, &both[1]));
+	for (unsigned k = 0; k < LAST; k++)
+		ww_acquire_fini(&rest[k]);
+	end_both(both);
+}
+
+/* Each task has a context, so nobody waits for one: whoever has waited for a lock, while the gate is to be looked at, looks. */
+static void waits_for_a_lock(struct ww_acquire_ctx both[2], uint64_t due)
+{
+	struct ww_seats *tasks = &c->pool->tasks;
+
+	wakers[0] = counts_in(&called[0]);
+	MUST(!ww_mutex_lock_poll(&m[0], &both[0], &wakers[0]) && ww_mutex_lock_poll(&m[0], &both[1], &wakers[0]) == -EINPROGRESS);
+	ww_mutex_unlock(&m[0]);
+	tasks->due = due;
+	MUST(!ww_mutex_lock_poll(&m[0], &both[1], &wakers[0]) && tasks->due > due);
+	ww_mutex_unlock(&m[0]);
+}
+
+/* What was found for one load isn't for the next: if nobody has waited for long, the gate is opened anew. */
 static void looks_after_a_wait(void)
 {
 	struct ww_acquire_ctx both[2];
 	struct ww_seats *tasks = &c->pool->tasks;
+	struct ww_gate one = { .width = 1, .kept = 1, .least = 1, .widest = 448, .most = 896, .many = 32, .holds = 64, .rate = 1 };
+	uint64_t now;
 
 	ww_mutex_init(&m[0], c);
 	all_in_use(both, 0);
-	wakers[0] = counts_in(&called[0]);
-	MUST(!ww_mutex_lock_poll(&m[0], &both[0], &wakers[0]) && ww_mutex_lock_poll(&m[0], &both[1], &wakers[0]) == -EINPROGRESS);
-	ww_mutex_unlock(&m[0]);
-	tasks->due = 0;
-	MUST(!ww_mutex_lock_poll(&m[0], &both[1], &wakers[0]) && tasks->due);
-	ww_mutex_unlock(&m[0]);
+	do { /* until it was looked at soon, whatever else the machine does */
+		one.since = now = ww_now();
+		one.begun = tasks->begun;
+		tasks->gate = one;
+		waits_for_a_lock(both, now);
+	} while (ww_now() - now > 2000000);
+	MUST(tasks->limit == 1 && tasks->gate.rate == 1);
+	waits_for_a_lock(both, now - 20000000);
+	MUST(tasks->limit == 2 && !tasks->gate.rate);
 	end_both(both);
 	MUST(!ww_mutex_destroy(&m[0]));
 }
@@ -372,6 +416,7 @@ static void by_contexts_of_their_own(void)
 	called_in_turn();
 	passes_on_its_call();
 	as_many_as_the_gate_says();
+	begins_within_another();
 	looks_after_a_wait();
 	stays_while_one_waits();
 	MUST(!ww_class_free(c));

@@ -102,10 +102,10 @@ static void each_read_has_an_unlock(void)
 	begin_both();
 	MUST(!reads(&m, &x) && !reads(&m, &x) && can_read(&m, &x));
 	unlocks(&m, &x);
-	MUST(!can_write(&m, &y));
+	MUST(!can_write(&m, &y) && ww_shared_mutex_unlock(&n, &x) == -EINVAL);
 	unlocks(&m, &x);
 	MUST(can_write(&m, &y) && ww_shared_mutex_unlock(&m, &x) == -EINVAL && ww_shared_mutex_unlock(&n, &x) == -EINVAL);
-	MUST(faults() == before + 2 * TOLD);
+	MUST(faults() == before + 3 * TOLD);
 	end_both();
 }
 
@@ -145,6 +145,7 @@ static void downgrades(void)
 	ww_acquire_done(&x);
 	ww_shared_mutex_downgrade(&m, &x);
 	MUST(ww_shared_mutex_is_read_by(&m, &x) && !ww_shared_mutex_is_written_by(&m, &x) && can_read(&m, &y) && !can_write(&m, &y));
+	MUST(ww_acquire_done_checked(&x) == -EINVAL); /* as it was before */
 	unlocks(&m, &x);
 	MUST(can_write(&m, &y) && faults() == before);
 	end_both();
@@ -296,6 +297,13 @@ static void whoever_was_told_reads_no_more(void)
 	unlocks(&n, &y);
 	unlocks(&m, &x);
 	MUST(!ww_shared_mutex_await(&y, NULL) && !reads(&n, &y) && !reads(&m, &y));
+	ww_acquire_end_reads(&y);
+	MUST(!writes(&m, &x) && !writes(&n, &y) && writes(&m, &y) == -EDEADLK);
+	unlocks(&n, &y);
+	unlocks(&m, &x);
+	MUST(!ww_shared_mutex_await(&y, NULL) && !writes(&n, &y));
+	ww_shared_mutex_downgrade(&n, &y); /* by which it comes to its desk */
+	MUST(ww_shared_mutex_is_read_by(&n, &y) && !reads(&m, &y));
 	ww_acquire_end_reads(&y);
 	end_both();
 }
@@ -529,6 +537,7 @@ static void refuse_others_amid_a_poll(void)
 		MUST(polls_read(&m, &x) == -EBUSY && polls_write(&n, &x) == -EBUSY && polls_read(&n, &x) == -EBUSY && reads(&n, &x) == -EBUSY);
 		MUST(reads(&m, &x) == -EBUSY && !ww_shared_mutex_trylock_shared(&n, &x) && ww_shared_mutex_await_poll(&x, &waker) == -EBUSY);
 		MUST(ww_mutex_lock_poll(&plain, &x, &waker) == -EBUSY && ww_acquire_fini_checked(&x) == -EBUSY);
+		MUST(ww_shared_mutex_lock_all(&x, &(struct ww_shared_item){ .read = &n }, 1) == -EBUSY && ww_shared_mutex_await(&x, NULL) == -EBUSY);
 		if (k)
 			break;
 		unlocks(&m, &y);
@@ -553,7 +562,7 @@ static void refuse_others_amid_a_poll(void)
 	ww_until_all_locked(&x)
 		MUST(polls_read(&m, &x) == -EINVAL && polls_write(&m, &x) == -EINVAL && ww_shared_mutex_await_poll(&x, &waker) == -EINVAL);
 	MUST(polls_read(&m, NULL) == -EINVAL && polls_write(&m, NULL) == -EINVAL && ww_shared_mutex_await_poll(NULL, &waker) == -EINVAL);
-	MUST(faults() == before + 26 * TOLD);
+	MUST(faults() == before + 28 * TOLD);
 	end_both();
 }
 
@@ -738,6 +747,9 @@ static void numbers_are_polled(void)
 	MUST(!ww_number_lock_shared_poll(number, &x, &waker) && !ww_number_lock_exclusive_poll(number, &x, &waker));
 	MUST(ww_number_lock_exclusive_poll(number, &x, &waker) == -EALREADY && !ww_number_unlock(number, &x));
 	ww_acquire_end_reads(&x);
+	MUST(!ww_number_lock_exclusive_poll(number, &x, &waker) && !ww_number_unlock(number, &x) && !ww_number_lock_shared(number, &y, NULL));
+	MUST(ww_number_lock_exclusive_poll(number, &x, NULL) == -ETIMEDOUT && !x.acquired); /* again, and there are readers */
+	ww_acquire_end_reads(&y);
 	MUST(!ww_number_lock_shared_poll(number, &x, &waker) && !ww_number_lock_shared_poll(number, &y, &waker));
 	MUST(ww_number_lock_exclusive_poll(number, &x, &waker) == -EINPROGRESS);
 	moves(&x); /* amid a wait, and as it reads */
@@ -751,6 +763,81 @@ static void numbers_are_polled(void)
 	MUST(ww_number_lock_exclusive_poll(number + 1, &x, &waker) == -EINVAL);
 	end_both();
 	MUST(!ww_number_put(number, c) && !was_called());
+}
+
+/* ---- each call, with each wrong argument ---- */
+
+enum { READ, READ_UNTIL, TRY_READ, READ_POLL, READ_LIST, READ_NUMBER, POLL_READ_OF_NUMBER, WRITE, WRITE_UNTIL, TRY_WRITE, WRITE_POLL,
+       WRITE_LIST, WRITE_NUMBER, POLL_WRITE_OF_NUMBER, CALLS };
+static const struct timespec no_time = { 0, 1000000000 };
+
+/* A trylock says no more than that it is refused. */
+static int makes(unsigned call, uint32_t number, struct ww_acquire_ctx *by, const struct timespec *until, int refused)
+{
+	const struct ww_shared_item read = { .read = &m }, write = { .write = &m };
+
+	switch (call) {
+	case READ: return ww_shared_mutex_lock_shared(&m, by);
+	case READ_UNTIL: return ww_shared_mutex_lock_shared_until(&m, by, until);
+	case TRY_READ: return ww_shared_mutex_trylock_shared(&m, by) ? 0 : refused;
+	case READ_POLL: return ww_shared_mutex_lock_shared_poll(&m, by, &waker);
+	case READ_LIST: return ww_shared_mutex_lock_all(by, &read, 1);
+	case READ_NUMBER: return ww_number_lock_shared(number, by, until);
+	case POLL_READ_OF_NUMBER: return ww_number_lock_shared_poll(number, by, &waker);
+	case WRITE: return ww_shared_mutex_lock(&m, by);
+	case WRITE_UNTIL: return ww_shared_mutex_lock_until(&m, by, until);
+	case TRY_WRITE: return ww_shared_mutex_trylock(&m, by) ? 0 : refused;
+	case WRITE_POLL: return ww_shared_mutex_lock_poll(&m, by, &waker);
+	case WRITE_LIST: return ww_shared_mutex_lock_all(by, &write, 1);
+	case WRITE_NUMBER: return ww_number_lock_exclusive(number, by, until);
+	default: return ww_number_lock_exclusive_poll(number, by, &waker);
+	}
+}
+
+/* Each of them, but those whose bits are in `except`. */
+static void all_refuse(uint32_t number, struct ww_acquire_ctx *by, const struct timespec *until, int why, unsigned except)
+{
+	unsigned acquired = by ? by->acquired : 0;
+
+	for (unsigned call = 0; call < CALLS; call++)
+		MUST(except >> call & 1 || (makes(call, number, by, until, why) == why && (!by || by->acquired == acquired)));
+}
+
+static void each_call_refuses(void)
+{
+	enum { TIMED = 1 << READ_UNTIL | 1 << READ_NUMBER | 1 << WRITE_UNTIL | 1 << WRITE_NUMBER,
+	       LISTS = 1 << READ_LIST | 1 << WRITE_LIST, BY_NUMBER = 1 << READ_NUMBER | 1 << POLL_READ_OF_NUMBER | 1 << WRITE_NUMBER |
+	       1 << POLL_WRITE_OF_NUMBER, POLLS = 1 << READ_POLL | 1 << WRITE_POLL | 1 << POLL_READ_OF_NUMBER | 1 << POLL_WRITE_OF_NUMBER };
+	static DEFINE_WW_CLASS(other_class);
+	struct ww_acquire_ctx of_other;
+	uint32_t number;
+
+	MUST(!ww_number_take(&number, c));
+	all_refuse(number, NULL, NULL, -EINVAL, 0);
+	begin_both();
+	ww_acquire_init(&of_other, &other_class);
+	all_refuse(number, &of_other, NULL, -EINVAL, 0);
+	ww_acquire_fini(&of_other);
+	all_refuse(number, &of_other, NULL, -EINVAL, 0);
+	all_refuse(number, &x, &no_time, -EINVAL, ~(unsigned)TIMED);
+	all_refuse(number + 1, &x, NULL, -EINVAL, ~(unsigned)BY_NUMBER);
+	ww_until_all_locked(&y)
+		all_refuse(number, &y, NULL, -EINVAL, ~(unsigned)(POLLS | LISTS));
+	MUST(!ww_mutex_lock(&plain, &y) && ww_mutex_lock_poll(&plain, &x, &waker) == -EINPROGRESS);
+	all_refuse(number, &x, NULL, -EBUSY, 0);
+	MUST(!ww_acquire_end_wait(&x) && !reads(&n, &x));
+	if (c->is_wait_die) { /* and y begins anew, as the younger one */
+		ww_acquire_unlock_all(&y);
+		ww_acquire_fini(&y);
+		begins(&y);
+		MUST(!writes(&m, &x) && !reads(&n, &y) && writes(&m, &y) == -EDEADLK);
+		all_refuse(number, &y, NULL, -EINVAL, LISTS);
+		ww_acquire_end_reads(&y);
+	}
+	ww_acquire_unlock_all(&x);
+	ww_acquire_unlock_all(&y);
+	end_both();
+	MUST(!ww_number_put(number, c) && !ww_class_free(&other_class));
 }
 
 /* ---- without a book ---- */
@@ -1124,6 +1211,7 @@ static void of(struct ww_class *class)
 	}
 	moved_contexts_read_on();
 	numbers_are_polled();
+	each_call_refuses();
 	waits_end_by_themselves();
 	all_is_released();
 #ifdef WW_DEBUG

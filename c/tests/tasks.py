@@ -1,6 +1,8 @@
 """Tasks of asyncio that wait without their thread: what they refuse, how their waits end, and sums by tasks of several
 loops beside threads: tasks.py libww.so"""
 import asyncio
+import contextlib
+import contextvars
 import ctypes
 import errno
 import gc
@@ -190,6 +192,27 @@ async def waits_in_turn():
     told = await asyncio.gather(*tasks, return_exceptions=True)
     assert order == [2, 3] and [isinstance(it, asyncio.CancelledError) for it in told] == [True, True, False, False]
     await asyncio.wait_for(begins(buffers), 10)
+
+
+async def begins_within():
+    """A task that has a context gets another one, however few tasks may have one at first; so does a task that it makes. One that
+    comes from elsewhere waits, unless more may run by then."""
+    buffers = made(mutexes=0, contexts=0)
+    few = min(2 * os.cpu_count(), 800)
+
+    async def nest(count):
+        async with contextlib.AsyncExitStack() as all_of_it:
+            for _ in range(count):
+                await all_of_it.enter_async_context(buffers.context())
+            stranger = elsewhere.run(asyncio.create_task, begins(buffers))
+            for _ in range(2):
+                await begins(buffers)
+                await asyncio.create_task(begins(buffers))
+            assert not stranger.done() or buffers.stats().task_contexts > few
+        await stranger
+
+    elsewhere = contextvars.copy_context()
+    await asyncio.wait_for(nest(few + 1), 60)
 
 
 async def is_cancelled(kind):
@@ -637,6 +660,7 @@ def main():
         storm(kind, 2, 30, 20, 4, False)
         storm(kind, 2, 30, 20, 3, True)
     asyncio.run(waits_in_turn())
+    asyncio.run(begins_within())
     asyncio.run(releases_once())
     asyncio.run(a_thread_wakes_it())
     asyncio.run(one_is_dropped())

@@ -69,7 +69,7 @@ $(OUT)/%_threads: examples/%.c $(HEADERS) $(THREADED_OBJECTS) $(OUT)/ww_proved.o
 
 MUTEX_TESTS = mutex_calls mutex_ages mutex_seats mutex_pool mutex_ways mutex_ends mutex_any mutex_drivers mutex_edges mutex_loop \
 	mutex_loops mutex_turns mutex_moves mutex_numbers mutex_waits mutex_steps mutex_leaks mutex_torture mutex_crowd number_calls number_any poll_calls \
-	drawn_calls mutex_forks mutex_processors poll_wakers mutex_permits mutex_queue shared_calls wrong_arguments
+	drawn_calls mutex_forks mutex_processors poll_wakers mutex_permits mutex_queue shared_calls wrong_arguments shared_desks
 MUTEX_ALL = $(MUTEX_TESTS) mutex_storm mutex_many number_storm shared_storm
 DEBUG_TESTS = mutex_debug mutex_warnings mutex_naps
 # Those that run without a sanitizer alone, or under one in a way of their own.
@@ -125,8 +125,9 @@ $(OUT)/mutex_turns $(OUT)/mutex_turns_sanitized $(OUT)/mutex_turns_threads: over
 	-Wl,--wrap=pthread_mutex_lock,--wrap=pthread_mutex_unlock
 
 $(OUT)/mutex_leaks $(OUT)/mutex_leaks_sanitized $(OUT)/mutex_leaks_threads: override LDFLAGS += -Wl,--wrap=clock_gettime
+$(OUT)/mutex_permits $(OUT)/mutex_permits_sanitized $(OUT)/mutex_permits_threads: override LDFLAGS += -Wl,--wrap=syscall
 $(OUT)/mutex_steps $(OUT)/mutex_steps_sanitized $(OUT)/mutex_steps_threads: override LDFLAGS += \
-	-Wl,--wrap=ww_go_on_,--wrap=ww_next_wake_,--wrap=ww_cancel_,--wrap=pthread_mutex_lock,--wrap=syscall
+	-Wl,--wrap=ww_go_on_,--wrap=ww_next_wake_,--wrap=ww_look_,--wrap=ww_cancel_,--wrap=pthread_mutex_lock,--wrap=syscall
 
 # As refuse, with its own heap.
 REFUSES = aligned_alloc calloc free pthread_key_create pthread_key_delete pthread_atfork
@@ -341,7 +342,7 @@ SEARCH_HEADERS = tests/interleave/interleave.h $(WITHIN) $(INSIDE)
 STEPS = lock_ lock_slow_ try_ unlock_ go_on_ look_ is_wounded_ cancel_ heed_ begin_ end_ is_free_ has_ next_wake_ close_
 SEARCH_WRAPS = malloc calloc aligned_alloc free abort syscall sched_yield clock_gettime pthread_mutex_lock \
 	pthread_mutex_trylock pthread_mutex_unlock pthread_key_create pthread_key_delete pthread_setspecific pthread_atfork \
-	backtrace backtrace_symbols_fd ww_await_guard $(STEPS:%=ww_%)
+	backtrace backtrace_symbols_fd getrusage ww_await_guard $(STEPS:%=ww_%)
 
 # By the preprocessor as in any other build; and each run begins with their data as it is at first.
 define SEARCHED

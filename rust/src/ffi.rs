@@ -82,13 +82,16 @@ pub struct ww_seek {
     pub seat_: *mut ww_seat,
     pub waker_: ww_waker,
     pub served_: u32,
+    pub heeds_: u16,
+    pub is_within: u16,
 }
 
 #[cfg(feature = "async")]
 impl ww_seek {
-    pub const fn new() -> Self {
+    pub const fn new(is_within: bool) -> Self {
         let waker_ = ww_waker { wake: None, r#loop: ptr::null_mut(), task: ptr::null_mut() };
-        ww_seek { next_: ptr::null_mut(), of_: ptr::null_mut(), seat_: ptr::null_mut(), waker_, served_: 0 }
+        let (next_, of_, seat_) = (ptr::null_mut(), ptr::null_mut(), ptr::null_mut());
+        ww_seek { next_, of_, seat_, waker_, served_: 0, heeds_: 0, is_within: is_within as u16 }
     }
 }
 
@@ -284,7 +287,7 @@ mod tests {
         #[cfg(feature = "async")]
         let (asked, here) = {
             let (more, too) = layouts! {
-                ww_seek: next_ of_ seat_ waker_ served_;
+                ww_seek: next_ of_ seat_ waker_ served_ heeds_ is_within;
             };
             (asked + &more, here + &too)
         };

@@ -75,9 +75,11 @@
 //!
 //! A class finds by itself how many tasks have a context at a time: it measures how many end the most in a second, up to 896.
 //! If [`class!`](crate::class!) says how many contexts it has, that is a fixed bound, which threads and tasks share. Further tasks
-//! wait for one, holding nothing; one that ends goes to whoever begins next, and each 0.2 to 1 ms to whoever waits longest. So a task
+//! wait for one, holding nothing; one that ends goes to whoever begins next, and each millisecond to whoever waits longest. So a task
 //! waits for as many of these times as tasks came before it, shared among those that have one: of 10,000 the one that waits longest
-//! comes after 0.1 to 0.2 s where bodies take microseconds. And a body that awaits a task which needs a context may wait forever.
+//! comes after 0.1 to 0.2 s where bodies take microseconds. A transaction in the body of another one gets any context of tasks that
+//! is free; but a body that awaits another task which needs one may wait forever, and so may what is begun in an attempt of a
+//! [`Context`] by hand.
 //!
 //! # Guards across an `.await`
 //!
@@ -107,7 +109,7 @@ pub use shared::SharedGuard;
 
 use crate::events::{Wait, Watch};
 use crate::{error, ffi, place, Class, Error, Mutex};
-use body::Body;
+use body::{is_within, Body};
 use core::fmt;
 use core::future::{poll_fn, Future};
 use core::marker::PhantomData;
@@ -343,10 +345,12 @@ impl<C: Class> Context<C> {
     #[cold]
     #[allow(clippy::missing_errors_doc, reason = "as `attempt`")]
     pub fn wait_(&mut self) -> impl Future<Output = Result<(), Error>> + use<'_, C> {
-        let block = async {
+        // The block below is a `Body` as well.
+        let is_within = is_within();
+        let block = async move {
             let Inner { class, .. } = self.tx.inner;
             if !self.tx.inner.own().has_begun() {
-                let (mut seek, mut watch) = (pin!(Seek::new(class)), Watch::default());
+                let (mut seek, mut watch) = (pin!(Seek::new(class, is_within)), Watch::default());
                 let told = poll_fn(|cx| {
                     let told = seek.as_mut().poll(cx.waker());
                     if told.is_pending() {
@@ -393,7 +397,9 @@ impl<C: Class> Context<C> {
                 Poll::Ready(begun) => begun?,
                 Poll::Pending => kept.wait_().await?,
             }
-            let told = body(kept.begun_()).await;
+            let tx = kept.begun_();
+            // SAFETY: it is an async block.
+            let told = unsafe { body_(async { body(tx).await }) }.await;
             if let ControlFlow::Break(told) = kept.settle(told) {
                 return told;
             }

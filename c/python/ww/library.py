@@ -110,6 +110,7 @@ def opened(path):
     for name, (result, *words) in _CALLS.items():
         call = getattr(library, name)
         call.restype, call.argtypes = result, words
+    library.context = ctypes.c_uint64 * -(-library.ww_acquire_size() // 8)  # its memory
     for name in _ALONE_IN_PYTHON:
         setattr(library, name, ctypes.PYFUNCTYPE(*_CALLS[name])((name, library)))
     if library.ww_version() // 10000 != _VERSION:

@@ -252,9 +252,9 @@ class SharedMutex(Mutex):
 
 
 class Holder:
-    """What the contexts of threads and of tasks have in common. The library knows what they hold. Only, reads end together there:
-    `_reads` are the numbers of what the program reads still, so that the last one ends them. If an exception comes between two
-    lines that is too many: then they go on to the end of the block."""
+    """What the contexts of threads and of tasks have in common. The library knows what they hold. But there all reads end together:
+    so `_reads` has the numbers of what the program hasn't unlocked, and the last unlock ends the reads. Where an exception comes
+    between two lines it may have one too many, and then the reads last until the block ends."""
 
     def _has(self, mutex):
         """Whether it was asked for, and is held: the library's mutexes with a number are all shared ones."""
@@ -307,7 +307,7 @@ class Context(Holder):
         """What a thread's context has besides, made at its first use: one of a task never uses it."""
         if name not in ("_at", "_lock", "_end", "_is_over", "_its_end"):
             raise AttributeError(f"a context has no attribute {name!r}")
-        self._at = _memory(self._library.ww_acquire_size())
+        self._at = self._library.context()
         # Its end comes once, in a block or when it is dropped, and other threads may cancel it until then: so the end and each
         # cancel are made under a lock.
         self._lock = threading.Lock()

@@ -1,6 +1,8 @@
 """Contexts of asyncio's tasks, which wait without their thread: `async with Class.context() as context`, over ww_poll.h.
 Python 3.10, which has eventfd."""
 import asyncio
+import collections
+import contextvars
 import ctypes
 import errno
 import functools
@@ -11,7 +13,7 @@ import time
 import weakref
 
 from .library import Deadlock, at_caller, told
-from .mutexes import Holder, SharedMutex, _ending, _memory, _once
+from .mutexes import Holder, SharedMutex, _ending
 
 
 class _Waker(ctypes.Structure):
@@ -24,6 +26,7 @@ class _Seek(ctypes.Structure):
     """struct ww_seek."""
 
     _fields_ = [("next", ctypes.c_void_p), ("of", ctypes.c_void_p), ("seat", ctypes.c_void_p), ("waker", _Waker), ("served", ctypes.c_uint32)]
+    _fields_ += [("heeds", ctypes.c_uint16), ("is_within", ctypes.c_uint16)]
 
 
 class _Woken(ctypes.Structure):
@@ -171,6 +174,18 @@ def _inherit():
 os.register_at_fork(after_in_child=_inherit)
 
 
+# Of a task, and of each that it makes: the context that it began last, and those around that.
+_around = contextvars.ContextVar("_around", default=None)
+
+
+def _within():
+    """Those that go on, the innermost first."""
+    around = _around.get()
+    while around and ((it := around[0]()) is None or it._is_over):
+        around = around[1]
+    return around
+
+
 def _ended():
     return OSError(errno.EINVAL, "the context is of no `async with` block that goes on")
 
@@ -182,13 +197,15 @@ class TaskContext(Holder):
 
     def __init__(self, of):
         self._class, self._library, self._reads = of, of._library, set()
-        self._at, self._seek = _memory(self._library.ww_acquire_size()), _Seek()
+        self._at, self._seek = self._library.context(), _Seek()
         self._future = self._event = None  # Those of the wait that is under way.
         self._is_back = False  # Its waker was taken back.
         self._got_deadlock = False  # It has yet to wait for what it collided with, once it has released all.
-        calls = "ww_acquire_end_wait", "ww_acquire_unlock_all", "ww_acquire_fini_checked"
-        ends = (functools.partial(getattr(self._library, it), self._at) for it in calls)
-        self._end, self._is_over = _once(functools.partial(self._library.ww_seek_end, ctypes.byref(self._seek)), *ends)
+        self._is_over = False
+        ends = self._library.ww_acquire_end_wait, self._library.ww_acquire_unlock_all, self._library.ww_acquire_fini_checked
+        calls = [functools.partial(self._library.ww_seek_end, ctypes.byref(self._seek)), *[functools.partial(it, self._at) for it in ends]]
+        # It makes each of them once, in this order: no line of Python is run, which a signal could interrupt.
+        self._end = functools.partial(collections.deque, map(functools.partial.__call__, calls), 0)
         self._its_end = _ending(self._end, of._its_end)
 
     def _is_contended(self):
@@ -223,21 +240,25 @@ class TaskContext(Holder):
             self._is_back |= self._library.ww_poll_take_back(self._at, seek)
 
     async def begin(self):
-        """Begins the context; if none is free it waits for one, in turn."""
+        """Begins the context; if none is free it waits for one, in turn. Within another one it gets any that is free, since
+        that one may wait for it."""
         if self._library.is_debug:
             at_caller(self._library)
+        within = _within()
+        self._seek.is_within = within is not None
         seek = ctypes.byref(self._seek)
         poll = functools.partial(self._library.ww_acquire_init_poll, self._at, self._class._at, seek)
         try:
             if poll(None) != 0:
                 told(await self._wait(poll, seek))
+            _around.set((weakref.ref(self), within))
         except BaseException:
             self._end()
             raise
 
     def end(self):
         """Releases everything that it holds, and ends; so does the wait of another task by it."""
-        future = self._future
+        future, self._is_over = self._future, True
         self._take_back()
         self._end()
         if future and not (future.done() or future.get_loop().is_closed()):

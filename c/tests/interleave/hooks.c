@@ -10,6 +10,7 @@
 #include <pthread.h>
 #include <stdarg.h>
 #include <stdlib.h>
+#include <sys/resource.h>
 #include <sys/syscall.h>
 
 enum { SLICE = 100000 }; /* nanoseconds that a sched_yield takes */
@@ -409,18 +410,19 @@ static long futex_wait(uint32_t *word, uint32_t is, const struct timespec *until
 }
 
 /* By its address alone, so nothing of that is looked at. */
-static long futex_wake(uint32_t *word)
+static long futex_wake(uint32_t *word, uint32_t many)
 {
 	struct object *o = il_before(word, true, "futex wake", PC);
+	uint32_t woken = 0;
 
 	il_commit(me());
 	happens(o, true);
-	for (unsigned t = 1; t <= il.count; t++)
+	for (unsigned t = 1; t <= il.count && woken < many; t++)
 		if (il.threads[t].state == SLEEPS && il.threads[t].word == word) {
 			il.threads[t].state = READY;
-			return 1;
+			woken++;
 		}
-	return 0;
+	return woken;
 }
 
 long __wrap_syscall(long number, ...)
@@ -437,8 +439,11 @@ long __wrap_syscall(long number, ...)
 	word = va_arg(list, uint32_t *);
 	command = va_arg(list, int) & FUTEX_CMD_MASK;
 	is = va_arg(list, uint32_t);
-	return command == FUTEX_WAKE ? futex_wake(word) : futex_wait(word, is, va_arg(list, const struct timespec *));
+	return command == FUTEX_WAKE ? futex_wake(word, is) : futex_wait(word, is, va_arg(list, const struct timespec *));
 }
+
+/* No thread sleeps elsewhere than in the library. */
+int __wrap_getrusage(int who, struct rusage *is) { return (void)who, *is = (struct rusage){ 0 }, 0; }
 
 /* How the debug library came to what it tells. */
 int __wrap_backtrace(void **calls, int most) { return (void)calls, (void)most, 0; }
@@ -644,6 +649,6 @@ void il_await(uint32_t *word)
 void il_set(uint32_t *word)
 {
 	store(word, 4, 1, __ATOMIC_RELEASE, PC);
-	while (futex_wake(word))
+	while (futex_wake(word, 1))
 		;
 }

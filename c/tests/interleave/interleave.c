@@ -280,7 +280,7 @@ void il_switch_away(void)
 	for (unsigned t = 1; t <= il.count && !may; t++) {
 		const struct thread *it = &il.threads[t];
 
-		if (it->state == SLEEPS && *it->word != it->is)
+		if (it->state == SLEEPS && *it->word != it->is && !il_wakes_some(it->word))
 			fail_asleep();
 		if (it->state == SLEEPS && it->until && !late)
 			options[n++] = (struct option){ TIMES_OUT, t, 0 };

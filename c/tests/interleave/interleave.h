@@ -34,6 +34,8 @@ void il_setup(const struct il_program *p);
 void il_thread(const char *text);
 /* Wherever all threads wait, or have ended. */
 void il_rests(void);
+/* Whoever changes this word may wake only some of those that sleep on it, which all have a time. */
+bool il_wakes_some(const uint32_t *word);
 /* Once all threads have ended. */
 void il_check(const struct il_program *p);
 

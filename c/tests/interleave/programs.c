@@ -12,6 +12,7 @@
  *	y	the next lock or ( is by polls: it sleeps until its waker is called; z: it polls once more without need; x: it ends
  *		the wait, and where it has none, all up to the unlock or ) is left out; l: whenever it is called it polls late, once
  *		all other threads wait; h: whoever is called goes on with it
+ *	o	the next ( by polls is as if it were within another context, so it gets any that is free
  *	H	waits for that, and goes on with the context, which ends there, and is gone: where there is none, all up to ) is left out
  *	Lab;	locks these in a loop	U	unlocks all of it	&ab;	locks these as a list
  *	Kab;	as L, but once told to back off it unlocks what it holds one by one, and locks that one before it begins anew
@@ -122,24 +123,23 @@ static void is_held_no_more(struct user *u, unsigned k)
 	u->held[k] = FREE;
 }
 
-/* ---- crowds: when there is one, and how long a permit lasts, is set by hand ---- */
+/* ---- crowds: when there is one, and when a lease is over, is set by hand; and a time comes only where all sleep, or by the bound ---- */
 
-static const uint64_t lease = (uint64_t)1 << 55; /* which no program's time comes to, unless nobody could go on otherwise */
-static uint64_t leases_end;
+static uint64_t crowded; /* since then there is one */
 
-/* A crowd's leases are. */
-static bool is_over(void) { return leases_end && ww_now() >= leases_end; }
+/* Time has passed since, so leases may be over. */
+static bool is_later(void) { return crowded && ww_now() > crowded; }
 
+/* Its gate never looks, and no context is long. */
 static void begin_crowd(void)
 {
-	struct ww_gate *gate = &c.pool->crowd.gate;
+	struct ww_crowd *crowd = &c.pool->crowd;
 
 	c.pool->at_hand = CROWDED;
-	ww_gate_open(gate, 1, 1, 1, 1, 64);
-	gate->width = gate->kept = 1;
-	gate->holds = UINT32_MAX;
-	gate->lease = lease;
-	leases_end = ww_now() + lease;
+	ww_gate_open(&crowd->gate, 1, 1, 1, 1, 64);
+	crowd->gate.since = UINT64_MAX;
+	crowd->since = UINT64_MAX - LEASE;
+	crowded = ww_now();
 }
 
 static void end_lease(void)
@@ -153,27 +153,26 @@ static void end_lease(void)
 	pthread_mutex_unlock(&c.pool->crowd.lock);
 }
 
-/* A window of one permit is at its end, and the one without a limit was better. */
+/* No limit was better. */
 static void end_crowd(void)
 {
 	pthread_mutex_lock(&c.pool->crowd.lock);
-	c.pool->crowd.gate = (struct ww_gate){
-		.width = 1, .kept = NO_LIMIT, .least = 1, .widest = 1, .most = 1, .holds = 1, .tries = true, .since = 1, .lease = 1,
-		.waited = UINT64_MAX, .rate = UINT64_MAX / 4, .begun = SEEN(c.pool->crowd.begun) - 1000,
-	};
+	c.pool->crowd.gate = (struct ww_gate){ .width = 1, .kept = NO_LIMIT, .rate = 1 };
 	__atomic_store_n(&c.pool->crowd.due, 0, __ATOMIC_RELAXED);
 	pthread_mutex_unlock(&c.pool->crowd.lock);
 }
 
 /* ---- seats of tasks: for how long they are lent, and how many there may be, is set by hand too ---- */
 
-/* By a time that doesn't come: one that has come passes at once. */
+static bool hands; /* over each time: no seat is lent any more when its user is through */
+
+/* By a time that doesn't come; of the time for which a seat is lent once it was handed over only some comes. */
 static void lend(unsigned flags)
 {
 	struct ww_seats *of = &c.pool->tasks;
 
 	of->due = UINT64_MAX;
-	of->gate.lease = flags & (LENT | ONCE) ? lease : 0;
+	hands = !(flags & (LENT | ONCE));
 	for (uint32_t k = 0; k < of->count && flags & LENT; k++)
 		of->seats[k].lent = UINT64_MAX;
 	if (flags & NARROW)
@@ -188,20 +187,14 @@ static void widen(uint32_t width)
 	pthread_mutex_lock(&c.pool->queue);
 	of->gate = (struct ww_gate){
 		.width = of->limit, .kept = width, .least = 1, .widest = 1, .most = 2, .tries = true, .more = true, .since = 1,
-		.lease = !!of->gate.lease, .rate = UINT64_MAX / 4, .begun = of->begun - 1000,
+		.rate = UINT64_MAX / 4, .begun = of->begun - 1000,
 	};
-	__atomic_store_n(&of->due, 0, __ATOMIC_RELAXED);
+	__atomic_store_n(&of->due, ww_now() - 1, __ATOMIC_RELAXED);
 	pthread_mutex_unlock(&c.pool->queue);
 }
 
-/* Somebody stands in the line, though there is no crowd, or the permit is free and not by time alone. */
-static bool is_uncalled(const struct ww_crowd *crowd)
-{
-	const struct ww_permit *it = &crowd->permits[0];
-	uint64_t now = ww_now();
-
-	return crowd->first && (!is_crowded(c.pool) || (now < leases_end && now >= it->ends && !(it->seat && it->seat->busy & BUSY)));
-}
+/* Somebody waits for a permit, though there is no crowd. */
+static bool is_uncalled(const struct ww_crowd *crowd) { return crowd->came != crowd->went && !is_crowded(c.pool); }
 
 /* ---- ww_mutex.h, ww_number.h ---- */
 
@@ -248,7 +241,7 @@ void il_check(const struct il_program *p)
 	MUST(met <= cancels && put[1] + put[2] == names(p, "P"));
 #ifdef WW_DEBUG
 	/* Of these, each call is right, and none is dangerous; but a time is long over once a lease is. */
-	MUST(names(p, "n>LKdDFP") || is_over() || (!ww_debug_faults() && !ww_debug_warnings()));
+	MUST(names(p, "n>LKdDFP") || is_later() || (!ww_debug_faults() && !ww_debug_warnings()));
 #endif
 	for (unsigned k = 1; k <= IL_THREADS; k++)
 		for (unsigned i = 0; i < polls[k]; i++)
@@ -257,7 +250,7 @@ void il_check(const struct il_program *p)
 	for (unsigned k = 0; numbered && k < 3; k++)
 		MUST(ww_number_put(numbers[k], &c) == (k == 2 && names(p, "P") ? -EINVAL : 0));
 	if (c.pool) {
-		MUST(!c.pool->threads.seekers && !c.pool->threads.first && !c.pool->crowd.waiting && !c.pool->crowd.first);
+		MUST(!c.pool->threads.seekers && !c.pool->threads.first && !c.pool->crowd.waiting && c.pool->crowd.came == c.pool->crowd.went);
 		MUST(!names(p, "E") || !is_crowded(c.pool));
 		MUST(!c.pool->kept && c.pool->may_keep == keep);
 		most += keep + tasks;
@@ -289,6 +282,8 @@ static bool is_forgotten(const struct ww_seats *of)
 			return true;
 	return false;
 }
+
+bool il_wakes_some(const uint32_t *word) { return c.pool && word == &c.pool->crowd.calls; }
 
 void il_rests(void)
 {
@@ -350,6 +345,7 @@ static int by_polls(struct user *u, int k, const char *how)
 {
 	bool again = strchr(how, 'z'), ends = strchr(how, 'x'), late = strchr(how, 'l');
 
+	u->seek.is_within = !!strchr(how, 'o');
 	for (;;) {
 		struct polled *it = &polled[il_me()][polls[il_me()]++];
 		int r;
@@ -430,7 +426,7 @@ static int begin(struct user *u, char how, const char *words)
 	else
 		r = ww_acquire_init_checked(u->x, &c);
 	MUST(!r || r == (strchr(words, 'i') ? -EINTR : how == '{' ? -EAGAIN : -ETIMEDOUT));
-	MUST(!strchr(words, '!') || r || is_over());
+	MUST(!strchr(words, '!') || r || is_later());
 	if (!r)
 		enter(u->x->own);
 	return r;
@@ -685,6 +681,8 @@ static void put_number(struct user *u)
 static void end_context(struct user *u)
 {
 	leave(u->x->own);
+	if (hands)
+		u->x->own->lent = 0;
 	ww_acquire_fini(u->x);
 	if (u->goes_on)
 		il_gone(u->x, sizeof *u->x);
@@ -697,7 +695,7 @@ static bool are_waiting(void) { return numbered ? SEEN(c.pool->numbered[numbers[
 /* Or it was, but no longer: all leases are over. */
 static bool is_sought(void)
 {
-	return SEEN(c.pool->threads.seekers) || SEEN(c.pool->tasks.seekers) || permit_seekers(c.pool) || is_over();
+	return SEEN(c.pool->threads.seekers) || SEEN(c.pool->tasks.seekers) || permit_seekers(c.pool) || is_later();
 }
 
 static void act(struct user *u, char what, const char *how)
@@ -740,7 +738,7 @@ void il_thread(const char *at)
 	char how[4] = "";
 
 	for (; *at; at++) {
-		if (strchr("?tin!.lxyzh", *at)) {
+		if (strchr("?tin!.lxyzho", *at)) {
 			strncat(how, at, 1);
 			continue;
 		}
@@ -863,8 +861,8 @@ const struct il_program il_programs[] = {
 	{ "class-cancel-soon", { "(aA)(aA)", "(1iaA~2)i(iaA)", "~1C2" }, CONTEXTS(4), 2 },
 	{ "class-cancel-seek", { "(1~2)", "~13!i()2", "~3C" }, CONTEXTS(1), 2 },
 	{ "class-cancel-seek-on", { "(1~2)", "~1()", "~1C2" }, CONTEXTS(1), 2 },
-	{ "class-cancel-line", { "(1~2)", "~13!i()2", "~3C" }, CONTEXTS(4) | CROWD, 2 },
-	{ "class-cancel-line-on", { "(1~2)e()", "~1()", "~1C2" }, CONTEXTS(4) | CROWD, 2 },
+	{ "class-cancel-permit", { "(1~2)", "~13!i()2", "~3C" }, CONTEXTS(4) | CROWD, 2 },
+	{ "class-cancel-permit-on", { "(1~2)e()", "~1()", "~1C2" }, CONTEXTS(4) | CROWD, 2 },
 	{ "class-cancel-poll", { "na1~2A", "~1(3!yiaA2)", "~3C" }, CONTEXTS(4), 2 },
 	{ "class-cancel-poll-seek", { "(1~2)", "~13!yi()2", "~3C" }, CONTEXTS(1), 2 },
 	{ "class-cancel-tasks", { "y()yi()", "y()", "yi()C" }, TASKS, 2 },
@@ -882,8 +880,8 @@ const struct il_program il_programs[] = {
 	{ "cancel-inside", { "(a3~4A)", "~3$(1iaA~2)", "~1c4TG2" }, CONTEXTS(4) | IL_INSIDE, 2 },
 	{ "crowd", { "(aA)e(bB)", "(aA)e(bB)", "(aA)" }, CONTEXTS(4) | CROWD, 1 },
 	{ "crowd-kept", { "(aA)e(aA)", "(aA)e(aA)", "(aA)" }, CONTEXTS(4) | KEEP(3) | CROWD, 1 },
-	{ "crowd-line", { "(1s)e()", "~1()", "~1()" }, CONTEXTS(4) | CROWD, 1 },
-	{ "crowd-line-kept", { "()e(1s)e()e()", "~1()e()" }, CONTEXTS(1) | KEEP(2) | CROWD, 2 },
+	{ "crowd-waits", { "(1s)e()", "~1()", "~1()" }, CONTEXTS(4) | CROWD, 1 },
+	{ "crowd-waits-kept", { "()e(1s)e()e()", "~1()e()" }, CONTEXTS(1) | KEEP(2) | CROWD, 2 },
 	{ "crowd-leaves", { "(1s)e()", "~1[)", "~1()" }, CONTEXTS(4) | CROWD, 1 },
 	{ "crowd-stale", { "()e(1~2)e()", "~1(2)" }, CONTEXTS(1) | KEEP(2) | CROWD, 3 },
 	{ "crowd-ends", { "(1s)E()e()", "~1()", "~1()" }, CONTEXTS(4) | CROWD, 1 },
@@ -957,6 +955,10 @@ const struct il_program il_programs[] = {
 	{ "tasks-one-ends", { "y(1~2~3~4)", "~1y()2", "~1x()3", "~1z()4" }, TASKS, 1 },
 	{ "tasks-narrow", { "y()y()", "z()", "y()" }, TASKS | NARROW, 2 },
 	{ "tasks-narrow-4", { "y()", "x()", "l()", "y()" }, TASKS | NARROW, 1 },
+	{ "tasks-within", { "y()y()", "oy()", "y()" }, TASKS | NARROW, 2 },
+	{ "tasks-within-4", { "y()", "oz()", "l()", "ox()" }, HANDED | NARROW, 1 },
+	{ "tasks-within-free", { "y(7)", "oy(8)", "oy(9)", "_7_8_9F" }, HANDED | NARROW, 1 },
+	{ "tasks-within-few", { "()", "oy()", "y()", "oy()" }, CONTEXTS(1), 1 },
 	{ "tasks-hand", { "y()y()", "y()", "y()" }, HANDED | NARROW, 2 },
 	{ "tasks-hand-4", { "y()", "x()", "l()", "y()" }, HANDED, 1 },
 	{ "tasks-hand-late", { "l()l()", "y()", "z()y()" }, HANDED | NARROW, 1 },

@@ -99,6 +99,8 @@ void il_setup(const struct il_program *p)
 	il_bits = p->flags & ONE_BIT ? 1 : MANY_BITS;
 }
 
+bool il_wakes_some(const uint32_t *word) { return (void)word, false; }
+
 void il_rests(void) {}
 
 /* What a transaction has by now. */

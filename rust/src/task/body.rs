@@ -1,9 +1,38 @@
 //! Async blocks that cost nothing once they are through.
 
+use core::cell::Cell;
 use core::future::Future;
 use core::mem::ManuallyDrop;
 use core::pin::Pin;
 use core::task::{Context, Poll};
+
+thread_local! {
+    /// How many bodies this thread polls or drops, each within the one before.
+    static BODIES: Cell<u32> = const { Cell::new(0) };
+}
+
+/// One more, until this is dropped, also by a panic.
+struct Entered;
+
+impl Entered {
+    #[inline]
+    fn new() -> Self {
+        BODIES.set(BODIES.get() + 1);
+        Entered
+    }
+}
+
+impl Drop for Entered {
+    #[inline]
+    fn drop(&mut self) {
+        BODIES.set(BODIES.get() - 1);
+    }
+}
+
+/// Whether the caller is within a body.
+pub(super) fn is_within() -> bool {
+    BODIES.get() != 0
+}
 
 /// An async block; once it is through it holds nothing, so it isn't dropped then.
 #[must_use = "nothing is done until it is awaited"]
@@ -24,6 +53,7 @@ impl<F> Body<F> {
     #[cold]
     #[inline(never)]
     fn stop(&mut self) {
+        let _within = Entered::new();
         // SAFETY: it is dropped once, where it stands, and isn't used any more.
         unsafe { ManuallyDrop::drop(&mut self.block) };
     }
@@ -36,6 +66,7 @@ impl<F: Future> Future for Body<F> {
     fn poll(self: Pin<&mut Self>, cx: &mut Context<'_>) -> Poll<F::Output> {
         // SAFETY: the block stays in its place.
         let this = unsafe { self.get_unchecked_mut() };
+        let _within = Entered::new();
         // SAFETY: as above; it is dropped there.
         let told = unsafe { Pin::new_unchecked(&mut *this.block) }.poll(cx);
         this.is_through = told.is_ready();

@@ -23,10 +23,11 @@ pub(super) struct Seek {
 unsafe impl Send for Seek {}
 
 impl Seek {
-    pub(super) fn new(class: &'static RawClass) -> Self {
+    /// Within another context: by a task that has one.
+    pub(super) fn new(class: &'static RawClass, is_within: bool) -> Self {
         Seek {
             raw: UnsafeCell::new(MaybeUninit::uninit()),
-            inside: ffi::ww_seek::new().into(),
+            inside: ffi::ww_seek::new(is_within).into(),
             class,
             lent: None,
             _stays: PhantomPinned,
