@@ -82,9 +82,10 @@ COLD int ww_release_on(ww_seat *s, int r)
 }
 
 /*
- * The look is that of the spare seat, which no context has: so it can be made even if all contexts are in use.  An unlock's last access to the mutex comes before the step that releases its lock; so if it
- * is free, all former holders are through with it, and what they wrote is seen here.  In a forked child the spare seat
- * may have been in use, which nobody uses there.
+ * The look is that of the spare seat, which no context has: so it can be made even if all contexts are in use.  An
+ * unlock's last access to the mutex comes before the step that releases its lock; so if it is free, all former holders
+ * are through with it, and what they wrote is seen here.  In a forked child the spare seat may have been in use, which
+ * nobody uses there.
  */
 int32_t ww_look_from_outside(struct ww_pool *p, const struct ww_mutex *m)
 {

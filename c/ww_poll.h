@@ -54,8 +54,8 @@ struct ww_seek {
  * which is measured while one waits: two for each processor at first, and at most 896 of the 1,280 of the class.  One that ends
  * goes to whoever begins next, but each millisecond to the task that has waited longest; that may be called before, and then its
  * polls look for one, of which those in vain call their own waker some times.  If ww_class_limit set how many contexts the class
- * has, tasks and threads share these, and wait in one queue, in which nobody is passed.  Without a waker (NULL) it ends the wait,
- * or doesn't wait, and then seek may be NULL: it returns 0 if a context was begun, else -ETIMEDOUT.
+ * has, tasks and threads share these, and wait in one queue, in which only is_within passes others.  Without a waker (NULL) it
+ * ends the wait, or doesn't wait, and then seek may be NULL: it returns 0 if a context was begun, else -ETIMEDOUT.
  */
 WW_MUST_CHECK int ww_acquire_init_poll(struct ww_acquire_ctx *ctx, struct ww_class *ww_class, struct ww_seek *seek,
 				       const struct ww_waker *waker);
