@@ -18,11 +18,10 @@ PROCESSOR := $(firstword $(subst -, ,$(shell $(CC) -dumpmachine)))
 OUT = out$(if $(CROSS),/$(PROCESSOR))
 PROGRAM = $(OUT)/ww_run
 ASSEMBLY = program/core/$(PROCESSOR).s
-AS_C = -std=c11 -Wall -Wextra -Wpedantic $(CPPFLAGS) $(CFLAGS)
+AS_C = -std=c11 -Wall -Wextra -Wpedantic -Ic/include $(CPPFLAGS) $(CFLAGS)
 PREFIX = /usr/local
 MANDIR = $(PREFIX)/share/man
 DOCDIR = $(PREFIX)/share/doc/ww
-PAGES = README.md program/FORMATS.md docs/RULES.md docs/GLOSSARY.md docs/DESIGN.md c/REFERENCE.md
 TOOLS = explain trace picture json
 TOOLSDIR = $(PREFIX)/share/ww/tools
 MAKES_C = $(MAKE) --no-print-directory -C c CROSS='$(CROSS)' RUN='$(RUN)' PREFIX='$(abspath $(PREFIX))'
@@ -36,11 +35,11 @@ program/core/%.s:
 	@echo 'there is no $@: the proved program is there for x86_64 and aarch64 alone' >&2 && false
 
 # The checksum of the sources of which this program is stands beside it, for ./run and ./test.
-$(PROGRAM): $(ASSEMBLY) c/program.c c/ww_steps.h
+$(PROGRAM): $(ASSEMBLY) program/program.c c/include/ww_steps.h
 	@mkdir -p $(OUT)
 	@rm -f $@ $@.sources
 	$(CC) -c $(ASSEMBLY) -o $@.o
-	$(CC) $(AS_C) $@.o c/program.c $(LDFLAGS) -pthread -o $@
+	$(CC) $(AS_C) $@.o program/program.c $(LDFLAGS) -pthread -o $@
 	@sed -n 's/^ \* sources: //p' $(ASSEMBLY) >$@.sources
 	@tools/is_of_sources $@ || true
 
@@ -55,8 +54,7 @@ install: all
 	install -d $(DESTDIR)$(PREFIX)/bin $(DESTDIR)$(MANDIR)/man1 $(DESTDIR)$(DOCDIR) $(DESTDIR)$(TOOLSDIR)
 	install -m 755 $(PROGRAM) $(DESTDIR)$(PREFIX)/bin
 	install -m 644 program/ww_run.1 $(DESTDIR)$(MANDIR)/man1
-	install -m 644 $(PAGES) $(DESTDIR)$(DOCDIR)
-	install -m 644 c/README.md $(DESTDIR)$(DOCDIR)/C.md
+	tools/install_pages $(DESTDIR)$(DOCDIR)
 	install -m 755 $(TOOLS:%=tools/%) $(DESTDIR)$(TOOLSDIR)
 	install -m 644 tools/command.py tools/core.py tools/inputs.py tools/printed.py $(DESTDIR)$(TOOLSDIR)
 	+$(MAKES_C) install
@@ -64,9 +62,7 @@ install: all
 
 uninstall:
 	rm -f $(DESTDIR)$(PREFIX)/bin/ww_run $(DESTDIR)$(MANDIR)/man1/ww_run.1
-	cd $(DESTDIR)$(DOCDIR) && rm -f $(notdir $(PAGES)) C.md
-	rm -rf $(DESTDIR)$(TOOLSDIR)
-	rmdir $(DESTDIR)$(DOCDIR)
+	rm -rf $(DESTDIR)$(DOCDIR) $(DESTDIR)$(TOOLSDIR)
 	+$(MAKES_C) uninstall
 
 clean:

@@ -12,6 +12,7 @@
 #include <vector>
 #include <ww_mutex.h>
 #include <ww_number.h>
+#include <ww_shared.h>
 #include <ww_steps.h>
 #if __has_include(<peer.h>)
 #include <peer.h> // the kernel's code, as bench/kernel_peer compiles it for user space
@@ -223,6 +224,28 @@ void loop_one_by_one(unsigned k, unsigned times)
 	by_mutex(times, looping(k), [k](ww_acquire_ctx *) { unlock_newest_first(k); });
 }
 
+void loop_of_reads(unsigned k, unsigned times)
+{
+	static std::array<ww_shared_mutex, most> shared;
+
+	ww_class_init(&objects, WW_WOUND_WAIT, "objects");
+	for (ww_shared_mutex &it : shared)
+		ww_shared_mutex_init(&it, &objects);
+	by_mutex(
+		times,
+		[k](ww_acquire_ctx *x) {
+			ww_until_all_locked(x) {
+				for (unsigned n = 0; n < k; n++) {
+					const int answer = ww_shared_mutex_lock_shared(&shared[n], x);
+
+					ww_retry_on_contention(x);
+					must(!answer);
+				}
+			}
+		},
+		[](ww_acquire_ctx *x) { ww_acquire_unlock_all(x); });
+}
+
 void lock_all(unsigned k, unsigned times)
 {
 	std::array<ww_mutex *, most> list;
@@ -323,6 +346,7 @@ constexpr way ways[]{
 	{ "numbered_loop", numbered_loop },
 	{ "loop", loop },
 	{ "loop_each", loop_one_by_one },
+	{ "loop_reads", loop_of_reads },
 	{ "lock_all", lock_all },
 	{ "without", without_context },
 #ifdef HAS_PEER

@@ -7,6 +7,13 @@ from typing import NamedTuple
 
 TOP = os.path.dirname(os.path.dirname(os.path.abspath(__file__)))
 LIBRARY = os.path.join(TOP, "c/out/libww.a")
+
+
+def headers_of(library):
+    """Those beside a library that stands in c/out, also as they lay in an earlier version."""
+    folder = os.path.dirname(os.path.dirname(library))
+    inside = os.path.join(folder, "include")
+    return inside if os.path.exists(os.path.join(inside, "ww_mutex.h")) else folder
 KINDS = ("wound-wait", "wait-die")
 ONE = "one mutex"
 PEER = "peer"
@@ -35,7 +42,7 @@ def told_by(words, seconds=600, apart=False):
 
 def build(source, program, peer=None, library=LIBRARY, headers=None):
     """A program, of a source of bench/ over the library, whose headers lie one folder above it, and the peer in a folder."""
-    folders = [headers or os.path.dirname(os.path.dirname(library)), *([peer] if peer else [])]
+    folders = [headers or headers_of(library), *([peer] if peer else [])]
     flags = ["-std=c++17", "-O2", "-Wall", "-Wextra", "-Wpedantic", *[f"-I{it}" for it in folders]]
     libraries = [library, os.path.join(peer, "libpeer.a")] if peer else [library]
     subprocess.run(["c++", *flags, os.path.join(TOP, "bench", source), *libraries, "-pthread", "-o", program], check=True)

@@ -3,7 +3,7 @@
 
 # Compiles what is counted, contexts.cpp, over the library in these files.
 make_counted() {
-    c++ -std=c++17 -O2 -I. ../bench/contexts.cpp "$@" -pthread -o "$work/contexts"
+    c++ -std=c++17 -O2 -Iinclude ../bench/contexts.cpp "$@" -pthread -o "$work/contexts"
 }
 
 # So many instructions a program takes with these words.

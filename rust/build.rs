@@ -10,7 +10,7 @@ use std::process::Command;
 use std::{env, fs};
 
 /// The first number of `ww_version`, with which the binary interface changes.
-const INTERFACE: u32 = 4;
+const INTERFACE: u32 = 5;
 
 type Answer<T> = Result<T, String>;
 
@@ -81,6 +81,9 @@ fn ask_pkg_config(name: &str) -> Answer<PathBuf> {
 
 // ---- the sources ----
 
+/// Where the sources lie in c/: of the debug library alone, and of both.
+const FOLDERS: [&str; 6] = ["core", "base", "admit", "lock", "doors", "debug"];
+
 fn build(is_debug: bool, name: &str) -> Answer<()> {
     let (os, processor) = (cargo("CARGO_CFG_TARGET_OS"), cargo("CARGO_CFG_TARGET_ARCH"));
     let sources = sources();
@@ -91,7 +94,8 @@ fn build(is_debug: bool, name: &str) -> Answer<()> {
     println!("cargo:rerun-if-changed={}", sources.display());
     let out = PathBuf::from(cargo("OUT_DIR"));
     let compiler = Tools::find();
-    let mut words = Vec::new();
+    let include = sources.join("include").display().to_string();
+    let mut words = vec!["-I", &include];
     if is_debug {
         words.extend(["-DWW_DEBUG", "-g"]);
     }
@@ -99,12 +103,10 @@ fn build(is_debug: bool, name: &str) -> Answer<()> {
         words.extend(["-fsanitize=thread", "-g"]);
     }
     let mut objects = vec![compiler.compile(&core, &out, &[])?];
-    for source in c_files(&sources)? {
-        let is_of_debug = source.file_name().is_some_and(|it| it.to_string_lossy().starts_with("ww_debug"));
-        if is_of_debug && !is_debug {
-            continue;
+    for folder in FOLDERS.iter().filter(|it| is_debug || **it != "debug") {
+        for source in c_files(&sources.join(folder))? {
+            objects.push(compiler.compile(&source, &out, &words)?);
         }
-        objects.push(compiler.compile(&source, &out, &words)?);
     }
     let archive = out.join(format!("lib{name}.a"));
     // It adds to one that an earlier run left.

@@ -140,7 +140,7 @@ def program(formats, version):
     made += ['.\\" Written by tools/pages from program/FORMATS.md, which says more: change that, not this page.', ".nh"]
     made += [".SH NAME", r"ww_run \- run transactions under wound/wait locks, or replay a schedule of lock events"]
     made += [".SH SYNOPSIS", r"\fBww_run\fP < \fIINPUT\fP", ".SH DESCRIPTION", prose(head), ".PP", prose(reads)]
-    made += [".PP", r"FORMATS.md in \fIshare/doc/ww\fP says what an input may have, and what is printed. Of the tools in"]
+    made += [".PP", r"FORMATS.md in \fIshare/doc/ww/program\fP says what an input may have, and what is printed. Of the tools in"]
     made += [r"\fIshare/ww/tools\fP \fBexplain\fP says where an input is wrong, and why; \fBtrace\fP and \fBpicture\fP show what was"]
     made += [r"printed; \fBjson\fP lays an input out.", ".SH EXIT STATUS"]
     for number, when, written in rows:

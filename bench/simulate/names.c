@@ -1,6 +1,6 @@
-/* names.c - what of a class lies where, for the table of transfers. See `words_of` of ww_context.h for the proved library's part. */
+/* names.c - what of a class lies where, for the table of transfers. See `words_of` of context.h for the proved library's part. */
 #include "simulate.h"
-#include "ww_context.h"
+#include "lock/context.h"
 
 void name_pool(const struct ww_pool *pool)
 {
@@ -16,6 +16,6 @@ void name_pool(const struct ww_pool *pool)
 	name_lines("wait lists", (void *)addresses[SLOTS_AT], addresses[SLOTS_AT + 2] * SLOT);
 	name_lines("stamp word", table, LINE);
 	name_lines("front word", table + FRONT, LINE);
-	name_lines("owner words and guards", locks, (size_t)pool->locks * 16);
-	name_lines("signs and cancels", locks + 2 * (size_t)pool->locks, (size_t)seats * LINE);
+	name_lines("owner words and guards", locks, (size_t)pool->numbers.locks * 16);
+	name_lines("signs and cancels", locks + 2 * (size_t)pool->numbers.locks, (size_t)seats * LINE);
 }

@@ -1,7 +1,7 @@
 /*
  * numbers.h - the numbers of the model, in picoseconds: name, value, and where it comes from.  `run` changes one by NAME=NANOSECONDS.
- * Measured: by measure.c, on an Intel Xeon at 2.5 GHz (Cascade Lake).  Fitted: so that what bench/README has by one thread, or by
- * four, comes out.  Assumed: neither.
+ * Measured: by measure.c, on an Intel Xeon at 2.5 GHz (Cascade Lake).  Fitted: so that what bench/measured.rows has by one thread,
+ * or by four, comes out.  Assumed: neither.
  */
 #ifndef NUMBERS_H
 #define NUMBERS_H

@@ -4,7 +4,7 @@
  * behind them in the list, and sleeps for as long as they go on.  All calls are
  * made step by step in one thread, so each run is the same.
  */
-#include "../ww_steps.h"
+#include <ww_steps.h>
 #include <stdio.h>
 
 enum { OLDEST, SECOND, YOUNGEST, SEATS };

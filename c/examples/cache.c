@@ -2,7 +2,7 @@
  * A cache that threads read beside each other: a lookup reads the rates and an entry, in any order with others, and if the entry is
  * of older rates it comes to write that, and computes it anew. Meanwhile another thread changes the rates.
  */
-#include "../ww_shared.h"
+#include <ww_shared.h>
 #include <pthread.h>
 #include <stdio.h>
 #include <stdlib.h>

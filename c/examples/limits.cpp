@@ -1,5 +1,5 @@
 // A service that moves money between accounts: no request waits for longer than it may, and all waits end when it stops.
-#include "../ww_mutex.hpp"
+#include <ww_mutex.hpp>
 #include <atomic>
 #include <cerrno>
 #include <chrono>

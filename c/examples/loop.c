@@ -1,6 +1,6 @@
 /* Two event loops of a thread each move money between accounts by 200 tasks, which wait for locks without a thread. */
 #define _GNU_SOURCE
-#include "../ww_poll.h"
+#include <ww_poll.h>
 #include <pthread.h>
 #include <stdio.h>
 #include <string.h>

@@ -3,7 +3,7 @@
  * it was copied from, and a thread acquires a buffer and all its origins, which others
  * acquire from other ends.  One thread at a time puts a buffer behind another one.
  */
-#include "../ww_mutex.h"
+#include <ww_mutex.h>
 #include <pthread.h>
 #include <stdio.h>
 #include <stdlib.h>

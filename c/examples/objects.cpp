@@ -1,6 +1,6 @@
 // Objects with a mutex of their own, found on the way, in C++: each buffer names the one that it was copied from, and a
 // thread acquires a buffer and its origins, which others acquire from other ends.
-#include "../ww_mutex.hpp"
+#include <ww_mutex.hpp>
 #include <cstdio>
 #include <deque>
 #include <thread>

@@ -1,6 +1,6 @@
 /*
  * port.c - code of a driver as it is in the kernel, first method of its ww-mutex-design.rst, and around it what stands here for
- * the kernel: threads, and a signal.  cc -I c/kernel FILE c/out/libww.a -pthread
+ * the kernel: threads, and a signal.  cc -I c/include -I c/include/ww_kernel FILE c/out/libww.a -pthread
  */
 #include <linux/ww_mutex.h>
 #include <pthread.h>

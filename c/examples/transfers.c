@@ -1,5 +1,5 @@
 /* Four threads move money between accounts, which may lie anywhere: each has its mutex by a number. */
-#include "../ww_number.h"
+#include <ww_number.h>
 #include <pthread.h>
 #include <stdio.h>
 #include <string.h>

@@ -28,7 +28,7 @@ def read(path):
 
 def version():
     """The library's version, as in ww_steps.h."""
-    return ".".join(re.findall(r"#define WW_VERSION_[A-Z]+ (\d+)", read(f"{C}/ww_steps.h").decode()))
+    return ".".join(re.findall(r"#define WW_VERSION_[A-Z]+ (\d+)", read(f"{C}/include/ww_steps.h").decode()))
 
 
 def pack(folder, library, platform, more=()):
@@ -36,11 +36,13 @@ def pack(folder, library, platform, more=()):
     number, tag = version(), f"py3-none-{platform}"
     info = f"{NAME}-{number}.dist-info"
     metadata = f"Metadata-Version: 2.1\nName: {NAME}\nVersion: {number}\nSummary: wound/wait mutexes over a proved core\nRequires-Python: >=3.9\n"
-    modules = sorted(glob.glob(f"{C}/python/ww/*.py"))
+    # The guide is the wheel's page, without links, which lead to files that aren't there.
+    page = re.sub(r"\[([^][]*)\]\([^)]*\)", r"\1", read(f"{C}/python/README.md").decode())
+    modules = sorted(glob.glob(f"{C}/python/ww/*.py")) + [f"{C}/python/ww/py.typed"]
     files = {f"ww/{os.path.basename(it)}": read(it) for it in modules}
     files |= {
         f"ww/libww.so.{number.split('.', maxsplit=1)[0]}": read(library),
-        f"{info}/METADATA": metadata.encode(),
+        f"{info}/METADATA": f"{metadata}Description-Content-Type: text/markdown\n\n{page}".encode(),
         f"{info}/WHEEL": f"Wheel-Version: 1.0\nGenerator: {NAME}\nRoot-Is-Purelib: false\nTag: {tag}\n".encode(),
     }
     debug = library.replace("libww", "libww_debug")

@@ -2,22 +2,23 @@
 #ifndef CROWD_H
 #define CROWD_H
 #include "mutex_test.h"
-#include "../ww_class.h"
+#include "../admit/crowd.h"
 
-/* From now on the class has so many permits, for ever: its gate doesn't look, and no context is long. */
+/* From now on the class has so many permits, for ever: its limiter doesn't look, and no context is long. */
 static inline void crowds(struct ww_class *of, uint32_t permits)
 {
 	struct ww_crowd *crowd = &of->pool->crowd;
+	struct ww_limiter *limiter = &of->pool->crowd.limiter;
 
-	pthread_mutex_lock(&crowd->lock);
-	ww_gate_open(&crowd->gate, permits, permits, permits, permits, 64);
-	crowd->gate.since = UINT64_MAX;
-	crowd->gate.kept = permits + 1; /* whose waits are many or few */
+	pthread_mutex_lock(&of->pool->queue);
+	ww_limiter_open(limiter, permits, permits, permits, permits, 64);
+	limiter->since = UINT64_MAX;
+	limiter->kept = permits + 1; /* whose waits are many or few */
 	crowd->since = UINT64_MAX - LEASE;
 	crowd->is_long = false;
 	crowd->sleepers = 0;
-	__atomic_store_n(&of->pool->at_hand, CROWDED, __ATOMIC_RELAXED);
-	pthread_mutex_unlock(&crowd->lock);
+	set_crowded(of->pool, true);
+	pthread_mutex_unlock(&of->pool->queue);
 }
 
 /* As if this thread had never slept, else it might pass without a permit; and as if it mostly waited, else its contexts might be long. */

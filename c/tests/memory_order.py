@@ -4,13 +4,14 @@
 It reads each access by __atomic_* in the sources of FOLDER, c/ by itself, and holds it against the table below, which has
 them by field and function: so an order can't change unseen, nor an access come or go, nor two change places. A second table
 says what covers the plain accesses of what threads share: a lock, or that one thread alone writes. Who changes a table changes
-the programs that have the field. And the table at the head of ww_class.h has each field that several threads write, and names for
+the programs that have the field. And the table at the head of class.h has each field that several threads write, and names for
 it a program of the search, or a test, that there is; and shake.h has a pause before each kind of access. Then it draws all executions of small programs (which write each read reads, in which order
 the writes of each place come), and asks of each whether a memory model allows it: C's, as RC11 repairs it, with the release
 sequences of C++20, which tells data races too; and AArch64's, the axiomatic one, over the code that gcc and clang make, with
 load and store exclusive and with single instructions (LSE). First come programs whose answers are well known, and such that
 have to be found wrong. The steps of the proved library are read-modify-writes of one sequentially consistent order here.
 """
+import glob
 import itertools
 import os
 import re
@@ -270,8 +271,9 @@ def arm_model(events, sb, rf, mo, lse):
 
 # ---- the sources ----
 
-SOURCES = ["ww.c", "ww_gate.h", "ww_crowd.h", "ww_class.h", "ww_seat.h", "ww_context.h", "ww_class.c", "ww_numbers.c", "ww_seat.c", "ww_queue.c",
-           "ww_crowd.c", "ww_context.c", "ww_mutex_inline.h", "ww_mutex.c", "ww_loop.c", "ww_number.h", "ww_number.c", "ww_inside.h", "ww_poll.c", "ww_shared.c", "ww_debug.h", "ww_debug.c"]
+# Those of both libraries, and of the debug library alone.
+OF_BOTH = ["include/*.h", *(f"{it}/*.[ch]" for it in ("base", "admit", "lock", "doors"))]
+SOURCES = [*OF_BOTH, "debug/*.[ch]"]
 SHORT = {"RELAXED": "rlx", "ACQUIRE": "acq", "RELEASE": "rel", "ACQ_REL": "ar", "SEQ_CST": "sc"}
 
 # Of each field, in each function that has it, in the order of the text: its accesses, and what orders them. Of a
@@ -279,170 +281,144 @@ SHORT = {"RELAXED": "rlx", "ACQUIRE": "acq", "RELEASE": "rel", "ACQ_REL": "ar", 
 TABLE = {
     # A token that was given is taken away before its thread looks at the state again, which the giver changed before.
     "token": {
-        "park": "load sc, load sc, store sc", "leave_token": "load sc, compare_exchange sc/sc",
-        "is_parked": "load sc", "arm": "compare_exchange sc/sc, store sc", "ww_disarm": "compare_exchange sc/sc",
+        "ww_park": "load sc, load sc, store sc", "ww_leave_token": "load sc, compare_exchange sc/sc",
+        "is_parked": "load sc", "ww_arm": "compare_exchange sc/sc, store sc", "ww_disarm": "compare_exchange sc/sc",
     },
     # Tasks that were woken, and what they wrote before.
     "first_": {"ww_event_wake": "load rlx, compare_exchange rel/rlx", "ww_event_take": "exchange acq"},
     # What a waker is, as long as the token says that it is to be called.
-    "wake": {"arm": "store rlx", "leave_token": "load rlx"},
-    "loop": {"arm": "store rlx", "leave_token": "load rlx"},
-    "task": {"arm": "store rlx", "leave_token": "load rlx"},
+    "wake": {"ww_arm": "store rlx", "ww_leave_token": "load rlx"},
+    "loop": {"ww_arm": "store rlx", "ww_leave_token": "load rlx"},
+    "task": {"ww_arm": "store rlx", "ww_leave_token": "load rlx"},
     # Said before the waiter is woken, which looks at it after it took its token away.
-    "asked": {"is_due": "load sc"},
-    "cancelled": {"of_seat": "store rlx", "ww_acquire_cancel": "exchange sc", "lock_ends": "exchange sc"},
+    "cancelled": {"of_seat": "store rlx", "is_due": "load sc", "ww_acquire_cancel": "exchange sc", "lock_ends": "exchange sc"},
     # A canceller may look while a context begins or ends: a cancel that isn't ordered after ww_acquire_init is no right call.
     "own": {"of_seat": "store rlx", "no_more": "store rlx", "ww_acquire_cancel": "load rlx", "ww_mutex_is_held_by": "load rlx"},
     # A mutex's holder alone writes these, and the lock orders holders; whoever else looks has only a glance, or takes the lock.
     "ctx": {
         "WW_HOLDS_": "store rlx", "WW_HOLDS_NO_MORE_": "store rlx",
-        "ww_mutex_unlock": "load rlx", "holder_of": "load rlx", "own_it": "store rlx, store rlx", "release_all": "store rlx",
-        "ww_unlock_of": "store rlx",
+        "ww_mutex_unlock": "load rlx", "holder_of": "load rlx", "note_holder": "store rlx, store rlx", "unlock_unlisted": "store rlx",
     },
     # By it others look who uses the seat, which was said before.
-    "alone": {"seat_of": "load acq", "own_it": "store rel", "unlock_alone": "store rlx"},
+    "alone": {"seat_of": "load acq", "note_holder": "store rel", "unlock_alone": "store rlx"},
     # By what lies there before, the words that a list fetches ahead are of no use, and nothing else.
-    "number": {"ww_number_at_first": "store rlx", "fetch_ahead": "load rlx"},
-    "is_large": {"ww_open_numbers": "store rlx", "takes": "store rlx", "begin_list": "load rlx"},
+    "number": {"ww_number_at_first": "store rlx", "begin_list": "load rlx"},
+    "is_large": {"ww_open_numbers": "store rlx", "find_number": "store rlx", "begin_list": "load rlx"},
     # It lies in the place of that, and others see that it is even.
     "older": {"WW_HOLDS_": "store rlx", "enlist": "store rlx"},
     "link": {"unlist": "store rlx"},
-    "user": {"is_user": "store rlx", "ww_mutex_is_held_by": "load rlx"},
+    "user": {"note_user": "store rlx", "is_used_here": "load rlx"},
     # A waiter says first that it holds the mutex, and then that it waits no more; who destroys looks the other way round.
     # Of one that is known by its number also that this is taken, which nobody asks for before.
     "waiters": {
-        "ww_end_mutex": "load sc", "ww_is_used": "load sc", "ww_is_used_by_number": "load sc", "ww_number_leave": "fetch_sub sc", "count_waiter": "fetch_add sc, fetch_add sc",
-        "lock_by_any": "fetch_add sc, fetch_sub sc", "ww_number_put": "load sc, compare_exchange sc/sc",
+        "ww_end_mutex": "load sc", "ww_has_users": "load sc", "count_waiter": "fetch_add sc, fetch_add sc",
+        "lock_by_any": "fetch_add sc, fetch_sub sc", "put_number": "load sc, fetch_and sc",
         "ww_number_take": "store rlx, fetch_add rlx",
-        "is_desk": "load rlx", # which it always is
+        "is_slot": "load rlx", # which it always is
         "is_of_number": "load rlx", # likewise
-        "is_awaited_by_task": "load rlx", # in a loop
+        "try_slot": "load rlx", # in a loop
     },
-    # A reader marks, and then looks whether the mutex is free; a writer has that, and then looks for bits, desks and marks. Of bits
+    # A reader marks, and then looks whether the mutex is free; a writer has that, and then looks for bits, slots and marks. Of bits
     # the same: who finds its mutex free again, after another had it, finds the bit that this one cleared gone.
     "readers_": {
         "reads_at_once": "load sc, fetch_or sc, load sc", "read_held": "fetch_or sc",
-        "await_readers": "load sc, fetch_and sc", "write_on": "load sc", "ww_is_used": "load sc",
-        "ww_number_is_held": "load rlx", # by who has the mutex
+        "await_readers": "load sc, fetch_and sc", "write_by": "load sc", "ww_has_users": "load sc",
     },
-    "desks": {"make_desk": "store sc", "is_read_by": "load sc", "await_readers": "load sc", "desk_at": "load sc"},
+    "slots": {"make_slot": "store sc", "is_read_by": "load sc", "await_readers": "load sc", "slot_at": "load sc"},
     # What was read comes before a mark that is gone. Others than its own thread look at marks alone.
     "marks": {
-        "mark": "exchange sc", "unmark": "store rel", "wipe": "store rel", "await_desk": "load sc", "is_read_by": "load acq",
-        "has_mark": "load rlx", "reads_at_once": "load rlx", "read_held": "load rlx",
+        "mark": "load rlx, exchange sc", "unmark": "load rlx, store rel", "clear_marks": "store rel", "await_slot": "load sc",
+        "is_read_by": "load acq", "has_mark": "load rlx",
     },
     # Whoever sees a read sees that the marks from before it are gone.
     "reads": {
-        "sit": "store rlx", "sit_for_certain": "store rlx", "reads_more": "store rel", "is_read_by": "load acq",
-        "reads_on": "store rlx", "ww_debug_reads": "load rlx",
+        "take_slot": "store rlx", "add_read": "store rel", "is_read_by": "load acq",
+        "leave_reads": "store rlx",
     },
     # All of an open class; and of a mutex the number, which its first lock may just have given it.
     "pool": {
-        "pool_of": "load acq, load acq", "pool_at": "load acq", "open_now": "store rel", "ww_number_at_first": "store rel",
-        "ww_class_free": "store rel", "is_open": "load rlx", "ww_acquire_init": "load acq", "begin_by_any": "load acq", "ww_acquire_init_poll": "load acq", "ww_mutex_lock": "load acq",
+        "open_pool_of": "load acq, load acq", "ww_number_at": "load acq", "pool_at": "load acq", "open_now": "store rel", "ww_number_at_first": "load acq, store rel", "ww_class_open_with": "load acq",
+        "ww_class_stats": "load acq", "show_class": "load acq",
+        "ww_class_free": "load acq, store rel", "is_open": "load rlx", "ww_acquire_init": "load acq", "begin_by_any": "load acq", "ww_acquire_init_poll": "load acq", "ww_mutex_lock": "load acq",
         "ww_mutex_trylock": "load acq", "ww_end_mutex": "store rel", "ww_number_take": "store rel",
     },
-    # The proved library's, of which a lock's owner sees at least what it wrote there itself.
-    "owners": {"release_by_numbers": "load rlx"},
+    # The proved library's, of which a lock's owner sees at least what it wrote there itself. A reader looks as that library does.
+    "owners": {"release_by_numbers": "load rlx", "nobody_has": "load sc"},
+    # What its mutex was by then comes before a number that is left; whom to ask of it is always the same.
+    "left": {"ww_leave_used": "fetch_or rel", "ww_reclaim_numbers": "exchange acq"},
+    "is_used": {"ww_reclaim_numbers": "load rlx", "ww_leave_used": "store rlx"},
     # Where a mutex lies: who holds it comes after that.
     "lies_at": {"lies_at": "store rlx", "mutex_with": "load rlx"},
     # The mutexes of numbers, which are empty then.
     "numbered": {"mutex_at": "load acq", "mutexes_of": "store rel"},
-    "last_thread": {"my_thread": "add_fetch rlx"},
+    "last_thread": {"ww_number_thread": "add_fetch rlx"},
     # What the user of a seat wrote goes with busy: to its keeper, or to whoever claims it, and to whoever frees the class. It is
     # given before its giver looks for seekers.
     "busy": {
-        "use_kept": "load acq, store rlx", "give_seat": "store rel",
-        "let_go": "compare_exchange ar/acq, store sc", "keep": "store sc", "claim": "load sc, compare_exchange sc/sc",
-        "give_kept": "compare_exchange sc/sc", "ww_give_seat": "load rlx, fetch_add sc", "is_idle": "load acq", "is_used": "load rlx",
-        "give_shared": "fetch_add sc", "ww_hands_over": "fetch_add sc", "given": "load rlx", "ww_class_stats": "load rlx",
+        "use_own": "load acq, store rlx", "give_seat": "load rlx, store rel", "claim": "load sc, compare_exchange sc/sc",
+        "ww_return_seat": "exchange sc", "is_idle": "load acq", "is_in_use": "load rlx",
+        "return_otherwise": "exchange sc", "ww_class_stats": "load rlx",
     },
     # Who was called says first that nobody is, and then looks for a seat; whoever gives one looks the other way round.
-    "called": {"call_first": "store sc", "give_shared": "load sc", "look_for_seat": "store sc"},
+    "called": {"call_first": "store sc", "return_otherwise": "load sc", "look_for_seat": "store sc", "ww_task_seat": "load sc"},
     # Written under the lock of the queue. Who claims a seat by an older limit does what it might have done before.
-    "limit": {"look_at_gate": "store sc", "open_seats": "load sc", "ww_claim_from": "load sc"},
+    "open": {"look_at_limiter": "store sc", "open_seats": "load sc"},
     # Hints: whoever sees them late waits for a permit without need, for a while, or begins without one.
     "at_hand": {
-        "seat_at_hand": "load rlx", "ww_other_seat": "load rlx", "is_crowded": "load rlx", "set_crowded": "store rlx", "set_id": "store rlx",
+        "seat_at_hand": "load rlx", "ww_set_at_hand": "store rlx",
     },
-    "rests": {"ww_crowd_open": "store rlx", "ww_has_waited": "load rlx", "end_crowd": "store rlx"},
+    "is_crowded": {"is_crowded": "load rlx", "set_crowded": "store rlx"},
+    "quiet_until": {"ww_reset_crowd": "store rlx", "ww_note_wait": "load rlx", "end_crowd": "store rlx"},
     # Hints for who stays awake, for a while at most.
     "awaits": {
         "begin_wait": "store rlx", "end_wait": "store rlx", "is_in_cycle": "load rlx",
     },
-    # Written under the crowd's lock, and a word for the futex to look at.
-    "calls": {"call": "fetch_add rlx", "wait_for_permit": "load rlx"},
-    # A count for the gate.
-    "begun": {"begin_crowd": "store rlx", "is_of_use": "load rlx", "ww_await_permit": "fetch_add rlx"},
-    "awaited": {"ww_crowd_open": "store rlx", "ww_class_stats": "load rlx"},
-    # Whoever frees a class at 0 sees the seats, in use, of those that waited for a permit.
-    "waiting": {"wait_for_permit": "add_fetch rlx", "ww_has_begun": "sub_fetch rel", "permit_seekers": "load acq"},
-    # To all threads but the one that it names, or named, it is the same. Who may be the next keeper is a glance before the lock.
-    "keeper": {"give_seat": "load rlx", "let_go": "store rlx", "keep": "store rlx"},
-    # How many seats are kept, a hint; whoever sees that it didn't change between two passes saw in both that the same were.
-    "kept": {"keeps_more": "store rlx", "any_seat": "load rlx", "has_processors": "load rlx", "is_short_of_processors": "load rlx", "report_leak": "load rlx"},
-    "changed": {"keeps_more": "fetch_add sc", "ww_claim_from": "load sc"},
-    # Written before others see the class; whoever serves late finds nobody in the queue, or somebody who saw that.
-    "id": {"set_id": "store rlx", "ww_serve": "load rlx"},
+    # Counts for limiters.
+    "given": {"return_otherwise": "store rlx", "given": "load rlx"},
+    "begun": {"begin_crowd": "store rlx", "look_whether_of_use": "load rlx", "ww_await_permit": "fetch_add rlx"},
+    # How many threads there are, a hint.
+    "ww_threads": {"ww_take_own": "load rlx", "set_threads": "store rlx", "has_processors": "load rlx"},
+    # Written before others see the class; whoever serves late finds nobody in the queue, or somebody who saw that. Of seats: a hint
+    # of where a thread looks first.
+    "id": {
+        "make_pool": "store rlx", "ww_serve": "load rlx", "claim_last": "load rlx", "note_last": "load rlx", "ww_claim_any": "load rlx",
+        "ww_set_at_hand": "store rlx",
+    },
     # Whoever gives a seat looks for seekers then; a seeker has said so before it looks for a seat.
-    "seekers": {"has_seekers": "load sc", "take_out": "fetch_sub sc", "ww_queue_up": "fetch_add sc", "ww_debug_seen": "load rlx, load rlx", "ww_class_stats": "load rlx, load rlx"},
-    # When to look at a gate next, which is asked again under its lock.
+    "seekers": {"has_seekers": "load sc", "take_out": "fetch_sub sc", "ww_queue_up": "fetch_add sc", "ww_class_stats": "load rlx, load rlx"},
+    # When to look at a limiter next, which is asked again under its lock.
     "due": {
-        "ww_crowd_open": "store rlx", "look_at_crowd": "store rlx", "goes_on": "load rlx", "open_seats_of": "store rlx", "look_at_gate": "store rlx",
+        "look_at_crowd": "store rlx", "goes_on": "load rlx", "ww_reset_crowd": "store rlx", "open_seats_of": "store rlx", "look_at_limiter": "store rlx",
         "look_if_due": "load rlx",
     },
     # Changed under the lock of numbers; whoever frees a class at 0 sees all that those wrote who had one.
-    "taken": {"takes": "fetch_add rlx", "ww_give_number": "fetch_sub rel", "taken_numbers": "load acq", "make_desk": "fetch_sub rel"},
+    "taken": {"find_number": "fetch_add rlx", "ww_give_number": "fetch_sub rel", "taken_numbers": "load acq", "make_slot": "fetch_sub rel"},
+    # How many wait for a permit, changed under the lock of the queue but by who has entered; whoever frees the class sees who does.
+    "waiting": {"wait_for_permit": "fetch_add sc", "stop_waiting": "fetch_sub sc", "waiting_threads": "load sc"},
     # The seat that is handed over, and all that goes with it.
-    "served_": {"call_first": "store rlx", "take_out": "store rel", "ww_seek_seat": "load acq", "ww_is_served": "load acq"},
+    "calls": {"ww_call_waiting": "fetch_add rlx", "wait_for_permit": "load rlx"},
+    "served_": {"call_first": "store rlx", "take_out": "store rel", "ww_seek_seat": "load acq", "ww_poll_seat": "load acq"},
     # Counts, which order nothing; and glances of the debug library. What a waiter in its list did before is ordered by its lock.
-    "sought": {"open_seats_of": "store rlx, store rlx", "ww_class_stats": "load rlx, load rlx"},
+    "sought": {"open_seats_of": "store rlx", "ww_reset_crowd": "store rlx", "ww_class_stats": "load rlx, load rlx, load rlx"},
     "waits": {"ww_class_stats": "load rlx"},
     "back_offs": {"ww_class_stats": "load rlx"},
     # Said before a waiter is woken, which looks at it after it took its token away, or was taken out of the queue under its lock; or
     # before those that wait for a permit are called, which look at it under its lock.
     "ends_waits": {"make_pool": "store sc", "ww_ends_waits": "load sc", "ww_class_cancel": "store sc"},
-    "is_reported": {"make_pool": "store rlx", "is_stuck": "exchange rlx"},
-    "is_lock_reported": {"make_pool": "store rlx", "ww_says_if_long": "exchange rlx"},
-    "patience": {"ww_report_long_waits": "store rlx", "ww_patience": "load rlx"},
-    "served": {"is_stuck": "load rlx"},
-    "counted": {"count": "store rlx, load rlx", "tell": "fetch_add rlx"},
-    "faults": {"ww_debug_faults": "load rlx"},
-    "warnings": {"ww_debug_warnings": "load rlx"},
-    "is_polled": {
-        "user_of": "load rlx", "is_parked": "load rlx", "ww_debug_is_polled": "store rlx", "ww_debug_begun": "store rlx", "ww_debug_ended": "store rlx",
-    },
-    "is_said": {"tell_if_unseen": "exchange rlx", "trace": "exchange rlx"},
-    "reported": {"is_new": "compare_exchange rlx/rlx"},
-    "check_interval": {"ww_debug_check_interval": "store rlx", "ww_debug_waits": "load rlx", "ww_debug_sleeps": "load rlx"},
-    "stamps": {"ww_debug_begun": "add_fetch rlx"},
-    "endless_waits": {"ww_debug_waits": "add_fetch rlx"},
-    "context": {"has": "load rlx", "ww_debug_begun": "store rlx, store rlx", "ww_debug_ended": "store rlx"},
-    "refused": {"has": "load rlx", "refuse": "store rlx", "ww_debug_result": "store rlx", "ww_debug_ended": "store rlx"},
-    "stamp": {
-        "use": "load rlx", "unuse_if_free": "load rlx", "has": "load rlx", "ww_debug_begun": "store rlx", "ww_debug_ended": "store rlx",
-        "is_used": "load rlx", "ww_debug_leak": "load rlx, load rlx", "print_seat": "load rlx", "ww_debug_has_ended": "load rlx",
-    },
-    "wants": {
-        "has": "load rlx", "ww_debug_waits": "store rlx", "next_wait": "load rlx", "print_wait": "load rlx",
-        "look_for_long_wait": "load rlx", "print_seat": "load rlx", "text_of_deadlock": "load rlx",
-    },
-    "tid": {"use": "store rlx", "text_of_deadlock": "load rlx", "print_wait": "load rlx", "has_ended": "load rlx", "print_seat": "load rlx"},
-    "endless": {"ww_debug_waits": "store rlx", "deadlock": "load rlx"},
-    "held": {
-        "unuse_if_free": "load rlx", "has": "load rlx", "ww_debug_begun": "store rlx",
-        "ww_debug_acquired": "store rlx, load rlx", "ww_debug_released": "store rlx, load rlx",
-    },
-    "file": {"place_of": "load rlx", "set_place": "store rlx"},
-    "line": {"place_of": "load rlx", "set_place": "store rlx"},
-    "seat": {
-        "ww_debug_acquired": "store rlx", "ww_debug_released": "load rlx, store rlx", "look_for_long_wait": "load rlx",
-        "ww_debug_seen": "load rlx", "why_unheld": "load rlx", "ww_debug_is_stale": "load rlx",
-    },
-    "thread": {
-        "use": "store rlx", "unuse_if_free": "store rlx", "has": "load rlx, load rlx", "ww_debug_ended": "store rlx",
-        "ww_debug_acquired": "store rlx", "ww_debug_released": "load rlx, store rlx", "next_wait": "load rlx", "is_used": "load rlx", "has_ended": "load rlx", "print_seat": "load rlx",
-    },
+    # The debug library's, which are glances all; and what it takes only once, or counts.
+    "word": {"READ_ONCE": "load rlx", "WRITE_ONCE": "store rlx"},
+    "is_leak_reported": {"is_stuck": "exchange rlx"},
+    "is_said": {"trace": "exchange rlx"},
+    "faults": {"ww_fault": "fetch_add rlx"},
+    "seen": {"ww_times": "compare_exchange rlx/rlx"},
+    "times": {"ww_times": "add_fetch rlx"},
+    "warnings": {"ww_warn": "fetch_add rlx"},
+    "stamps": {"ww_watch_begin": "add_fetch rlx"},
+    "endless_waits": {"ww_wait_begins": "add_fetch rlx"},
+    # Said before others use the library: what the function needs comes before it.
+    "reports_to": {"ww_report_to": "store rel", "ww_report_message": "load acq"},
+    "reports_data": {"ww_report_to": "store rlx", "ww_report_message": "load rlx"},
+    "counted": {"count": "store rlx, load rlx"},
 }
 
 
@@ -452,70 +428,59 @@ TABLE = {
 LOCKS = {
     "opening": ("pthread_mutex_lock(&ww_opening)", "pening is locked"),
     "queue": ("pthread_mutex_lock(&p->queue)", "queue is locked"),
-    "numbers": ("pthread_mutex_lock(&p->numbers)", "numbers are locked"),
-    "crowd": ("pthread_mutex_lock(&crowd->lock)", "rowd is locked"),
+    "numbers": ("pthread_mutex_lock(&n->lock)", "numbers are locked"),
+    "slots": ("pthread_mutex_lock(&p->numbers.lock)", "slots are locked"),
 }
 PLAIN = {
     # Said before the class is opened first, which the caller orders.
     "c->mutexes": "by: ww_class_limit",
     "c->contexts": "by: ww_class_limit",
     "c->pool": "opening: ",
-    "p->next": "opening: in_child keep_memory memory_of_pool",
-    # Before others see the class; then under the lock.
-    "p->kept": "opening: make_pool",
+    "p->next": "opening: keep_memory",
+    # Before others see the class; then under the lock, which a forked child has.
     # Of seekers; memory_of_pool has empty queues. One that was served, by another or by itself, reads its own.
     "of->first": "queue: ",
-    "of->end": "queue: ",
-    "threads->end": "by: memory_of_pool",
-    "tasks->end": "by: memory_of_pool",
-    "me->seat_": "queue: seek seek_on ww_seek_seat",
+    "of->end": "queue: memory_of_pool",
+    "me->seat_": "queue: seek ww_free_seat ww_seek_seat",
     "me->served_": "queue: ww_seek_seat",
-    "me->waker_": "queue: ",
+    "me->waker_": "queue: ww_seek_seat",
     "it->seat_": "queue: ",
     "it->served_": "queue: ",
-    "of->due": "queue: ",
+    # In a forked child nobody else is there.
+    "of->due": "queue: in_child",
+    "of->seekers": "queue: in_child",
     "of->called": "queue: ",
-    "of->looks": "queue: ",
-    "of->gate": "queue: ",
-    "of->begun": "queue: ",
-    "of->sum": "queue: ",
-    "of->limit": "queue: ",
-    "tasks->limit": "by: open_seats_of",
-    "threads->limit": "by: open_seats_of",
-    "tasks->sum": "by: open_seats_of",
+    "of->limiter": "queue: ",
+    "of->open": "queue: ",
+    "tasks->open": "by: open_seats_of",
+    "threads->open": "by: open_seats_of",
     "tasks->called": "by: open_seats_of",
     # By the user of a seat, or under the lock by who hands it over.
-    "s->lent": "by: ww_hands_over",
+    "s->lease": "by: ww_hands_over",
+    "s->given": "by: ",
     "it->waker_": "queue: ",
     "waker_->wake": "queue: ",
     # Before others see the class; and a seek's before it is in the queue.
-    "of->pool": "by: ",
-    "threads->pool": "by: memory_of_pool",
-    "tasks->pool": "by: memory_of_pool",
+    "of->pool": "by: memory_of_pool",
     "of->seats": "by: ",
     "threads->seats": "by: fill_seats",
     "tasks->seats": "by: fill_seats",
     "of->count": "by: ",
     "threads->count": "by: open_seats_of",
     "tasks->count": "by: open_seats_of",
-    "me->of_": "by: ",
     "of_->pool": "by: ",
     "pool->id": "by: ",
     "pool->gone": "by: ",
     # Of a crowd. Before others see the class; in a forked child nobody else is there.
-    "crowd->waiting": "crowd: in_child",
-    "crowd->permits": "crowd: ww_crowd_open",
-    "crowd->rest": "crowd: ww_crowd_open",
-    "crowd->gate": "crowd: ",
-    "gate->kept": "crowd: ",
-    "crowd->came": "crowd: ww_crowd_open",
-    "crowd->went": "crowd: ww_crowd_open",
-    "crowd->since": "crowd: ",
-    "crowd->held": "crowd: ",
-    "crowd->waited": "crowd: ",
-    "crowd->awaited": "crowd: ",
-    "it->seat": "crowd: is_over",
-    "it->ends": "crowd: is_over",
+    "crowd->quiet_until": "by: in_child",
+    "crowd->permits": "queue: ww_reset_crowd",
+    "crowd->quiet": "queue: ww_reset_crowd",
+    "crowd->since": "queue: ",
+    "crowd->sought": "queue: ",
+    "crowd->held": "queue: ",
+    "crowd->waited": "queue: ",
+    "it->seat": "queue: is_over",
+    "it->ends": "queue: is_over",
     "it->next": "by: ww_event_wake",
     # Before others see the class, by its pool.
     "p->seats": "by: make_pool",
@@ -525,14 +490,13 @@ PLAIN = {
     "s->of": "by: fill_seats",
     # Whoever has a seat of the class reads `id`, so it isn't freed.
     "p->id": "by: ",
-    "of->id": "by: ",
-    "threads->id": "by: set_id",
-    "tasks->id": "by: set_id",
-    "p->copy": "by: make_pool",
-    "p->may_keep": "by: make_pool",
-    "s->keeper": "by: fill_seats",
+    "tasks->id": "by: in_child make_pool",
+    "p->copy": "by: memory_of_pool",
+    "p->own_seats": "by: make_pool",
+    "p->is_crowded": "by: in_child",
+    "p->before_own": "by: fill_seats",
     "s->busy": "by: fill_seats",
-    "p->mutexes": "by: ww_open_numbers",
+    "n->mutexes": "by: ww_open_numbers",
     "p->gone": "by: in_child",
     "p->numbered": "by: free_pool",
     # By whoever holds the mutex, which its lock orders, or makes or destroys it.
@@ -543,34 +507,31 @@ PLAIN = {
     "m->pool": "by: ",
     "m->number": "by: ww_number_take",
     "mutex_->number": "by: ",
-    # Of a desk: before others see it, by its list; and what only who has it accesses.
-    "mutex->pool": "by: make_desk",
-    "mutex->waiters": "by: make_desk",
+    # Of a slot: before others see it, by its list; and what only who has it accesses.
     "mutex->number": "by: ",
-    "d->seat": "by: make_desk",
-    "d->next": "by: make_desk",
-    "d->bit": "by: make_desk",
-    "d->soiled": "by: mark unmark wipe",
-    "d->reads": "by: ",
-    "desk->reads": "by: ",
+    "slot->seat": "by: ",
+    "slot->next": "by: make_slot",
+    "slot->bit": "by: make_slot",
+    "slot->reads": "by: ",
     # Before others see the mutex.
     "m->readers_": "by: ww_shared_mutex_init ww_shared_mutex_init_checked",
-    "p->made": "numbers: free_desks",
-    "p->desks": "numbers: free_desks",
-    "s->desk": "by: make_desk",
+    "n->of_slots": "numbers: ww_open_numbers",
+    "numbers->of_slots": "slots: ",
+    "p->slots": "slots: free_slots",
+    "s->slot": "by: make_slot",
     "x->own": "by: ",
     # By the context's own thread, and of a class before others see it, or in a forked child.
-    "x->pool": "by: begin_core close_or_open draw_age_by_hand may_be_older no_more of_seat",
+    "x->pool": "by: ww_become begin_core draw_age_by_hand let_be_older no_more of_seat",
     # By the user of a seat, and by its keeper, or whoever frees the class, once nobody uses it: all that goes with `busy`.
-    "s->ages": "by: has_met may_be_older stop_rest unlock_alone_on ww_acquire_fini ww_acquire_fini_checked",
-    "p->low": "numbers: ww_open_numbers",
-    "p->taken": "numbers: ",
-    "p->left": "numbers: make_pool",
-    "p->used": "numbers: keep_memory line_from make_pool used_of",
-    "p->lies_at": "by: make_pool",
+    "s->ages": "by: note_meeting leave_age share_age stop_rest unlock_alone_on ww_acquire_fini_checked",
+    "n->low": "numbers: ww_open_numbers",
+    "n->taken": "numbers: ",
+    "n->left": "numbers: ww_open_numbers",
+    "n->used": "numbers: line_from used_of ww_close_numbers ww_open_numbers",
+    "n->lies_at": "by: ww_open_numbers",
 }
-# What a thread has for itself, under names of fields that others share; and names under which others stand for the same.
-OWN = ["permit", "had", "wait", "waker", "front", "f", "ww_mine", "kept", "counts", "s->seat", "s->id", "last"]
+# What a thread has for itself, or its caller locks, under names of fields that others share; and names under which others stand for the same.
+OWN = ["limiter", "permit", "had", "wait", "waker", "front", "f", "ww_mine", "kept", "counts", "s->seat", "s->id", "last"]
 SAME = {"lock": "m", "owed": "m", "older": "m", "ctx": "x", "victim": "s", "by": "s", "own": "s", "seat": "s", "seats": "s"}
 
 
@@ -605,8 +566,8 @@ def functions(text):
 
 
 def functions_of(folder, sources):
-    for source in sources:
-        with open(os.path.join(folder, source), encoding="utf-8") as file:
+    for source in (it for pattern in sources for it in sorted(glob.glob(os.path.join(folder, pattern)))):
+        with open(source, encoding="utf-8") as file:
             yield from functions(file.read())
 
 
@@ -642,7 +603,7 @@ def is_under(lock, code, above):
 def uncovered(folder):
     """Plain accesses of what PLAIN has that it doesn't cover, what it says and isn't so, and shared fields that it lacks."""
     seen, lacking = {}, {}
-    for name, code, above in functions_of(folder, [it for it in SOURCES if not it.startswith("ww_debug")]):
+    for name, code, above in functions_of(folder, OF_BOTH):
         for field, writes in plain_accesses(code):
             lock, _, others = PLAIN.get(field, "").partition(": ")
             if lock in LOCKS and not is_under(lock, code, above) or lock == "by" and writes:
@@ -672,7 +633,7 @@ def differences(folder):
 def shared_words(folder):
     """What several threads write, by the sources: by __atomic_* or count(), or under a lock; but not of the debug library."""
     seen = set()
-    for _, code, _ in functions_of(folder, [it for it in SOURCES if not it.startswith("ww_debug")]):
+    for _, code, _ in functions_of(folder, OF_BOTH):
         for call in re.finditer(r"__atomic_(?!load|signal_fence)\w+\(", code):
             seen.add(field_of(arguments(code[call.end() :])[0]))
         seen |= set(re.findall(r"\bcount\(&\w+->(\w+)\)", code))
@@ -682,24 +643,24 @@ def shared_words(folder):
 
 
 def untold(folder):
-    """Of the table at the head of ww_class.h: what it lacks, has besides, or names that isn't there."""
-    with open(os.path.join(folder, "ww_class.h"), encoding="utf-8") as file:
+    """Of the table at the head of class.h: what it lacks, has besides, or names that isn't there."""
+    with open(os.path.join(folder, "admit/class.h"), encoding="utf-8") as file:
         rows = [re.split(r"\t+", line[3:].rstrip()) for line in file.read().partition("*/")[0].split("\n") if line.startswith(" *\t")]
     programs = set()
     for name in ("programs", "shared"):
-        with open(os.path.join(folder, f"tests/interleave/{name}.c"), encoding="utf-8") as file:
+        with open(os.path.join(folder, f"tests/search/{name}.c"), encoding="utf-8") as file:
             programs |= set(re.findall(r'^\t\{ "([\w-]+)", \{', file.read(), re.MULTILINE))
     due, told = shared_words(folder), {word for row in rows[1:] for word in row[0].split()}
     for word in sorted(due ^ told):
-        yield f"{word} is {'not' if word in due else 'without need'} in the table of ww_class.h"
+        yield f"{word} is {'not' if word in due else 'without need'} in the table of class.h"
     for row in rows[1:]:
-        if len(row) != 4 or row[3] not in programs and not os.path.exists(os.path.join(folder, "tests", f"{row[3]}.c")):
-            yield f"the table of ww_class.h names no program for {row[0]}"
+        if len(row) != 4 or row[3] not in programs and not glob.glob(os.path.join(folder, "tests/*", f"{row[3]}.c")):
+            yield f"the table of class.h names no program for {row[0]}"
 
 
 def unshaken(folder):
     """Of the sources' atomic accesses the kinds before which shake.h has no pause."""
-    code = " ".join(it for _, it, _ in functions_of(folder, [it for it in os.listdir(folder) if it.endswith((".c", ".h"))]))
+    code = " ".join(it for _, it, _ in functions_of(folder, [*SOURCES, "core/*.c"]))
     with open(os.path.join(folder, "tests/shake.h"), encoding="utf-8") as file:
         paused = re.findall(r"^#define (__\w+)\(\.\.\.\) \(shake\(\), \1\(__VA_ARGS__\)\)$", file.read(), re.MULTILINE)
     for kind in sorted(set(re.findall(r"\b__(?:atomic|sync)_\w+(?=\()", code)) - {*paused}):
@@ -841,8 +802,8 @@ def token(looks):
     )
 
 
-def unkept(give, claim):
-    """A seat that nobody keeps goes from one user to the next, with what the first one wrote in it."""
+def anybodys(give, claim):
+    """A seat that anybody may use goes from one user to the next, with what the first one wrote in it."""
     return (
         [[W("handle", 1), W("busy", 0, give)], [X("t", "busy", put(1), claim), IF("t", 0, R("h", "handle"))]],
         lambda r, f: r[1].get("h") == 0,
@@ -850,29 +811,15 @@ def unkept(give, claim):
     )
 
 
-def kept(ends, looks):
-    """Another thread ends a context on a kept seat, which its keeper uses next."""
+def own(ends, looks):
+    """Another thread ends a context on a thread's own seat, which that thread uses next."""
     return (
         [
-            [W("handle", 1), X("b", "busy", put(0), ends)],
+            [W("handle", 1), W("busy", 0, ends)],
             [R("b", "busy", looks), IF("b", 0, W("busy", 1, "rlx"), R("h", "handle"))],
         ],
         lambda r, f: r[1].get("h") == 0,
         {"busy": 1},
-    )
-
-
-def let_go(ends, leaves):
-    """The user clears BUSY (1) and the keeper IS_KEPT (2), each by an exchange. Bad: neither clears the second bit, or both; or
-    who does doesn't see what the other wrote."""
-    clear = lambda bit: lambda old: old - bit if old & bit else None
-    return (
-        [
-            [W("handle", 1), X("b", "busy", clear(1), ends), IF("b", 1, R("k", "keeper"))],
-            [W("keeper", 1), X("b", "busy", clear(2), leaves), IF("b", 2, R("h", "handle"))],
-        ],
-        lambda r, f: (r[0]["b"] == 1) == (r[1]["b"] == 2) or r[0].get("k") == 0 or r[1].get("h") == 0,
-        {"busy": 3},
     )
 
 
@@ -906,7 +853,7 @@ def share(marks, looks, finds):
 
 
 def shared_bit(looks, looks_again):
-    """A reader whose bit is cleared and set again by another desk's reader, beside two writes; free are 0 and 2."""
+    """A reader whose bit is cleared and set again by another slot's reader, beside two writes; free are 0 and 2."""
     last = [R("k", "lock", "sc"), IF("k", 2, R("d", "data"))] if looks_again else [R("d", "data")]
     return (
         [
@@ -921,7 +868,7 @@ def shared_bit(looks, looks_again):
 
 
 def own_bit(sets, looks):
-    """A reader sets its bit, which no other desk has; against a writer that looks for bits."""
+    """A reader sets its bit, which no other slot has; against a writer that looks for bits."""
     reads = IF("k", 0, R("d", "data"))
     return (
         [
@@ -933,12 +880,12 @@ def own_bit(sets, looks):
     )
 
 
-def new_desk(lists, looks):
-    """A reader by a desk that has just been made, of which the bit was set before; against a writer that looks for desks."""
+def new_slot(lists, looks):
+    """A reader by a slot that has just been made, of which the bit was set before; against a writer that looks for slots."""
     return (
         [
-            [W("number", 5), W("desks", 1, lists), X("m", "mark", put(1), "sc"), R("l", "lock", "sc"), IF("l", 0, R("d", "data"))],
-            [X("l", "lock", swap(0, 1), "sc"), R("k", "desks", looks),
+            [W("number", 5), W("slots", 1, lists), X("m", "mark", put(1), "sc"), R("l", "lock", "sc"), IF("l", 0, R("d", "data"))],
+            [X("l", "lock", swap(0, 1), "sc"), R("k", "slots", looks),
              IF("k", 0, W("data", 1)), IF("k", 1, R("n", "number"), R("m", "mark", "sc"), IF("m", 0, W("data", 1)))],
         ],
         lambda r, f: r[0]["l"] == 0 and f["data"] == 1 or r[1].get("n") == 0,
@@ -955,20 +902,20 @@ def handed(looks):
 
 
 def taken_back(takes):
-    """Whoever has a desk next wipes its mark, sets another one in that word (2), and takes it back; as below."""
+    """Whoever has a slot next wipes its mark, sets another one in that word (2), and takes it back; as below."""
     return (
         [
-            [R("d", "data"), X("u", "desk", put(0), "sc")],
-            [X("k", "desk", swap(0, 2), "sc"), IF("k", 0, W("mark", 0, "rel"), X("t", "mark", put(2), "sc"), W("mark", 0, takes))],
+            [R("d", "data"), X("u", "slot", put(0), "sc")],
+            [X("k", "slot", swap(0, 2), "sc"), IF("k", 0, W("mark", 0, "rel"), X("t", "mark", put(2), "sc"), W("mark", 0, takes))],
             [R("m", "mark", "sc"), IF("m", 0, W("data", 1)), IF("m", 2, W("data", 1))],
         ],
         lambda r, f: r[0]["d"] == 1,
-        {"desk": 1, "mark": 1},
+        {"slot": 1, "mark": 1},
     )
 
 
 def counted(counts, looks):
-    """A desk with a mark from before gets a read; who sees that, and the mark, takes it for one."""
+    """A slot with a mark from before gets a read; who sees that, and the mark, takes it for one."""
     return (
         [[W("mark", 0, "rel"), W("reads", 1, counts)], [R("n", "reads", looks), R("m", "mark", "acq")]],
         lambda r, f: r[1]["n"] == 1 and r[1]["m"] == 1,
@@ -977,15 +924,15 @@ def counted(counts, looks):
 
 
 def wiped(wipes):
-    """A mark is wiped by whoever has the desk next, and a writer that doesn't find it writes what was read."""
+    """A mark is wiped by whoever has the slot next, and a writer that doesn't find it writes what was read."""
     return (
         [
-            [R("d", "data"), X("u", "desk", put(0), "sc")],
-            [X("k", "desk", swap(0, 2), "sc"), IF("k", 0, W("mark", 0, wipes))],
+            [R("d", "data"), X("u", "slot", put(0), "sc")],
+            [X("k", "slot", swap(0, 2), "sc"), IF("k", 0, W("mark", 0, wipes))],
             [R("m", "mark", "sc"), IF("m", 0, W("data", 1))],
         ],
         lambda r, f: r[0]["d"] == 1,
-        {"desk": 1, "mark": 1},
+        {"slot": 1, "mark": 1},
     )
 
 
@@ -997,10 +944,9 @@ def wrong():
     yield "an unlock reads the number behind the release", destroy(True, True)
     yield "the state is looked at relaxed behind a token", token("rlx")
     yield "a seat is given by a release", seek("rel", "sc", "sc", "sc")
-    yield "a seat that nobody keeps is given relaxed", unkept("rlx", "sc")
-    yield "a kept seat is given relaxed", kept("rlx", "acq")
-    yield "a keeper looks relaxed", kept("ar", "rlx")
-    yield "whoever comes second acquires nothing", let_go("rel", "rel")
+    yield "a seat that anybody may use is given relaxed", anybodys("rlx", "sc")
+    yield "an own seat is given relaxed", own("rlx", "acq")
+    yield "a thread looks relaxed at its own seat", own("rel", "rlx")
     yield "a number is put back relaxed", given("rlx")
     yield "whoever stood in the line says relaxed that it begins", waited("rlx")
     yield "a reader marks by a release", share("rel", "sc", "sc")
@@ -1011,8 +957,8 @@ def wrong():
     yield "a reader looks at its bit by an acquire", shared_bit("acq", True)
     yield "a reader sets its bit by a release", own_bit("rel", "sc")
     yield "a writer looks for bits by an acquire", own_bit("sc", "acq")
-    yield "a desk is listed by a release", new_desk("rel", "sc")
-    yield "a writer looks for desks by an acquire", new_desk("sc", "acq")
+    yield "a slot is listed by a release", new_slot("rel", "sc")
+    yield "a writer looks for slots by an acquire", new_slot("sc", "acq")
     yield "a reader finds relaxed that the mutex is free again", handed("rlx")
     yield "a mark is taken back relaxed", taken_back("rlx")
     yield "a read is counted relaxed", counted("rlx", "acq")
@@ -1022,23 +968,26 @@ def wrong():
 def ours():
     """What the sources do, by the orders of the table. No execution may end so, nor have a race."""
     yield "a seat is given, and sought", *seek("sc", "sc", "sc", "sc")
-    yield "a seat that nobody keeps goes from user to user", *unkept("sc", "sc")
-    yield "a seat that nobody keeps goes from user to user, over a third", [
+    yield "a seat that anybody may use goes from user to user", *anybodys("sc", "sc")
+    yield "a seat that anybody may use goes from user to user, over a third", [
         [W("handle", 1), W("busy", 0, "sc")],
         [X("t", "busy", put(1), "sc"), IF("t", 0, W("busy", 0, "sc"))],
         [X("t", "busy", put(2), "sc"), IF("t", 0, R("h", "handle"))],
     ], lambda r, f: r[1]["t"] == 0 and r[2]["t"] == 0 and f["busy"] == 2 and r[2].get("h") == 0, {"busy": 1}
-    yield "a seat that nobody keeps is claimed for whoever waits", [
+    yield "a seat that anybody may use is claimed for whoever waits", [
         [W("handle", 1), W("busy", 0, "sc")],
         [X("t", "busy", put(1), "sc"), IF("t", 0, W("seat", 1), W("served", 1, "rel"))],
         [R("s", "served", "acq"), IF("s", 1, R("q", "seat"), R("h", "handle"))],
     ], lambda r, f: r[2].get("q") == 0 or r[2].get("h") == 0, {"busy": 1}
-    yield "a kept seat whose context ended elsewhere is its keeper's again", *kept("ar", "acq")
-    yield "a kept seat whose context its keeper ended is its keeper's again, once another one's ended", [
-        [W("handle", 1), X("b", "busy", put(0), "ar")],
+    yield "an own seat whose context ended elsewhere is its thread's again", *own("rel", "acq")
+    yield "an own seat whose context its thread ended is that thread's again, once another one's ended", [
+        [W("handle", 1), W("busy", 0, "rel")],
         [R("b", "busy", "acq"), IF("b", 0, W("handle", 2), W("busy", 1, "rlx"), W("busy", 0, "rel"), R("h", "handle"))],
     ], lambda r, f: r[1].get("h") == 1, {"busy": 1}
-    yield "a kept seat is free once both are through, by whoever comes second", *let_go("sc", "ar")
+    yield "an own seat of a thread that ended is the next one's", [
+        [W("handle", 1), W("busy", 0, "rel"), X("l", "opening", put(0), "ar")],
+        [X("l", "opening", swap(0, 2), "ar"), IF("l", 0, R("b", "busy", "acq"), IF("b", 0, W("busy", 1, "rlx"), R("h", "handle")))],
+    ], lambda r, f: r[1].get("b") == 1 or r[1].get("h") == 0, {"busy": 1, "opening": 1}
     yield "a class is freed once its seats aren't busy", [
         [W("handle", 1), W("busy", 0, "rel")],
         [X("t", "other", put(0), "ar"), W("there", 2)],
@@ -1103,7 +1052,7 @@ def ours():
     yield "a mark is wiped", *wiped("rel")
     yield "a reader whose bit another one sets", *shared_bit("sc", True)
     yield "a reader that sets its bit", *own_bit("sc", "sc")
-    yield "a reader by a new desk, of which the bit was set before", *new_desk("sc", "sc")
+    yield "a reader by a new slot, of which the bit was set before", *new_slot("sc", "sc")
     yield "a reader that comes after a write", *handed("sc")
     yield "a mark is wiped, and another one taken back", *taken_back("rel")
     yield "a read, and whoever destroys the mutex", *counted("rel", "acq")

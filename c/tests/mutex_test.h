@@ -2,7 +2,7 @@
 #ifndef MUTEX_TEST_H
 #define MUTEX_TEST_H
 #include "test.h"
-#include "../ww_mutex.h"
+#include "ww_mutex.h"
 #include <string.h>
 #include <unistd.h>
 

@@ -2,7 +2,7 @@
 #ifndef TEST_H
 #define TEST_H
 #define _GNU_SOURCE
-#include "../ww_inside.h"
+#include "../base/inside.h"
 #include <errno.h>
 #include <pthread.h>
 #include <sched.h>

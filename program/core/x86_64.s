@@ -1,7 +1,7 @@
 /*
  * The proved program on x86_64, as the kit's compiler (LLVM) makes it.  Written by ./build --assembly.
  *
- * sources: 0753be69988a07512d3f3b978acb6916c3123b859685d4d2b776ee9ce4d09f0d
+ * sources: e17a2e69622a8107d6b2ec9026cba623baaa45ff418632a0b8da2f6f1a040583
  * kit:     rattle-kit-13f logic dac8208d650f15bf
  * proof:   logic=proved functions=69 axioms=6 target=x86_64-unknown-linux-gnu threads=_exit,abort,free,malloc,pthread_attr_destroy,pthread_attr_init,pthread_attr_setguardsize,pthread_attr_setstacksize,pthread_create,pthread_detach,pthread_join,pthread_self,sched_yield,syscall main=Threads+Wait may-wait=7 sum=dac8208d650f15bf
  */

@@ -10,7 +10,7 @@ fn main() {
         assert!(Command::new(&tool).args(words).status().unwrap().success(), "{tool}");
     };
     let (object, archive) = (format!("{out}/engines.o"), format!("{out}/libengines.a"));
-    let flags = ["-std=gnu11", "-O2", "-Wall", "-Wextra", "-fPIC", "-I../../c"];
+    let flags = ["-std=gnu11", "-O2", "-Wall", "-Wextra", "-fPIC", "-I../../c/include"];
     run("CC", "cc", &[&flags[..], &["-c", "engines.c", "-o", &object]].concat());
     run("AR", "ar", &["crs", &archive, &object]);
     println!("cargo:rustc-link-search=native={out}");

@@ -46,8 +46,8 @@ pub trait Class: Sized + 'static {
     /// # Ok::<(), Error>(())
     /// ```
     ///
-    /// If all contexts of the class are in use (1,024, unless [`class!`](crate::class!) says another number), it waits
-    /// for one first; no deadlock is detected that involves this wait.
+    /// If all contexts of the class are in use (1,024 besides the thread's own, unless [`class!`](crate::class!) says
+    /// another number), it waits for one first; no deadlock is detected that involves this wait.
     ///
     /// # Errors
     ///
@@ -56,7 +56,7 @@ pub trait Class: Sized + 'static {
     ///
     /// # Panics
     ///
-    /// In a forked child, if the class was opened before the fork.
+    /// In a forked child, if the class was in use at the fork.
     #[inline]
     #[track_caller]
     fn run<R>(body: impl FnMut(&Tx<Self>) -> Result<R, Error>) -> Result<R, Error> {
@@ -181,7 +181,7 @@ pub trait Class: Sized + 'static {
     ///
     /// # Panics
     ///
-    /// In a forked child, if the class was opened before the fork.
+    /// In a forked child, if the class was in use at the fork.
     #[track_caller]
     fn cancel() -> Result<(), Error> {
         Self::raw().cancel()
@@ -226,8 +226,8 @@ pub trait Class: Sized + 'static {
         Self::raw().hooked.set(hook);
     }
 
-    /// Allocates the class's memory now, and not at its first use: 52 bytes for each mutex that it may have, and 0.8 to
-    /// 1.3 KiB for each context.
+    /// Allocates the class's memory now, and not at its first use: some 70 bytes for each mutex that it may have, and 0.8
+    /// to 1.3 KiB for each context.
     ///
     /// # Errors
     ///
@@ -247,7 +247,7 @@ pub struct Counts {
     pub lock_waits: u64,
     /// Waits for a context of the class.
     pub context_waits: u64,
-    /// Waits for a permit, when far more threads than processors sleep.
+    /// Waits for a permit, which contexts need while threads often wait for mutexes of the class.
     pub permit_waits: u64,
     /// Contexts that are in use now.
     pub contexts: u64,
@@ -377,6 +377,12 @@ impl RawClass {
             0 => Ok(Number::new(tag, index)),
             answer => Err(error::of_making(answer)),
         }
+    }
+
+    /// The library's mutex of a number of this class, or null, if it has none.
+    pub(crate) fn at(&'static self, number: Number) -> *mut ffi::ww_mutex {
+        // SAFETY: the class is static.
+        unsafe { ffi::ww_number_at(number.index(), self.get()) }
     }
 
     /// Puts back the number of a mutex that was dropped; the library waits until no context holds it or reads it. A context

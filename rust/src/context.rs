@@ -251,7 +251,7 @@ impl Context {
             return Ok(());
         }
         // SAFETY: as above; the time lives for the call.
-        let lock = |until| unsafe { ffi::ww_number_lock_until(number.index(), self.raw(), until) };
+        let lock = |until| unsafe { ffi::ww_mutex_lock_until(self.class.at(number), self.raw(), until) };
         match self.ask(Some((number, true)), lock) {
             0 => Ok(()),
             answer => self.lock_refused(number, answer),
@@ -351,13 +351,13 @@ impl Context {
     pub(crate) fn holds<C: Class, T: ?Sized>(&self, mutex: &Mutex<C, T>) -> bool {
         let Some(number) = mutex.existing().filter(|number| number.tag() == self.class.tag()) else { return false };
         // SAFETY: as in `lock_with`.
-        let has = unsafe { ffi::ww_number_is_held(number.index(), self.raw()) };
+        let has = unsafe { ffi::ww_shared_mutex_is_written_by(self.class.at(number), self.raw()) };
         has && !self.rare().is_some_and(|rare| rare.comes_first(number))
     }
 
     fn reads(&self, number: Number) -> bool {
         // SAFETY: as in `lock_with`.
-        unsafe { ffi::ww_number_is_read(number.index(), self.raw()) }
+        unsafe { ffi::ww_shared_mutex_is_read_by(self.class.at(number), self.raw()) }
     }
 
     /// Hands out what the context holds since its back-off, if it is this mutex.
@@ -414,13 +414,21 @@ impl Context {
             return Err(Error::Deadlock);
         }
         // SAFETY: as in `lock_rarely`.
-        let answer = self.ask(Some((number, writes)), |until| unsafe {
+        let call = |until| unsafe {
             if writes {
-                ffi::ww_number_lock_exclusive(number.index(), self.raw(), until)
+                ffi::ww_shared_mutex_lock_until(self.class.at(number), self.raw(), until)
             } else {
-                ffi::ww_number_lock_shared(number.index(), self.raw(), until)
+                ffi::ww_shared_mutex_lock_shared_until(self.class.at(number), self.raw(), until)
             }
-        });
+        };
+        let mut answer = self.ask(Some((number, writes)), call);
+        // The mutex that came first may be gone, and its number be this one's, or that of what the library reads by.
+        let first = self.rare().filter(|_| answer == -ffi::EALREADY).and_then(|rare| rare.prelocked.take());
+        if let Some(first) = first {
+            // SAFETY: the context holds it, without a guard.
+            unsafe { ffi::unlock(first.index(), self.raw()) };
+            answer = self.ask(Some((number, writes)), call);
+        }
         match answer {
             0 => Ok(()),
             _ => Err(self.refused(answer)),

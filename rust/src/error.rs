@@ -65,5 +65,5 @@ pub(crate) fn of_making(answer: c_int) -> Error {
 #[cold]
 #[track_caller]
 pub(crate) fn in_child() -> ! {
-    panic!("the class was opened before a fork, of which this is the child")
+    panic!("the class was in use at a fork, of which this is the child: fork while no mutex is locked and no context begun")
 }

@@ -1,4 +1,4 @@
-//! The declarations of `c/ww_number.h`, `c/ww_shared.h` and `c/ww_mutex.h` that are used here. The test below compares them with what a C compiler says.
+//! The declarations of `c/include/ww_number.h`, `c/include/ww_shared.h` and `c/include/ww_mutex.h` that are used here. The test below compares them with what a C compiler says.
 
 #![allow(non_camel_case_types, reason = "the names are those of the header")]
 
@@ -7,7 +7,7 @@ use core::ffi::{c_char, c_int, c_long, c_uint, c_ulong, c_void};
 use core::ptr;
 
 /// The first number of the library's version, which changes with its binary interface.
-pub const INTERFACE: u32 = 4;
+pub const INTERFACE: u32 = 5;
 
 #[repr(C)]
 pub struct ww_pool {
@@ -63,7 +63,7 @@ pub struct ww_acquire_ctx {
     pub empty_: [*mut c_void; 2],
 }
 
-/// That of `c/ww_poll.h`.
+/// That of `c/include/ww_poll.h`.
 #[cfg(feature = "async")]
 #[repr(C)]
 #[derive(Clone, Copy)]
@@ -121,7 +121,10 @@ pub const EINPROGRESS: c_int = 115;
 
 extern "C" {
     pub fn ww_version() -> u32;
-    pub fn ww_report_long_waits(seconds: c_uint);
+    pub fn ww_report_to(
+        function: Option<unsafe extern "C" fn(data: *mut c_void, message: *const c_char)>,
+        data: *mut c_void,
+    );
 
     pub fn ww_class_open(class: *mut ww_class) -> c_int;
     pub fn ww_class_cancel(class: *mut ww_class) -> c_int;
@@ -136,29 +139,34 @@ extern "C" {
 
     pub fn ww_number_take(number: *mut u32, class: *mut ww_class) -> c_int;
     pub fn ww_number_leave(number: u32, class: *mut ww_class);
+    /// Where that mutex of the library is, which is a shared one too, as long as the class is open.
+    pub fn ww_number_at(number: u32, class: *mut ww_class) -> *mut ww_mutex;
     fn ww_number_lock(number: u32, ctx: *mut ww_acquire_ctx) -> c_int;
-    pub fn ww_number_lock_until(number: u32, ctx: *mut ww_acquire_ctx, monotonic: *const timespec) -> c_int;
     pub fn ww_number_trylock(number: u32, ctx: *mut ww_acquire_ctx) -> c_int;
     fn ww_number_unlock(number: u32, ctx: *mut ww_acquire_ctx) -> c_int;
-    pub fn ww_number_is_held(number: u32, ctx: *const ww_acquire_ctx) -> bool;
-    pub fn ww_number_is_locked(number: u32, class: *mut ww_class) -> bool;
-    pub fn ww_number_lock_alone(
-        number: u32,
-        class: *mut ww_class,
+
+    pub fn ww_mutex_lock_until(mutex: *mut ww_mutex, ctx: *mut ww_acquire_ctx, monotonic: *const timespec) -> c_int;
+    pub fn ww_mutex_trylock(mutex: *mut ww_mutex, ctx: *mut ww_acquire_ctx) -> c_int;
+    pub fn ww_mutex_unlock(mutex: *mut ww_mutex);
+    pub fn ww_mutex_is_locked(mutex: *mut ww_mutex) -> bool;
+    pub fn ww_shared_mutex_lock_shared_until(
+        mutex: *mut ww_mutex,
+        ctx: *mut ww_acquire_ctx,
         monotonic: *const timespec,
-        by: *mut *mut ww_seat,
     ) -> c_int;
-    pub fn ww_number_trylock_alone(number: u32, class: *mut ww_class, by: *mut *mut ww_seat) -> c_int;
-    pub fn ww_number_unlock_alone(number: u32, by: *mut ww_seat);
-    pub fn ww_number_lock_shared(number: u32, ctx: *mut ww_acquire_ctx, monotonic: *const timespec) -> c_int;
-    pub fn ww_number_lock_exclusive(number: u32, ctx: *mut ww_acquire_ctx, monotonic: *const timespec) -> c_int;
-    pub fn ww_number_is_read(number: u32, ctx: *const ww_acquire_ctx) -> bool;
+    pub fn ww_shared_mutex_lock_until(
+        mutex: *mut ww_mutex,
+        ctx: *mut ww_acquire_ctx,
+        monotonic: *const timespec,
+    ) -> c_int;
+    pub fn ww_shared_mutex_is_locked(mutex: *const ww_mutex) -> bool;
+    pub fn ww_shared_mutex_is_written_by(mutex: *const ww_mutex, ctx: *const ww_acquire_ctx) -> bool;
+    pub fn ww_shared_mutex_is_read_by(mutex: *const ww_mutex, ctx: *const ww_acquire_ctx) -> bool;
     pub fn ww_shared_mutex_await(ctx: *mut ww_acquire_ctx, monotonic: *const timespec) -> c_int;
 
     // The calls of which those are made that the header compiles into its callers.
     fn ww_try_(seat: *mut ww_seat, lock: u32) -> i32;
     fn ww_unlock_(seat: *mut ww_seat, lock: u32) -> i32;
-    fn ww_number_lock_further_(number: u32, ctx: *mut ww_acquire_ctx, r: c_int) -> c_int;
     fn ww_number_unlock_further_(number: u32, ctx: *mut ww_acquire_ctx, r: c_int) -> c_int;
 
     /// Of the C library, which std links.
@@ -167,7 +175,7 @@ extern "C" {
 
 #[cfg(feature = "debug-library")]
 extern "C" {
-    pub fn ww_debug_at_(file: *const c_char, line: c_int);
+    pub fn ww_debug_line_(file: *const c_char, line: c_int);
 }
 
 #[cfg(feature = "async")]
@@ -178,9 +186,13 @@ extern "C" {
         seek: *mut ww_seek,
         waker: *const ww_waker,
     ) -> c_int;
-    pub fn ww_number_lock_poll(number: u32, ctx: *mut ww_acquire_ctx, waker: *const ww_waker) -> c_int;
-    pub fn ww_number_lock_shared_poll(number: u32, ctx: *mut ww_acquire_ctx, waker: *const ww_waker) -> c_int;
-    pub fn ww_number_lock_exclusive_poll(number: u32, ctx: *mut ww_acquire_ctx, waker: *const ww_waker) -> c_int;
+    pub fn ww_mutex_lock_poll(mutex: *mut ww_mutex, ctx: *mut ww_acquire_ctx, waker: *const ww_waker) -> c_int;
+    pub fn ww_shared_mutex_lock_shared_poll(
+        mutex: *mut ww_mutex,
+        ctx: *mut ww_acquire_ctx,
+        waker: *const ww_waker,
+    ) -> c_int;
+    pub fn ww_shared_mutex_lock_poll(mutex: *mut ww_mutex, ctx: *mut ww_acquire_ctx, waker: *const ww_waker) -> c_int;
     pub fn ww_shared_mutex_await_poll(ctx: *mut ww_acquire_ctx, waker: *const ww_waker) -> c_int;
     pub fn ww_seek_end(seek: *mut ww_seek);
     pub fn ww_acquire_end_wait(ctx: *mut ww_acquire_ctx) -> c_int;
@@ -214,12 +226,8 @@ pub unsafe fn locks_at_once(number: u32, ctx: *mut ww_acquire_ctx) -> bool {
 pub unsafe fn lock(number: u32, ctx: *mut ww_acquire_ctx) -> c_int {
     // SAFETY: as the caller promises. Only the context's own thread accesses what is read and written of it here.
     unsafe {
-        if cfg!(ww_no_inline) {
+        if cfg!(ww_no_inline) || ww_try_((*ctx).own, number) != 0 {
             return ww_number_lock(number, ctx);
-        }
-        let r = ww_try_((*ctx).own, number);
-        if r != 0 {
-            return ww_number_lock_further_(number, ctx, r);
         }
         (*ctx).acquired += 1;
     }
@@ -301,7 +309,12 @@ mod tests {
         fs::create_dir_all(&work).unwrap();
         fs::write(work.join("layouts.c"), source).unwrap();
         let compiled = Command::new(env::var("CC").unwrap_or_else(|_| "cc".into()))
-            .args(["-I", concat!(env!("CARGO_MANIFEST_DIR"), "/c"), "-I", concat!(env!("CARGO_MANIFEST_DIR"), "/../c")])
+            .args([
+                "-I",
+                concat!(env!("CARGO_MANIFEST_DIR"), "/c/include"),
+                "-I",
+                concat!(env!("CARGO_MANIFEST_DIR"), "/../c/include"),
+            ])
             .args(["layouts.c", "-o", "layouts"])
             .current_dir(&work)
             .status();

@@ -1,11 +1,11 @@
-use crate::ffi::{self, ww_acquire_ctx, ww_seat};
+use crate::ffi::{self, ww_acquire_ctx, ww_mutex};
 use crate::{Class, Mutex};
 use core::fmt;
 use core::marker::PhantomData;
 use core::ops::{Deref, DerefMut};
 use std::sync::Arc;
 
-/// The owner of a lock: the address of a context, or, without one, that of a seat in the class plus one.
+/// The owner of a lock: the address of a context, or, without one, that of the library's mutex plus one.
 #[derive(Clone, Copy)]
 pub(crate) struct Holder(*mut ww_acquire_ctx);
 
@@ -16,8 +16,8 @@ impl Holder {
     }
 
     #[inline]
-    pub(crate) fn alone(seat: *mut ww_seat) -> Self {
-        Holder(seat.cast::<ww_acquire_ctx>().wrapping_byte_add(1))
+    pub(crate) fn alone(mutex: *mut ww_mutex) -> Self {
+        Holder(mutex.cast::<ww_acquire_ctx>().wrapping_byte_add(1))
     }
 
     /// # Safety
@@ -29,7 +29,7 @@ impl Holder {
         // SAFETY: as asked for here.
         unsafe {
             if is_alone {
-                ffi::ww_number_unlock_alone(index, self.0.wrapping_byte_sub(1).cast());
+                ffi::ww_mutex_unlock(self.0.wrapping_byte_sub(1).cast());
             } else {
                 ffi::unlock(index, self.0);
             }

@@ -18,7 +18,8 @@
 //! ```
 //!
 //! - A [`Class`] is a type: the mutexes among which deadlocks are detected. It is Wound-Wait or Wait-Die, and has up to
-//!   65,536 mutexes at a time, and at least 1,024 contexts, or as many as [`class!`] says: up to 2^24 and 4,094.
+//!   65,536 mutexes at a time, and 1,024 contexts besides one for each thread, or as many as [`class!`] says: up to 2^24
+//!   and 4,094.
 //! - A [`Mutex`] belongs to a class, and guards a value. It may be a `static`, and may be moved while nobody borrows
 //!   it.
 //! - [`Class::run`] runs a body with a context, [`Tx`], and runs it again after each [`Deadlock`](Error::Deadlock).
@@ -42,8 +43,9 @@
 //! certain. No deadlock is detected that involves another class, another kind of lock, a channel or a thread that is
 //! waited for.
 //!
-//! It isn't promised that a waiting call returns, or in which order; there is no fairness. Classes that were in use can't
-//! be used in a forked child: each use panics. Signal handlers may use nothing of it. A wait blocks its thread, except the
+//! It isn't promised that a waiting call returns, or in which order; there is no fairness. In a
+//! forked child a class goes on unless it was in use at the fork: a mutex was locked, a context had begun, or a thread was
+//! amid a call. Then each use panics there. Signal handlers may use nothing of it. A wait blocks its thread, except the
 //! waits of tasks: the feature `async` has a module for these, `task`.
 //!
 //! # Panics and leaks
@@ -85,6 +87,8 @@ pub mod task;
 mod tx;
 pub mod typed;
 
+use core::ffi::{c_char, c_void, CStr};
+
 pub use age::Age;
 pub use cancel::Canceller;
 pub use class::{Class, Counts, Kind, RawClass};
@@ -105,18 +109,52 @@ pub fn library_version() -> u32 {
     unsafe { ffi::ww_version() }
 }
 
-/// After how many seconds a thread that waits without a deadline says so on standard error, once a class for waits for a
-/// mutex, and once for those for a context: 10, unless this sets another number; 0: never.
-///
-/// ```
-/// ww_mutex::report_long_waits(60);
-/// ```
-pub fn report_long_waits(seconds: u32) {
-    // SAFETY: any thread may call it.
-    unsafe { ffi::ww_report_long_waits(seconds) }
+/// From now on this function gets each message with which the C library ends the program, and each of the debug library's,
+/// in place of standard error. Threads may call it at the same time. It uses no class, and if it panics the program ends.
+/// What another call has set before stays in memory.
+pub fn report_to(function: impl Fn(&str) + Send + Sync + 'static) {
+    type Reports = Box<dyn Fn(&str) + Send + Sync>;
+
+    unsafe extern "C" fn pass(data: *mut c_void, message: *const c_char) {
+        // SAFETY: `data` is what is given below, which nobody frees; the message ends with a zero.
+        let (function, message) = unsafe { (&*data.cast::<Reports>(), CStr::from_ptr(message)) };
+        function(&message.to_string_lossy());
+    }
+
+    let data: *mut Reports = Box::into_raw(Box::new(Box::new(function)));
+    // SAFETY: whichever data a thread finds, all were made for this one function.
+    unsafe { ffi::ww_report_to(Some(pass), data.cast()) };
 }
 
 /// The page for readers is tested, too.
 #[cfg(doctest)]
 #[doc = include_str!("../README.md")]
 struct Readme;
+
+#[cfg(test)]
+mod tests {
+    use super::{ffi, report_to};
+    use std::ffi::c_int;
+    use std::mem::MaybeUninit;
+
+    extern "C" {
+        fn fork() -> c_int;
+        fn waitpid(child: c_int, status: *mut c_int, options: c_int) -> c_int;
+        fn _exit(status: c_int) -> !;
+    }
+
+    #[test]
+    fn a_message_comes_to_the_program() {
+        // SAFETY: the child calls nothing that another thread of this test may have been amid.
+        let child = unsafe { fork() };
+        if child == 0 {
+            // SAFETY: nothing of the parent's is ended twice.
+            report_to(|message| unsafe { _exit(c_int::from(!message.contains("the context has ended"))) });
+            // SAFETY: a context of zeros has ended.
+            unsafe { ffi::ww_acquire_fini(MaybeUninit::<ffi::ww_acquire_ctx>::zeroed().as_mut_ptr()) };
+        }
+        let mut status = 0;
+        // SAFETY: it writes the status alone.
+        assert_eq!((unsafe { waitpid(child, &raw mut status, 0) }, status), (child, 0));
+    }
+}

@@ -85,7 +85,7 @@ impl<C: Class, T: ?Sized> Mutex<C, T> {
     /// # Panics
     ///
     /// If the class has all mutexes that it may have, or no memory to open ([`try_new`](Mutex::try_new) returns these
-    /// errors); in a forked child, if the class was opened before the fork; and, with debug assertions, if a context of
+    /// errors); in a forked child, if the class was in use at the fork; and, with debug assertions, if a context of
     /// this thread holds the mutex.
     #[inline]
     #[track_caller]
@@ -110,11 +110,11 @@ impl<C: Class, T: ?Sized> Mutex<C, T> {
     pub fn try_lock(&self) -> Option<MutexGuard<'_, C, T>> {
         let class = C::raw();
         let number = self.number_or_panic(class);
-        let mut by = ptr::null_mut();
-        // SAFETY: the class is static, and the number is one of it; `by` lives for the call.
-        let is_locked = unsafe { ffi::ww_number_trylock_alone(number.index(), class.get(), &raw mut by) } == 1;
+        let it = class.at(number);
+        // SAFETY: the number is one of the class.
+        let is_locked = unsafe { ffi::ww_mutex_trylock(it, ptr::null_mut()) } == 1;
         // SAFETY: it locked the mutex, for this guard.
-        is_locked.then(|| unsafe { MutexGuard::of(self, Holder::alone(by)) })
+        is_locked.then(|| unsafe { MutexGuard::of(self, Holder::alone(it)) })
     }
 
     /// As [`lock`](Mutex::lock), but waits at most until this time, or [`Class::cancel`]. A mutex that is free is locked, however late
@@ -122,8 +122,8 @@ impl<C: Class, T: ?Sized> Mutex<C, T> {
     ///
     /// # Panics
     ///
-    /// If the class has all mutexes that it may have, or no memory to open; in a forked child, if the class was opened
-    /// before the fork.
+    /// If the class has all mutexes that it may have, or no memory to open; in a forked child, if the class was in
+    /// use at the fork.
     #[track_caller]
     pub fn try_lock_until(&self, deadline: Instant) -> Option<MutexGuard<'_, C, T>> {
         let class = C::raw();
@@ -154,8 +154,8 @@ impl<C: Class, T: ?Sized> Mutex<C, T> {
     pub fn is_locked(&self) -> bool {
         let class = C::raw();
         let number = self.existing().filter(|number| number.tag() == class.tag());
-        // SAFETY: the class is static.
-        number.is_some_and(|number| unsafe { ffi::ww_number_is_locked(number.index(), class.get()) })
+        // SAFETY: the number is one of the class.
+        number.is_some_and(|number| unsafe { ffi::ww_mutex_is_locked(class.at(number)) })
     }
 
     /// The value. Nobody holds the mutex, since nobody else borrows it.
@@ -211,11 +211,11 @@ impl<C: Class, T: ?Sized> Mutex<C, T> {
     ) -> Result<MutexGuard<'_, C, T>, c_int> {
         place::said();
         let until = until.map_or(ptr::null(), ptr::from_ref);
-        let mut by = ptr::null_mut();
-        // SAFETY: the class is static, and the number is one of it; the time, if there is one, and `by` live for the call.
-        match unsafe { ffi::ww_number_lock_alone(number.index(), class.get(), until, &raw mut by) } {
+        let it = class.at(number);
+        // SAFETY: the number is one of the class; the time, if there is one, lives for the call.
+        match unsafe { ffi::ww_mutex_lock_until(it, ptr::null_mut(), until) } {
             // SAFETY: it locked the mutex, for this guard.
-            0 => Ok(unsafe { MutexGuard::of(self, Holder::alone(by)) }),
+            0 => Ok(unsafe { MutexGuard::of(self, Holder::alone(it)) }),
             answer => Err(answer),
         }
     }

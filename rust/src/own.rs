@@ -41,12 +41,16 @@ pub(crate) fn ended(context: *const ww_acquire_ctx) {
 #[track_caller]
 pub(crate) fn check_wait(number: Number, context: *const ww_acquire_ctx, writes: bool) {
     if cfg!(debug_assertions) {
-        let index = number.index();
-        // SAFETY: it has begun, hasn't ended, and is of this thread.
-        let holds = |&(other, class): &Own| unsafe {
-            other != context
-                && class.tag() == number.tag()
-                && (ffi::ww_number_is_held(index, other) || writes && ffi::ww_number_is_read(index, other))
+        let holds = |&(other, class): &Own| {
+            if other == context || class.tag() != number.tag() {
+                return false;
+            }
+            let mutex = class.at(number);
+            // SAFETY: it has begun, hasn't ended, and is of this thread.
+            unsafe {
+                ffi::ww_shared_mutex_is_written_by(mutex, other)
+                    || writes && ffi::ww_shared_mutex_is_read_by(mutex, other)
+            }
         };
         let is_own = with_own(|own| own.iter().any(holds)).unwrap_or(false);
         assert!(!is_own, "another context of this thread holds the mutex, so this would wait forever");

@@ -24,7 +24,7 @@ mod said {
     pub(super) fn at(place: &'static Location<'static>) {
         if let (Some(file), Ok(line)) = (file(place.file()), c_int::try_from(place.line())) {
             // SAFETY: the name ends with a zero, and stays.
-            unsafe { ffi::ww_debug_at_(file.as_ptr(), line) }
+            unsafe { ffi::ww_debug_line_(file.as_ptr(), line) }
         }
     }
 }

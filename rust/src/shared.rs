@@ -2,7 +2,7 @@ use crate::class::RawClass;
 use crate::context::Context;
 use crate::guard::Holder;
 use crate::number::{Handle, Number};
-use crate::{Class, Error};
+use crate::{ffi, Class, Error};
 use core::cell::UnsafeCell;
 use core::fmt;
 use core::ops::{Deref, DerefMut};
@@ -81,6 +81,16 @@ impl<C: Class, T: ?Sized> SharedMutex<C, T> {
     #[inline]
     pub fn get_mut(&mut self) -> &mut T {
         self.value.get_mut()
+    }
+
+    /// Whether anybody reads or writes it, or waits for it; that may be out of date when it returns. A mutex that is free is
+    /// taken for a moment, in which a `try_write` may fail.
+    #[must_use]
+    pub fn is_locked(&self) -> bool {
+        let class = C::raw();
+        let number = self.handle.existing().filter(|number| number.tag() == class.tag());
+        // SAFETY: the number is one of the class.
+        number.is_some_and(|number| unsafe { ffi::ww_shared_mutex_is_locked(class.at(number)) })
     }
 
     #[inline]

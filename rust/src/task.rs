@@ -159,7 +159,7 @@ impl<C: Class> Tx<C> {
     ///
     /// # Panics
     ///
-    /// In a forked child, if the class was opened before the fork.
+    /// In a forked child, if the class was in use at the fork.
     #[inline]
     #[track_caller]
     pub fn lock<'x, T: ?Sized>(&'x self, mutex: &'x Mutex<C, T>) -> Lock<'x, C, T> {
@@ -288,21 +288,31 @@ impl<C: Class> Context<C> {
     ///
     /// # Panics
     ///
-    /// In a forked child, if the class was opened before the fork.
+    /// In a forked child, if the class was in use at the fork.
     #[inline]
     pub async fn attempt(&mut self) -> Result<&Tx<C>, Error> {
         match self.begin_now_() {
             Poll::Ready(begun) => begun?,
             Poll::Pending => self.wait_().await?,
         }
-        Ok(self.begun_())
+        Ok(&self.tx)
     }
 
     // `attempt`, in the parts of which `transaction!` makes it: the future of one that waits for nothing isn't made.
 
+    /// A context that hasn't begun has no `Tx`:
+    ///
+    /// ```compile_fail,E0133
+    /// # ww_mutex::class!(struct Boxes: WoundWait);
+    /// ww_mutex::task::Context::<Boxes>::new().begun_();
+    /// ```
+    ///
+    /// # Safety
+    ///
+    /// Its attempt has begun: `begin_now_` or `wait_` returned `Ok`.
     #[doc(hidden)]
     #[inline]
-    pub fn begun_(&mut self) -> &Tx<C> {
+    pub unsafe fn begun_(&mut self) -> &Tx<C> {
         &self.tx
     }
 
@@ -397,7 +407,7 @@ impl<C: Class> Context<C> {
                 Poll::Ready(begun) => begun?,
                 Poll::Pending => kept.wait_().await?,
             }
-            let tx = kept.begun_();
+            let tx = &kept.0.tx;
             // SAFETY: it is an async block.
             let told = unsafe { body_(async { body(tx).await }) }.await;
             if let ControlFlow::Break(told) = kept.settle(told) {
@@ -439,23 +449,26 @@ impl<C: Class, T: ?Sized> Mutex<C, T> {
     /// of tasks, for which it waits too. So a task that holds something meanwhile may wait for itself, or for others.
     ///
     /// ```
-    /// # use ww_mutex::{class, Mutex};
+    /// # use ww_mutex::{class, Error, Mutex};
     /// # class!(struct Accounts: WoundWait);
-    /// async fn deposit(account: &Mutex<Accounts, u64>, amount: u64) {
-    ///     *account.lock_by_task().await += amount;
+    /// async fn deposit(account: &Mutex<Accounts, u64>, amount: u64) -> Result<(), Error> {
+    ///     *account.lock_by_task().await? += amount;
+    ///     Ok(())
     /// }
     /// ```
     ///
+    /// # Errors
+    ///
+    /// `Cancelled`, `Exhausted` and `OutOfMemory`, as [`Class::run`] and [`Tx::lock`].
+    ///
     /// # Panics
     ///
-    /// In a forked child, if the class was opened before the fork; if this opens the class, and there is no memory; at the
-    /// first lock of the mutex, if the class has all mutexes that it may have.
-    pub async fn lock_by_task(&self) -> LoneGuard<'_, C, T> {
+    /// In a forked child, if the class was in use at the fork.
+    pub async fn lock_by_task(&self) -> Result<LoneGuard<'_, C, T>, Error> {
         let mut context = Context::<C>::new();
-        let told = async { context.attempt().await?.lock(self).await.map(core::mem::forget) }.await;
         // A context that holds nothing never gets `Deadlock`.
-        told.unwrap_or_else(|error| panic!("{error}"));
-        LoneGuard::of(self, context.tx.inner)
+        context.attempt().await?.lock(self).await.map(core::mem::forget)?;
+        Ok(LoneGuard::of(self, context.tx.inner))
     }
 }
 
@@ -493,8 +506,11 @@ impl<'c, C: Class> Kept_<'c, C> {
         self.0.wait_()
     }
 
-    pub fn begun_(&mut self) -> &Tx<C> {
-        self.0.begun_()
+    /// # Safety
+    ///
+    /// That of `Context::begun_`.
+    pub unsafe fn begun_(&mut self) -> &Tx<C> {
+        &self.0.tx
     }
 
     pub fn settle<R, E: From<Error>>(&mut self, told: Result<R, E>) -> ControlFlow<Result<R, E>> {
@@ -617,7 +633,8 @@ macro_rules! transaction {
             if let ::core::result::Result::Err(error) = begun {
                 break ::core::result::Result::Err(::core::convert::From::from(error));
             }
-            let $tx = $context.begun_();
+            // SAFETY: it has begun.
+            let $tx = unsafe { $context.begun_() };
             let block = async { $body };
             // SAFETY: it is an async block.
             let told: $told = unsafe { $crate::task::body_(block) }.await;

@@ -74,7 +74,7 @@ impl<C: Class> Tx<C> {
     ///
     /// # Panics
     ///
-    /// In a forked child, if the class was opened before the fork; with debug assertions, if another context of this
+    /// In a forked child, if the class was in use at the fork; with debug assertions, if another context of this
     /// thread holds the mutex, and nothing would end the wait.
     #[inline]
     #[track_caller]
@@ -193,7 +193,7 @@ impl<C: Class> Tx<C> {
     ///
     /// # Panics
     ///
-    /// In a forked child, if the class was opened before the fork.
+    /// In a forked child, if the class was in use at the fork.
     #[inline]
     #[track_caller]
     pub fn read<'g, T: ?Sized>(&'g self, mutex: &'g SharedMutex<C, T>) -> Result<&'g T, Error> {

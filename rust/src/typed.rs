@@ -29,7 +29,7 @@
 //! loop {
 //!     match swap(tx, &one, &other) {
 //!         Ok(()) => break,
-//!         Err(Refused::Deadlock(lost)) => tx = context.back_off(lost),
+//!         Err(Refused::Deadlock(lost)) => tx = context.back_off(lost)?,
 //!         Err(Refused::Other(error, _)) => return Err(error),
 //!     }
 //! }
@@ -235,7 +235,7 @@ impl<C: Class> Context<C> {
     ///
     /// # Panics
     ///
-    /// In a forked child, if the class was opened before the fork.
+    /// In a forked child, if the class was in use at the fork.
     #[track_caller]
     pub fn begin() -> Result<Self, Error> {
         let inner = NonNull::from(Box::leak(Box::new(Inner::new(C::raw()))));
@@ -265,11 +265,14 @@ impl<C: Class> Context<C> {
 
     /// After a lock call returned [`Deadlock`]: waits for the contended mutex. The context has it then, and the lock call
     /// for it returns immediately.
-    pub fn back_off(&mut self, lost: Deadlock<C>) -> Acquiring<'_, C> {
+    ///
+    /// # Errors
+    ///
+    /// [`Error::Cancelled`], by [`Class::cancel`]. The context holds nothing then.
+    pub fn back_off(&mut self, lost: Deadlock<C>) -> Result<Acquiring<'_, C>, Error> {
         // SAFETY: as in `start`.
-        let told = unsafe { self.inner().back_off(lost.contended()) };
-        debug_assert!(told.is_ok(), "a wait without limits ends with the mutex");
-        Acquiring { inner: self.inner(), class: PhantomData }
+        unsafe { self.inner().back_off(lost.contended()) }?;
+        Ok(Acquiring { inner: self.inner(), class: PhantomData })
     }
 
     /// Locks all of them, and backs off by itself.

@@ -89,7 +89,7 @@ fn back_offs() {
     let [began, ended] = wait(Wait::Mutex, Err(Error::Deadlock));
     assert_eq!(told(), [began, ended, BACKED_OFF]);
     drop((other, held));
-    drop(younger.back_off(lost));
+    drop(younger.back_off(lost).unwrap());
     assert!(told().is_empty());
 }
 

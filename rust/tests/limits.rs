@@ -4,7 +4,7 @@ use std::sync::mpsc::channel;
 use std::sync::Barrier;
 use std::thread;
 use std::time::{Duration, Instant};
-use ww_mutex::typed::Context;
+use ww_mutex::typed::{Context, Refused};
 use ww_mutex::{class, Canceller, Class, Error, Mutex, Tx};
 
 const SOON: Duration = Duration::from_millis(20);
@@ -212,4 +212,18 @@ fn a_back_off_is_called_off() {
         drop(held);
     });
     assert!(!a.is_locked() && !b.is_locked());
+    // By the class, too.
+    let Ok((_, held)) = older.start().lock(&a) else { panic!() };
+    let is_called_off = || {
+        let mut younger = Context::begin().unwrap();
+        let Ok((tx, other)) = younger.start().lock(&b) else { panic!() };
+        let Err(Refused::Deadlock(lost)) = tx.lock(&a) else { panic!() };
+        drop(other);
+        Boxes::cancel().unwrap();
+        let told = younger.back_off(lost).map(|_| ());
+        // And the context goes on.
+        told == Err(Error::Cancelled) && younger.start().lock(&b).is_ok()
+    };
+    assert!(thread::scope(|scope| scope.spawn(is_called_off).join().unwrap()));
+    drop(held);
 }

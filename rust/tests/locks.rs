@@ -56,7 +56,7 @@ fn the_younger_one_backs_off() {
     let Err(Refused::Deadlock(lost)) = tx.lock(&a) else { panic!() };
     drop(held);
     drop(held_by_older);
-    let tx = younger.back_off(lost);
+    let tx = younger.back_off(lost).unwrap();
     assert!(a.is_locked());
     let Ok((tx, a_guard)) = tx.lock(&a) else { panic!() };
     let Err(Refused::Other(Error::Duplicate, tx)) = tx.lock(&a) else { panic!() };
@@ -76,7 +76,7 @@ fn what_came_first_is_handed_out_once() {
         let Ok((tx, held)) = younger.start().lock(&b) else { panic!() };
         let Err(Refused::Deadlock(lost)) = tx.lock(&a) else { panic!() };
         drop((held, held_by_older));
-        let mut tx = younger.back_off(lost);
+        let mut tx = younger.back_off(lost).unwrap();
         let first = tx.try_lock(&a);
         assert!(first.is_some() && tx.try_lock(&a).is_none() && tx.try_lock(&b).is_some());
         drop(first);

@@ -84,7 +84,7 @@ fn the_deadlock_of_another_context_does_no_harm() {
     drop((held, held_by_older));
     // Nor does one of which nobody makes use.
     drop(younger.start().lock(&b));
-    let Ok((_, first)) = older.back_off(lost).lock(&a) else { panic!() };
+    let Ok((_, first)) = older.back_off(lost).unwrap().lock(&a) else { panic!() };
     assert_eq!(*first, 1);
 }
 

@@ -4,7 +4,8 @@ use std::sync::atomic::{AtomicU64, Ordering};
 use std::sync::{Arc, Barrier};
 use std::thread;
 use std::time::Duration;
-use ww_mutex::{class, Class, Error, Options, SharedMutex, UpgradableGuard};
+use ww_mutex::typed::Context;
+use ww_mutex::{class, Class, Error, Mutex, Options, SharedMutex, UpgradableGuard};
 
 #[test]
 fn readers_stand_beside_each_other() {
@@ -17,6 +18,7 @@ fn readers_stand_beside_each_other() {
                 let read = Boxes::run(|tx| {
                     let value = tx.read(&ONE)?;
                     both.wait(); // where one had to wait for the other, neither would come here
+                    assert!(ONE.is_locked());
                     Ok(*value + *tx.read(&ONE)?)
                 });
                 assert_eq!(read, Ok(14));
@@ -51,6 +53,7 @@ fn a_writer_stands_alone() {
         Ok(())
     })
     .unwrap();
+    assert!(!ONE.is_locked());
     assert_eq!(Boxes::run(|tx| tx.write(&ONE).map(|mut it| std::mem::replace(&mut *it, 0))), Ok(8));
 }
 
@@ -207,6 +210,40 @@ fn follows<C: Class>() {
             Ok(*guard)
         });
         assert_eq!(told, Ok(9));
+    }
+}
+
+/// The mutex at which `Deadlock` came is gone, and its number is that of a shared one; or of what the context reads by, which takes
+/// one with its first read.
+#[test]
+fn what_came_first_may_have_gone() {
+    class!(struct Boxes: WaitDie, mutexes = 8, contexts = 4);
+    for k in 0..4 {
+        let (other, shared) = (Mutex::<Boxes, u64>::new(0), SharedMutex::<Boxes, u64>::new(7));
+        let first_lock = || Boxes::run(|tx| tx.write(&shared).map(|_| ()));
+        if k == 0 {
+            first_lock().unwrap();
+        }
+        let mut older = Context::begin().unwrap();
+        let mut tx = Some(older.start());
+        let told = Boxes::run(|younger| {
+            if let Some(tx) = tx.take() {
+                let _other = younger.lock(&other)?;
+                let gone = Mutex::new(0);
+                let Ok((_, held)) = tx.lock(&gone) else { panic!() };
+                let told = younger.lock(&gone).map(|_| 0);
+                drop(held);
+                drop(gone);
+                first_lock()?;
+                return told;
+            }
+            match k {
+                0 | 1 => younger.read(&shared).copied(),
+                2 => younger.write(&shared).map(|it| *it),
+                _ => younger.read_upgradable(&shared).map(|it| *it),
+            }
+        });
+        assert_eq!(told, Ok(7));
     }
 }
 

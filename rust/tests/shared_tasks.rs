@@ -128,6 +128,38 @@ fn a_mutex_that_goes_takes_its_read_along() {
     }
 }
 
+/// As `what_came_first_may_have_gone` of threads.
+#[test]
+#[cfg_attr(feature = "debug-library", ignore = "that makes up Deadlocks")]
+fn what_came_first_may_have_gone() {
+    class!(struct Boxes: WaitDie, mutexes = 8, contexts = 4);
+    async fn first_lock(shared: &SharedMutex<Boxes, u64>) -> Result<(), Error> {
+        transaction!(Boxes, |tx| tx.write(shared).await.map(|_| ()))
+    }
+    block_on(async {
+        for k in 0..3 {
+            let (other, shared) = (Mutex::new(0), SharedMutex::new(7));
+            if k == 0 {
+                first_lock(&shared).await?;
+            }
+            let (mut older, mut younger) = (Context::<Boxes>::new(), Context::<Boxes>::new());
+            let (older, tx) = (older.attempt().await?, younger.attempt().await?);
+            let told = async {
+                let (gone, _other) = (Mutex::new(0), tx.lock(&other).await?);
+                let _held = older.lock(&gone).await?;
+                tx.lock(&gone).await.map(|_| ())
+            }
+            .await;
+            first_lock(&shared).await?;
+            assert!(told == Err(Error::Deadlock) && younger.settle(told).is_continue());
+            let tx = younger.attempt().await?;
+            assert_eq!(if k == 2 { *tx.write(&shared).await? } else { *tx.read(&shared).await? }, 7);
+        }
+        Ok::<_, Error>(())
+    })
+    .unwrap();
+}
+
 /// A read that is dropped amid its wait, also once it has its turn, is none: another context writes it, and so may its own.
 #[test]
 #[cfg_attr(feature = "debug-library", ignore = "that makes up Deadlocks")]

@@ -62,7 +62,7 @@ fn by_types<C: Class>(list: &[Object<C>]) -> u64 {
     loop {
         match attempt(tx, list) {
             Ok(count) => return count,
-            Err(Refused::Deadlock(told)) => tx = context.back_off(told),
+            Err(Refused::Deadlock(told)) => tx = context.back_off(told).unwrap(),
             Err(Refused::Other(error, _)) => panic!("{error}"),
         }
     }

@@ -12,7 +12,7 @@ use std::path::{Path, PathBuf};
 use std::pin::{pin, Pin};
 use std::sync::atomic::{AtomicBool, AtomicU64, Ordering::Relaxed};
 use std::sync::{Arc, OnceLock};
-use std::task::{Context as Polling, Poll, RawWaker, RawWakerVTable, Waker};
+use std::task::{Context as Polling, Poll, RawWaker, RawWakerVTable, Wake, Waker};
 use std::time::{Duration, Instant};
 use std::{fs, hint, mem, ptr, thread};
 use ww_mutex::task::{Context, Guard, Tx};
@@ -645,6 +645,36 @@ fn a_panic_of_a_waker_ends_a_call() {
     nothing_is_left::<Boxes>(&[], FOUND);
 }
 
+/// Its clone panics while a task waits for a context, or the drop of the last one: that wait is over with its future.
+#[test]
+fn a_panic_of_a_waker_ends_a_wait_for_a_context() {
+    class!(struct Boxes: WoundWait, mutexes = 1, contexts = 1);
+    static CLONES: RawWakerVTable = RawWakerVTable::new(|_| panic::resume_unwind(Box::new(())), |_| (), |_| (), |_| ());
+    struct Drops;
+    impl Wake for Drops {
+        fn wake(self: Arc<Self>) {}
+    }
+    impl Drop for Drops {
+        fn drop(&mut self) {
+            panic::resume_unwind(Box::new(()));
+        }
+    }
+    // SAFETY: these functions access nothing.
+    let clones = unsafe { Waker::new(ptr::null(), &CLONES) };
+    for (first, second) in [(Waker::noop().clone(), &clones), (Waker::from(Arc::new(Drops)), Waker::noop())] {
+        let (mut only, mut context) = (Context::<Boxes>::new(), Context::<Boxes>::new());
+        block_on(only.attempt()).unwrap();
+        let mut attempt = Box::pin(context.attempt());
+        assert!(attempt.as_mut().poll(&mut Polling::from_waker(&first)).is_pending());
+        drop(first);
+        let polls = || attempt.as_mut().poll(&mut Polling::from_waker(second)).is_ready();
+        assert!(panic::catch_unwind(AssertUnwindSafe(polls)).is_err());
+        drop(attempt);
+        assert_eq!(Boxes::counts().context_waiters, 0);
+    }
+    nothing_is_left::<Boxes>(&[], 1);
+}
+
 /// Only the waker of the last poll is called, and none is kept.
 #[test]
 fn wakers_may_change() {
@@ -863,7 +893,7 @@ fn a_transaction_in_a_transaction() {
     fn nested(more: u64, runs: bool) -> Pin<Box<dyn Future<Output = Result<(), Error>>>> {
         Box::pin(async move {
             match more {
-                0 => *BOX.lock_by_task().await += 1,
+                0 => *BOX.lock_by_task().await? += 1,
                 _ if runs => Boxes::run_async(async |_| nested(more - 1, runs).await).await?,
                 _ => transaction!(Boxes, |tx| {
                     assert!(tx.attempts() > 0);
@@ -975,7 +1005,7 @@ fn tries_and_lists() {
     assert_eq!(sum, Ok(3));
 }
 
-/// Locks without a context: by tasks, beside a thread; and dropped while it waits.
+/// Locks without a context: by tasks, beside a thread; dropped while it waits, and cancelled.
 #[test]
 fn lone_locks() {
     class!(struct Boxes: WoundWait, mutexes = 2, contexts = 2);
@@ -988,12 +1018,17 @@ fn lone_locks() {
     assert!(flags[1].is_set() && poll(other.as_mut(), &flags[1]).is_pending());
     drop(held);
     assert!(flags[1].is_set() && BOX.try_lock().is_none());
-    let Poll::Ready(mut guard) = poll(other.as_mut(), &flags[1]) else { panic!() };
+    let Poll::Ready(Ok(mut guard)) = poll(other.as_mut(), &flags[1]) else { panic!() };
     *guard += 1;
     // It may be sent.
     thread::scope(|scope| scope.spawn(move || drop(guard)).join().unwrap());
     assert_eq!(*BOX.lock(), 1);
     nothing_is_left::<Boxes>(&[], 2);
+    let held = BOX.lock();
+    Boxes::cancel().unwrap();
+    assert!(matches!(poll(Box::pin(BOX.lock_by_task()).as_mut(), &flags[0]), Poll::Ready(Err(Error::Cancelled))));
+    drop(held);
+    assert!(block_on(BOX.lock_by_task()).is_ok() && !BOX.is_locked());
 }
 
 /// A body that got `Deadlock` and returns `Ok` all the same.

@@ -8,17 +8,28 @@
 Class, Mutex and Context are those of ww_mutex.h, SharedMutex is that of ww_shared.h. Errors are raised as OSError with their errno: Deadlock for EDEADLK,
 Already for EALREADY, TimeoutError if a time limit came, and InterruptedError if the wait was cancelled.
 
+In a task of asyncio a context is a TaskContext: `async with buffers.context() as context`, or best `await buffers.run_async(body)`.
+
 With WW_DEBUG=1 in the environment it is libww_debug.so: standard error has each misuse, long waits, and deadlocks that no class
 detects, with the lines of the program, and some lock calls raise Deadlock without need.
 """
-from .library import WAIT_DIE, WOUND_WAIT, Already, Counts, Deadlock, opened, report_long_waits
+from typing import TYPE_CHECKING
+
+from .library import WAIT_DIE, WOUND_WAIT, Already, Counts, Deadlock, opened, report_to
 from .mutexes import Class, Context, Mutex, SharedMutex
 
-__all__ = ["WOUND_WAIT", "WAIT_DIE", "Class", "Mutex", "SharedMutex", "Context", "Already", "Deadlock", "Counts", "report_long_waits"]
+if TYPE_CHECKING:
+    from .tasks import TaskContext
+__all__ = ["WOUND_WAIT", "WAIT_DIE", "Class", "Mutex", "SharedMutex", "Context", "TaskContext", "Already", "Deadlock", "Counts", "report_to"]
+__version__: str
 
 
-def __getattr__(name):
-    """`__version__` is that of the library."""
+def __getattr__(name: str) -> object:
+    """`__version__` is that of the library; and asyncio is loaded for those who use it."""
+    if name == "TaskContext":
+        from .tasks import TaskContext
+
+        return TaskContext
     if name != "__version__":
         raise AttributeError(f"module {__name__!r} has no attribute {name!r}")
     version = opened(None).ww_version()

@@ -8,7 +8,7 @@ import os
 import sys
 
 WOUND_WAIT, WAIT_DIE = 0, 1
-_VERSION = 4
+_VERSION = 5
 _LARGEST = 2**32 - 1
 # Not empty: the debug library takes the place of the other one.
 _DEBUGS = os.environ.get("WW_DEBUG", "") not in ("", "0")
@@ -49,7 +49,6 @@ class _Number:
 _AT = ctypes.c_void_p
 _CALLS = {
     "ww_version": (ctypes.c_uint32,),
-    "ww_report_long_waits": (None, _Number),
     "ww_class_init": (None, _AT, ctypes.c_int, ctypes.c_char_p),
     "ww_class_limit": (ctypes.c_int, _AT, _Number, _Number),
     "ww_class_stats": (None, _AT, ctypes.POINTER(Counted)),
@@ -68,20 +67,23 @@ _CALLS |= {
     "ww_acquire_end_wait": (ctypes.c_int, _AT),
     "ww_seek_end": (None, _AT),
 }
-_CALLS |= {f"ww_number_is_{it}": (ctypes.c_bool, _NUMBER, _AT) for it in ("read", "locked")}
 _CALLS |= {
     "ww_acquire_init_poll": (ctypes.c_int, _AT, _AT, _AT, _AT),
     "ww_mutex_lock_poll": (ctypes.c_int, _AT, _AT, _AT),
     "ww_poll_take_back": (ctypes.c_bool, _AT, _AT),
     "ww_event_take": (_AT, _AT),
 }
+_REPORTS = ctypes.CFUNCTYPE(None, _AT, ctypes.c_char_p)
+_CALLS["ww_report_to"] = (None, _REPORTS, _AT)
 _CALLS |= {f"ww_{it}_size": (ctypes.c_size_t,) for it in ("class", "acquire")}
 _ALONE = ("class_free", "class_cancel", "acquire_done_checked", "acquire_fini_checked", "acquire_cancel")
 _CALLS |= {f"ww_{it}": (ctypes.c_int, _AT) for it in _ALONE}
 _PAIRS = ("acquire_init_checked", "mutex_trylock", "shared_mutex_trylock", "shared_mutex_trylock_shared")
 _CALLS |= {f"ww_{it}": (ctypes.c_int, _AT, _AT) for it in _PAIRS}
 _CALLS |= {f"ww_shared_mutex_{it}": _CALLS["ww_mutex_lock_until"] for it in ("lock_until", "lock_shared_until")}
-_CALLS |= {"ww_shared_mutex_is_written_by": (ctypes.c_bool, _AT, _AT), "ww_shared_mutex_downgrade": (None, _AT, _AT)}
+_CALLS |= {f"ww_shared_mutex_is_{it}_by": (ctypes.c_bool, _AT, _AT) for it in ("read", "written")}
+_CALLS |= {f"ww_{it}mutex_is_locked": (ctypes.c_bool, _AT) for it in ("", "shared_")}
+_CALLS |= {"ww_shared_mutex_downgrade": (None, _AT, _AT)}
 _CALLS |= {f"ww_shared_mutex_{it}": _CALLS["ww_mutex_lock_poll"] for it in ("lock_poll", "lock_shared_poll")}
 _CALLS |= {"ww_shared_mutex_await_poll": (ctypes.c_int, _AT, _AT)}
 _CALLS |= {f"ww_{it}": (None, _AT) for it in ("tries_begin_", "back_off_", "acquire_unlock_all", "acquire_end_reads")}
@@ -118,20 +120,25 @@ def opened(path):
     return library
 
 
-def report_long_waits(seconds, library=None):
-    """After how many seconds a thread that waits without a timeout says so on standard error, once a class for waits for a mutex,
-    and once for those for a context: 10, unless this sets another number; 0: never. The main thread, which waits in slices,
-    says nothing."""
-    opened(library).ww_report_long_waits(seconds)
+_told = {}  # By libraries: as the function is called.
+
+
+def report_to(function, library=None):
+    """From now on this function gets each message with which the library ends the program, and each of the debug library's,
+    instead of standard error, to which None returns. Any thread calls it. Call this before threads use the package; `library`
+    is as of Class."""
+    calls = _REPORTS(lambda _, message: function(message.decode(errors="replace"))) if function else _REPORTS()
+    opened(library).ww_report_to(calls, None)
+    _told[library] = calls
 
 
 # What the errors are of.
 _WHY = {
-    errno.EDEADLK: "an older context goes first: release all mutexes, and begin again",
+    errno.EDEADLK: "an older context goes first: release all mutexes, and lock again by the same context, as Class.run does",
     errno.EALREADY: "the context holds this mutex already",
     errno.ENOSPC: "all mutexes of the class are in use: 65,536, or as many as Class(mutexes=..) says",
     errno.ENOMEM: "there is no memory to open the class",
-    errno.EINVAL: "the class was opened before a fork, of which this is the child",
+    errno.EINVAL: "the class was in use at a fork, of which this is the child",
     errno.EINTR: "the wait was cancelled",
     errno.ETIMEDOUT: "the time limit came first",
 }
@@ -148,9 +155,11 @@ _files = {}  # As the debug library keeps their names.
 
 
 def at_caller(library):
-    """Says to the debug library at which line of the program a call of this package was made."""
+    """Says to the debug library at which line of the program a call of this package was made. Returns what says it again."""
     frame = sys._getframe(1)
     while frame.f_back and frame.f_globals.get("__package__") == __package__:
         frame = frame.f_back
     name = frame.f_code.co_filename
-    library.ww_debug_at_(_files.setdefault(name, ctypes.c_char_p(os.fsencode(name))), frame.f_lineno)
+    says = functools.partial(library.ww_debug_line_, _files.setdefault(name, ctypes.c_char_p(os.fsencode(name))), frame.f_lineno)
+    says()
+    return says

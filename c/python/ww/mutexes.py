@@ -3,16 +3,25 @@
 Their structures are opaque here: the library says how large each is. Each object keeps its structure alive, so nothing has
 to be closed: when a mutex is garbage-collected its number is put back, and then its class's memory is freed.
 """
+from __future__ import annotations
+
 import collections
 import ctypes
 import errno
 import functools
+import gc
+import sys
 import threading
 import time
 import weakref
+from typing import TYPE_CHECKING, Any, Awaitable, Callable, Optional, TypeVar
 
 from .library import WAIT_DIE, WOUND_WAIT, Already, Counted, Counts, Deadlock, Time, at_caller, opened, told
 
+if TYPE_CHECKING:
+    from .tasks import TaskContext
+
+_T = TypeVar("_T")
 # Python runs the handler of a signal in the main thread, between two calls of C, so never while that thread is in one. So
 # a wait there is made of calls that end after so many nanoseconds; other threads wait by one call. Waiters with a context
 # are in the order of their timestamps, so this loses no place in the order.
@@ -35,10 +44,14 @@ class _End(int):
 
 
 def _ending(end, *kept):
-    """An end by this call, which keeps what may only be freed after it."""
+    """An end by this call, which keeps what may only be freed after it.  From Python 3.11 on the garbage collector would finalize it
+    in any order: before a generator or a coroutine of the same cycle ends a block, which then were under no lock any more."""
     end.kept = kept
     _ends[id(end)] = end
-    return _End(id(end))
+    it = _End(id(end))
+    if gc.is_tracked(it):
+        ctypes.pythonapi.PyObject_GC_UnTrack(ctypes.py_object(it))
+    return it
 
 
 def _once(*calls):
@@ -53,11 +66,11 @@ class _Exit:
     """A context's `__exit__`: `with` fetches it from the context before the context begins, and what `with` calls at the end
     of its block is no function of Python. Others, such as contextlib.ExitStack, fetch it from the class."""
 
-    def __get__(self, context, _=None):
+    def __get__(self, context: Any, _: Any = None) -> Callable[..., None]:
         return self if context is None else context._end
 
-    def __call__(self, context, *_):
-        return context._end()
+    def __call__(self, context: Context, *_: Any) -> None:
+        context._end()
 
 
 def _memory(size):
@@ -105,12 +118,25 @@ def _is_main():
     return threading.get_ident() == threading.main_thread().ident
 
 
+def _runs_loop():
+    """Whether this thread is running a loop of asyncio."""
+    events = sys.modules.get("asyncio.events")
+    return events is not None and events._get_running_loop() is not None
+
+
+def _may_wait(until):
+    """Raises where a wait would stop a loop: what it waits for may be held by one of the loop's tasks."""
+    if _runs_loop() and (until is None or time.monotonic_ns() < until):
+        raise RuntimeError("this would stop the running event loop: begin the context by `async with`, and await its lock")
+
+
 class Class:
     """A class of mutexes, among which deadlocks are detected. It has at most this many mutexes and contexts at a time (0:
-    65,536, and 1,024 or more), and allocates memory for as many. A forked child makes a class of its own: there each call
-    of this one is EINVAL. `library` is the path of another libww.so than the installed one; messages have the name."""
+    65,536, and 1,024 besides one for each thread), and allocates memory for as many. In a forked child it goes on, unless a
+    mutex was locked or a context in use at the fork: then each call is EINVAL there. `library` is the path of another libww.so
+    than the installed one; messages have the name."""
 
-    def __init__(self, kind=WOUND_WAIT, mutexes=0, contexts=0, library=None, name=""):
+    def __init__(self, kind: int = WOUND_WAIT, mutexes: int = 0, contexts: int = 0, library: Optional[str] = None, name: str = "") -> None:
         if kind not in (WOUND_WAIT, WAIT_DIE):
             raise _wrong("a class is WOUND_WAIT or WAIT_DIE")
         self.name = name
@@ -120,29 +146,29 @@ class Class:
         self._library.ww_class_init(self._at, kind, c_name)
         told(self._library.ww_class_limit(self._at, mutexes, contexts), "a class has at most 16,777,216 mutexes and 4,094 contexts")
 
-    def __repr__(self):
+    def __repr__(self) -> str:
         return f"<ww.Class {self.name!r}>"
 
-    def stats(self):
+    def stats(self) -> Counts:
         """How often contexts backed off and waited since its first use, and how many there are now, as ww_class_stats
         tells it: a ww.Counts."""
         counted = Counted()
         self._library.ww_class_stats(self._at, ctypes.byref(counted))
         return Counts(*(getattr(counted, it) for it in Counts._fields))
 
-    def cancel(self):
+    def cancel(self) -> None:
         """Ends all waits of its contexts and mutexes (InterruptedError), those of tasks too, and each later one immediately: the
         class stays cancelled. It stops nothing else, so a loop that needn't wait goes on: ask whether the program ends there."""
         told(self._library.ww_class_cancel(self._at))
 
-    def context(self, timeout=None):
-        """A context. `with` begins it, and ends it when its block ends in whatever way: then it releases everything that it
-        holds. If all contexts are in use it waits for one, at most for `timeout` seconds (TimeoutError)."""
+    def context(self, timeout: Optional[float] = None) -> Context:
+        """A context. `with` begins it, or in a task `async with`, and ends it when its block ends in whatever way: then it releases
+        everything that it holds. If all contexts are in use it waits for one, at most for `timeout` seconds (TimeoutError)."""
         return Context(self, timeout)
 
-    async def run_async(self, body):
+    async def run_async(self, body: Callable[[TaskContext], Awaitable[_T]], timeout: Optional[float] = None) -> _T:
         """As run, for a task: returns what `await body(context)` returns, with a context of `async with`."""
-        context = _tasks().TaskContext(self)
+        context = _tasks().TaskContext(self, timeout)
         try:
             await context.begin()
             while True:
@@ -164,7 +190,7 @@ class Class:
             if mutex._class is not self:
                 raise _wrong("the mutex is of another class")
 
-    def run(self, body, timeout=None):
+    def run(self, body: Callable[[Context], _T], timeout: Optional[float] = None) -> _T:
         """Returns what body(context) returns. If body gets Deadlock, everything is released, and it is called again: so
         before its last lock call it should change nothing that it doesn't set again. It may catch other errors, but after
         Deadlock it must return or raise. `timeout` is that of context()."""
@@ -187,7 +213,7 @@ class Mutex:
 
     _calls = "ww_mutex_"
 
-    def __init__(self, of):
+    def __init__(self, of: Class) -> None:
         if not isinstance(of, Class):
             raise TypeError("a mutex is of a ww.Class")
         self._class, self._library, self._alone = of, of._library, None
@@ -201,10 +227,10 @@ class Mutex:
         """The library's call of this name for such a mutex."""
         return getattr(self._library, self._calls + name)
 
-    def __repr__(self):
+    def __repr__(self) -> str:
         return f"<ww.{type(self).__name__} of {self._class.name!r}, {'locked' if self.locked() else 'unlocked'}>"
 
-    def __enter__(self, timeout=None):
+    def __enter__(self, timeout: Optional[float] = None) -> Mutex:
         if _mine.holds(self):
             raise Already(errno.EALREADY, "this thread holds it already")
         context, until = Context(self._class), _until(timeout)
@@ -218,7 +244,7 @@ class Mutex:
         self._alone = context  # After the last call no signal is handled before the block.
         return self
 
-    def acquire(self, blocking=True, timeout=-1):
+    def acquire(self, blocking: bool = True, timeout: float = -1) -> bool:
         """Acquires it, at most for `timeout` seconds, or with blocking=False only if it is free; returns whether it did."""
         if not blocking and timeout != -1:
             raise ValueError("a call that doesn't block has no timeout")
@@ -228,19 +254,19 @@ class Mutex:
             return False
         return True
 
-    def release(self):
+    def release(self) -> None:
         """Releases it; in the thread that acquired it."""
         self.__exit__()
 
-    def __exit__(self, *_):
+    def __exit__(self, *_: Any) -> None:
         alone, self._alone = self._alone, None
         if not alone:
             raise _wrong("it isn't locked")
         alone._end()
 
-    def locked(self):
-        """Whether somebody holds it: that may be out of date when it returns."""
-        return self._library.ww_number_is_locked(self._number, self._class._at)
+    def locked(self) -> bool:
+        """Whether somebody holds or reads it: that may be out of date when it returns."""
+        return self._call("is_locked")(self._at)
 
 
 class SharedMutex(Mutex):
@@ -265,19 +291,19 @@ class Holder:
         is_misuse = code == -errno.EINVAL and self._is_contended()
         told(code, "the context got Deadlock and still holds a mutex: release all, or let the body return" if is_misuse else None)
 
-    def __contains__(self, mutex):
+    def __contains__(self, mutex: object) -> bool:
         """Whether it holds this mutex."""
         if not isinstance(mutex, Mutex) or mutex._class is not self._class:
             return False
-        reads = mutex._number.value in self._reads and self._library.ww_number_is_read(mutex._number, self._at)
+        reads = mutex._number.value in self._reads and self._library.ww_shared_mutex_is_read_by(mutex._at, self._at)
         return reads or self._has(mutex)
 
-    def try_lock(self, mutex):
+    def try_lock(self, mutex: Mutex) -> bool:
         """Acquires it if nobody has it or waits for it; returns whether it did."""
         self._check(mutex)
         return mutex._call("trylock")(mutex._at, self._at) == 1
 
-    def unlock(self, mutex):
+    def unlock(self, mutex: Mutex) -> None:
         """Releases it; of a SharedMutex ends its read, too."""
         self._check(mutex)
         if mutex not in self:
@@ -294,10 +320,11 @@ class Holder:
 
 
 class Context(Holder):
-    """A context, for one thread: `with Class.context() as context`. A task of asyncio gets one of its own by `async with`,
-    whose lock is awaited. In other threads, and outside the block, its calls are EINVAL, except cancel."""
+    """A context, for one thread: `with Class.context() as context`. A task of asyncio gets a TaskContext by `async with`, whose
+    lock is awaited. In other threads, and outside the block, its calls are EINVAL, except cancel. Where it would have to wait in a
+    thread that runs a loop of asyncio, it raises RuntimeError."""
 
-    def __init__(self, of, timeout=None):
+    def __init__(self, of: Class, timeout: Optional[float] = None) -> None:
         self._class, self._library, self._timeout = of, of._library, timeout
         self._thread = self._of_task = None
         self._begun = None  # If another thread begins it, the event that it has.
@@ -307,20 +334,26 @@ class Context(Holder):
         """What a thread's context has besides, made at its first use: one of a task never uses it."""
         if name not in ("_at", "_lock", "_end", "_is_over", "_its_end"):
             raise AttributeError(f"a context has no attribute {name!r}")
-        self._at = self._library.context()
+        at = self._library.context()
         # Its end comes once, in a block or when it is dropped, and other threads may cancel it until then: so the end and each
         # cancel are made under a lock.
-        self._lock = threading.Lock()
-        release, fini = (functools.partial(call, self._at) for call in (self._library.ww_acquire_unlock_all, self._library.ww_acquire_fini_checked))
-        self._end, self._is_over = _once(self._lock.acquire, release, fini, self._lock.release)
-        self._its_end = _ending(self._end, self._class._its_end)
+        lock = threading.Lock()
+        release, fini = (functools.partial(call, at) for call in (self._library.ww_acquire_unlock_all, self._library.ww_acquire_fini_checked))
+        end, is_over = _once(lock.acquire, release, fini, lock.release)
+        made = {"_at": at, "_lock": lock, "_end": end, "_is_over": is_over, "_its_end": _ending(end, self._class._its_end)}
+        # If threads use it first at once, all get what one of them has made.
+        self.__dict__.update(self.__dict__.setdefault("_made", made))
         return self.__dict__[name]
 
     __exit__ = _Exit()
 
-    def __enter__(self):
-        if self._thread is not None or self._of_task is not None:
+    def _begins_once(self):
+        """Whichever thread or task comes first, and whatever becomes of that; Python makes the call in one step."""
+        if self.__dict__.setdefault("_is_taken", mine := object()) is not mine:
             raise _wrong("a context begins once")
+
+    def __enter__(self) -> Context:
+        self._begins_once()
         try:
             self._begin(_until(self._timeout))
         except BaseException:
@@ -329,17 +362,16 @@ class Context(Holder):
             raise
         return self  # After the last call no signal is handled before the block.
 
-    async def __aenter__(self):
-        if self._thread is not None or self._of_task is not None or self._timeout is not None:
-            raise _wrong("a context begins once, and a task's without a timeout: asyncio has some")
-        self._of_task = _tasks().TaskContext(self._class)
+    async def __aenter__(self) -> TaskContext:
+        self._begins_once()
+        self._of_task = _tasks().TaskContext(self._class, self._timeout)
         await self._of_task.begin()
         return self._of_task
 
-    async def __aexit__(self, *_):
+    async def __aexit__(self, *_: Any) -> None:
         self._of_task.end()
 
-    def __repr__(self):
+    def __repr__(self) -> str:
         return f"<ww.Context of {self._class.name!r} with {self._library.ww_acquire_mark(self._at)} mutexes>"
 
     def _begin(self, until=None):
@@ -356,6 +388,7 @@ class Context(Holder):
         """Waits until one of the class's contexts is free. With calls of a slice each the main thread would lose its place
         in that queue each time, so another thread waits for it. If the main thread stops waiting, the context ends as soon
         as it has begun."""
+        _may_wait(until)
         begun, left, codes = threading.Event(), threading.Event(), []
         end = Time(*divmod(_NEVER if until is None else until, 10**9))
 
@@ -390,6 +423,11 @@ class Context(Holder):
 
     def _answer(self, mutex, until, call):
         """What this lock call returns in the end."""
+        if _runs_loop():
+            code = call(mutex._at, self._at, Time(0, 0))
+            if code == -errno.ETIMEDOUT:
+                _may_wait(until)
+            return code
         while until is not None or _is_main():
             end = time.monotonic_ns() + _SLICE if _is_main() else until
             end = end if until is None else min(end, until)
@@ -398,15 +436,15 @@ class Context(Holder):
                 return code
         return call(mutex._at, self._at, None)
 
-    def lock(self, *mutexes, timeout=None):
+    def lock(self, *mutexes: Mutex, timeout: Optional[float] = None) -> None:
         """Acquires all of them, and waits for them; at most for `timeout` seconds (TimeoutError), or until it is cancelled
         (InterruptedError). One that is free is acquired, however late it is. A context that held nothing before backs
-        off by itself; any other one may raise Deadlock, and must release everything. Already: it holds one of them.
-        If it fails, it has released what it acquired here."""
+        off by itself; any other one may raise Deadlock: then release everything and lock again, best by Class.run. A new context
+        would be the youngest, and give way again. Already: it holds one of them. If it fails, it has released what it acquired here."""
         self._check(*mutexes)
         self._lock_until(mutexes, _until(timeout))
 
-    def read(self, *mutexes, timeout=None):
+    def read(self, *mutexes: SharedMutex, timeout: Optional[float] = None) -> None:
         """As lock, for each a SharedMutex, which it reads from now on, beside other contexts that do; what it holds already it may
         read. A later lock of what it reads waits for the others: nobody writes it in between."""
         self._check(*mutexes)
@@ -436,18 +474,18 @@ class Context(Holder):
                 if mark or not isinstance(error, Deadlock):
                     raise
 
-    def downgrade(self, mutex):
+    def downgrade(self, mutex: SharedMutex) -> None:
         """Of a SharedMutex that it holds: from now on it reads it, and others may; nobody writes it in between."""
         self._check(mutex)
         if not (isinstance(mutex, SharedMutex) and self._has(mutex)):
             raise _wrong("the context doesn't hold it")
         self._reads.add(mutex._number.value)
-        if self._library.ww_number_is_read(mutex._number, self._at):
+        if self._library.ww_shared_mutex_is_read_by(mutex._at, self._at):
             told(self._library.ww_number_unlock(mutex._number, self._at))
         else:
             self._library.ww_shared_mutex_downgrade(mutex._at, self._at)
 
-    def unlock_all(self):
+    def unlock_all(self) -> None:
         """Releases everything. After Deadlock the next lock call first waits for the contended mutex."""
         self._check()
         self._unlock_all()
@@ -459,18 +497,18 @@ class Context(Holder):
         else:
             self._library.ww_acquire_unlock_all(self._at)
 
-    def __contains__(self, mutex):
+    def __contains__(self, mutex: object) -> bool:
         """Whether it holds this mutex."""
         if self._thread not in (None, threading.get_ident()) and not self._is_over:
             self._check()
         return super().__contains__(mutex)
 
-    def done(self):
+    def done(self) -> None:
         """Says that it has all its mutexes. EINVAL: this was said before."""
         self._check()
         told(self._library.ww_acquire_done_checked(self._at), "this was said before")
 
-    def cancel(self):
+    def cancel(self) -> None:
         """Ends its wait, the current one or the next; any thread may call it. Already: a cancel is pending; EINVAL: the
         context hasn't begun, or has ended."""
         if self._thread is None:

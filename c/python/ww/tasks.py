@@ -11,9 +11,10 @@ import select
 import threading
 import time
 import weakref
+from typing import Optional
 
 from .library import Deadlock, at_caller, told
-from .mutexes import Holder, SharedMutex, _ending
+from .mutexes import Class, Holder, Mutex, SharedMutex, _ending, _until
 
 
 class _Waker(ctypes.Structure):
@@ -192,11 +193,12 @@ def _ended():
 
 class TaskContext(Holder):
     """A context of a task: `async with Class.context() as context`. Other tasks may not use it. A task that is cancelled
-    during a wait holds what it held before. A time limit is that of asyncio.timeout, of Python 3.11: asyncio.wait_for of 3.11 may
-    lose a cancel that comes with the end of the wait."""
+    during a wait holds what it held before: so asyncio.timeout, of Python 3.11, may end waits as well as `timeout` does. But
+    asyncio.wait_for of 3.11 may lose a cancel that comes with the end of the wait."""
 
-    def __init__(self, of):
+    def __init__(self, of: Class, timeout: Optional[float] = None) -> None:
         self._class, self._library, self._reads = of, of._library, set()
+        self._timeout, self._says = timeout, None  # What says to the debug library where its last call was made.
         self._at, self._seek = self._library.context(), _Seek()
         self._future = self._event = None  # Those of the wait that is under way.
         self._is_back = False  # Its waker was taken back.
@@ -211,17 +213,28 @@ class TaskContext(Holder):
     def _is_contended(self):
         return self._got_deadlock
 
-    async def _wait(self, poll, seek=None):
-        """What the call returns in the end. If this is cancelled, the wait has ended."""
+    def try_lock(self, mutex: Mutex) -> bool:
+        is_locked = super().try_lock(mutex)
+        self._got_deadlock &= not is_locked  # What it collided with needn't be awaited any more.
+        return is_locked
+
+    async def _wait(self, poll, until, seek=None):
+        """What the call returns in the end. If this is cancelled, or the time comes, the wait has ended."""
         wakes = _Wakes.of(self._library)
         while True:
             waker, at, future = wakes.begin(self._at, self._seek)
             code, self._is_back, self._future, self._event = -errno.EINPROGRESS, False, future, wakes.event
+            timer = None
             try:
+                if self._says:
+                    self._says()
                 code = poll(ctypes.byref(waker))
                 if code != -errno.EINPROGRESS:
                     return code
-                await future
+                if until is not None:
+                    late = (until - time.monotonic_ns()) / 10**9
+                    timer = future.get_loop().call_later(late, lambda: future.done() or future.set_result(-errno.ETIMEDOUT))
+                told(await future)
                 if self._is_over:
                     raise _ended()
             except BaseException:
@@ -230,6 +243,8 @@ class TaskContext(Holder):
                     self._got_deadlock = True
                 raise
             finally:
+                if timer:
+                    timer.cancel()
                 self._future = self._event = None
                 if wakes.futures.get(at) is future:  # It wasn't woken; another wait may have its address by now.
                     wakes.end(at, code == -errno.EINPROGRESS and not self._is_back)
@@ -239,24 +254,25 @@ class TaskContext(Holder):
         if self._event and not self._event.is_inherited:
             self._is_back |= self._library.ww_poll_take_back(self._at, seek)
 
-    async def begin(self):
+    async def begin(self) -> None:
         """Begins the context; if none is free it waits for one, in turn. Within another one it gets any that is free, since
         that one may wait for it."""
+        until = _until(self._timeout)
         if self._library.is_debug:
-            at_caller(self._library)
+            self._says = at_caller(self._library)
         within = _within()
         self._seek.is_within = within is not None
         seek = ctypes.byref(self._seek)
         poll = functools.partial(self._library.ww_acquire_init_poll, self._at, self._class._at, seek)
         try:
             if poll(None) != 0:
-                told(await self._wait(poll, seek))
+                told(await self._wait(poll, until, seek))
             _around.set((weakref.ref(self), within))
         except BaseException:
             self._end()
             raise
 
-    def end(self):
+    def end(self) -> None:
         """Releases everything that it holds, and ends; so does the wait of another task by it."""
         future, self._is_over = self._future, True
         self._take_back()
@@ -271,42 +287,43 @@ class TaskContext(Holder):
             raise OSError(errno.EBUSY, "another task waits by this context")
         self._class._check(*mutexes)
 
-    async def _asks(self, mutex, shared):
+    async def _asks(self, mutex, shared, until):
         """Locks it, or with "_shared" reads it."""
         if mutex._call("trylock" + shared)(mutex._at, self._at) != 1:
-            code = await self._wait(functools.partial(mutex._call(f"lock{shared}_poll"), mutex._at, self._at))
+            code = await self._wait(functools.partial(mutex._call(f"lock{shared}_poll"), mutex._at, self._at), until)
             self._got_deadlock |= code == -errno.EDEADLK
             self._told(code)
 
-    async def lock(self, *mutexes):
-        """Acquires all of them, and waits for them. A context that held nothing before backs off by itself; any other one
-        may raise Deadlock, and must release everything. Already: it holds one of them. If it fails, or its task is
-        cancelled, it has released what it acquired here."""
+    async def lock(self, *mutexes: Mutex, timeout: Optional[float] = None) -> None:
+        """Acquires all of them, and waits for them; at most for `timeout` seconds (TimeoutError). One that is free is acquired,
+        however late it is. A context that held nothing before backs off by itself; any other one may raise Deadlock: then
+        release everything and lock again, best by Class.run_async. A new context would be the youngest, and give way again.
+        Already: it holds one of them. If it fails, or its task is cancelled, it has released what it acquired here."""
         self._check(*mutexes)
-        await self._lock_all(mutexes, "")
+        await self._lock_all(mutexes, "", _until(timeout))
 
-    async def read(self, *mutexes):
+    async def read(self, *mutexes: SharedMutex, timeout: Optional[float] = None) -> None:
         """As lock, for each a SharedMutex, which it reads from now on, as Context.read."""
         self._check(*mutexes)
         if not all(isinstance(it, SharedMutex) for it in mutexes):
             raise TypeError("only a ww.SharedMutex is read")
-        await self._lock_all([it for it in mutexes if it not in self], "_shared")
+        await self._lock_all([it for it in mutexes if it not in self], "_shared", _until(timeout))
 
-    async def _lock_all(self, mutexes, shared):
+    async def _lock_all(self, mutexes, shared, until):
         if self._library.is_debug:
-            at_caller(self._library)
+            self._says = at_caller(self._library)
         held_nothing = not self._library.ww_acquire_mark(self._at)
         while True:
             acquired = []
             try:
                 if held_nothing and self._got_deadlock:
-                    told(await self._wait(functools.partial(self._library.ww_shared_mutex_await_poll, self._at)))
+                    told(await self._wait(functools.partial(self._library.ww_shared_mutex_await_poll, self._at), until))
                     self._got_deadlock = False
                 for mutex in mutexes:
                     if shared:
                         self._reads.add(mutex._number.value)  # Before it is read: so it is for as long as that goes on.
                     acquired.append(mutex)
-                    await self._asks(mutex, shared)
+                    await self._asks(mutex, shared, until)
                 return
             except BaseException as error:
                 if self._is_over:
@@ -321,7 +338,7 @@ class TaskContext(Holder):
                 if not (held_nothing and isinstance(error, Deadlock)):
                     raise
 
-    def unlock_all(self):
+    def unlock_all(self) -> None:
         """Releases all. After a Deadlock the next lock call first waits for what it collided with."""
         self._check()
         self._unlock_all()

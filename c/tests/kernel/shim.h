@@ -15,6 +15,16 @@
 #include <stdlib.h>
 #include <time.h>
 #include <unistd.h>
+#include <linux/ww_mutex.h>
+
+/* The same source is run with classes of the other kind. */
+#ifdef WOUND_WAIT
+#undef DEFINE_WD_CLASS
+#define DEFINE_WD_CLASS(classname) DEFINE_WW_CLASS(classname)
+#else
+#undef DEFINE_WW_CLASS
+#define DEFINE_WW_CLASS(classname) DEFINE_WD_CLASS(classname)
+#endif
 
 typedef uint32_t u32;
 
@@ -182,6 +192,8 @@ struct list_head {
 	struct list_head *next, *prev;
 };
 #define LIST_HEAD(name) struct list_head name = { &(name), &(name) }
+static inline void INIT_LIST_HEAD(struct list_head *head) { head->next = head->prev = head; }
+static inline bool list_empty(const struct list_head *head) { return head->next == head; }
 static inline void list_add(struct list_head *it, struct list_head *after)
 {
 	it->next = after->next;
@@ -189,10 +201,16 @@ static inline void list_add(struct list_head *it, struct list_head *after)
 	it->next->prev = it;
 	after->next = it;
 }
+static inline void list_add_tail(struct list_head *it, struct list_head *head) { list_add(it, head->prev); }
 static inline void list_del(struct list_head *it)
 {
 	it->prev->next = it->next;
 	it->next->prev = it->prev;
+}
+static inline void list_del_init(struct list_head *it)
+{
+	list_del(it);
+	INIT_LIST_HEAD(it);
 }
 static inline void list_move(struct list_head *it, struct list_head *after)
 {
@@ -200,6 +218,8 @@ static inline void list_move(struct list_head *it, struct list_head *after)
 	list_add(it, after);
 }
 #define list_entry(at, type, member) container_of(at, type, member)
+#define list_first_entry(head, type, member) list_entry((head)->next, type, member)
+#define list_prev_entry(it, member) shim_entry((it)->member.prev, it, member)
 #define shim_entry(at, like, member) list_entry(at, __typeof__(*(like)), member)
 #define list_for_each_entry(it, head, member)                                                          \
 	for ((it) = shim_entry((head)->next, it, member); &(it)->member != (head);                     \

@@ -1,5 +1,5 @@
 -- What each call leaves of the wakes that a desk has to make, and of how often it left a guard as a waiter.
-use Rattle.std.proofs.Common.{◌≡◌, ℕ, ◌+◌, Bool, true, false, true≢false, List, [], ◌∷◌, inl, inr, refl, sym, ap, ◌∙◌, subst}
+use Rattle.std.proofs.Common.{◌≡◌, ℕ, ◌+◌, Bool, true, false, true≢false, List, [], ◌∷◌, inl, inr, ⊎_elim, refl, sym, ap, ◌∙◌, subst}
 use Rattle.std.specs.Prelude.{Result, Ok, Err}
 use Rattle.ww_seat.specs.declared.waits.Waits.{Waits}
 use Rattle.ww_steps.specs.declared.turn.Answer.{Answer}
@@ -8,7 +8,7 @@ use Rattle.ww_steps.specs.declared.outlook.Outlook.{Outlook}
 use Rattle.ww_steps.specs.declared.outlook.NoOutlook.{NoOutlook}
 use Rattle.ww_steps.specs.declared.outlook.NoOutlook.TheVariants.{Inside, NoLock}
 use Rattle.ww_steps.specs.Situations.{Situation}
-use Rattle.ww_steps.specs.Answers.{Balances, StaysOut, HasReleased, IsBeginAnswer, IsDoneAnswer, IsEndAnswer, IsLockAnswer, IsTryAnswer, IsSlowAnswer, IsUnlockAnswer, IsHasAnswer, IsFreeAnswer, IsCancelAnswer, IsHeedAnswer, naps_then, CountsNaps}
+use Rattle.ww_steps.specs.Answers.{Balances, StaysOut, HasReleased, IsBeginAnswer, IsDoneAnswer, IsEndAnswer, IsLockAnswer, IsTryAnswer, IsSlowAnswer, IsUnlockAnswer, IsHasAnswer, HasLookedAt, IsFreeAnswer, IsCancelAnswer, IsHeedAnswer, naps_then, CountsNaps}
 use Rattle.ww_steps.specs.Outlooks.{IsOutlookAnswer, IsWoundedAnswer}
 use Rattle.ww_steps.proofs.Account.{balances_same}
 use Rattle.ww_callers.specs.Deeds.{Call, begin, done, end, lock, try_lock, lock_slow, go_on, unlock, unlock_each, has, is_free, outlook, is_wounded, cancel, heed, HasDone, is_sleeps}
@@ -139,14 +139,18 @@ had s s' n Busy h = accounts s s' Busy refl (quiet_same s s' h.1)
 had s s' n Invalid h = accounts s s' Invalid refl (quiet_same s s' h.2)
 had s s' n _ h = absurd h
 
+-- what it knows of a lock's word counts for none of this
+saw_word : (s s' : Situation) (n word : ℕ) → HasLookedAt s n word s' → IsQuiet s s'
+saw_word s s' n word is = subst (IsQuiet s) (sym is) (record { caller = refl; cancelled = refl; debts = refl; wakes = refl; naps = refl })
+
 looked : (s s' : Situation) (n : ℕ) (a : Answer) → IsFreeAnswer s n a s' → Accounts s a s'
-looked s s' n Done h = accounts s s' Done refl (quiet_same s s' h.3)
-looked s s' n Busy h = accounts s s' Busy refl (quiet_same s s' h.1)
+looked s s' n Done h = accounts s s' Done refl (saw_word s s' n 0 h.3)
+looked s s' n Busy h = accounts s s' Busy refl (⊎_elim (λ busy. quiet_same s s' busy.1) (λ held. saw_word s s' n held.2.0 held.2.2) h)
 looked s s' n Invalid h = accounts s s' Invalid refl (quiet_same s s' h.2)
 looked s s' n _ h = absurd h
 
 looked_out : (s s' : Situation) (n : ℕ) (seen : Result Outlook NoOutlook) → IsOutlookAnswer s n seen s' → IsQuiet s s'
-looked_out s s' n (Ok seen) h = quiet_same s s' h.2
+looked_out s s' n (Ok seen) h = saw_word s s' n _ h.2.3
 looked_out s s' n (Err Inside) h = quiet_same s s' h.1
 looked_out s s' n (Err NoLock) h = quiet_same s s' h.2
 

@@ -18,11 +18,13 @@ use Rattle.ww_steps.specs.Situations.{Situation}
 use Rattle.ww_callers.specs.Stages.{Stage}
 use Rattle.ww_callers.specs.Deeds.{steps, calls, answers, halts, lock, unlock, Does}
 use Rattle.ww_callers.specs.Handing.{HasInHand}
-use Rattle.ww_callers.specs.Data.{DataAct, does, writes, reads, as_deed, WritesAt, AccessesAt, HappensBefore, in_order, handed, through, IsVisible, ReadsWhatIsVisible, wrote, DataIsHandedOver, DataIsStaleWithoutItsLock}
+use Rattle.ww_protocols.specs.Memory.{writes, reads, WritesAt, AccessesAt, IsVisible, wrote}
+use Rattle.ww_protocols.specs.Data.{releases as lets_go, HappensBefore, in_order, handed, through}
+use Rattle.ww_protocols.proofs.Data.{comes_first}
+use Rattle.ww_callers.specs.Data.{DataAct, does, accesses, as_deed, seen, access_at, ReadsOfADrive, DataIsHandedOver, DataIsStaleWithoutItsLock}
 use Rattle.ww_callers.proofs.Shown.{Desks, staged, called, answered, IsAnswer, calls_does, steps_does, answers_does}
 use Rattle.ww_callers.proofs.Turns.{once_locked}
 use Rattle.ww_callers.proofs.Starting.{is_of_world, q_3, g_3}
-use Rattle.ww_callers.proofs.Data.{comes_first}
 
 -- ---- the steps at the table
 
@@ -93,14 +95,14 @@ is_locked kind = record {
 -- ---- the drive
 
 abbrev act : ℕ → DataAct
-act zero = writes 0 0 7
+act zero = accesses (writes 0 0 7)
 act (suc zero) = does (calls 0)
 act (suc (suc zero)) = does (steps 0 (Some (performs (FastGive 0 0))))
 act (suc (suc (suc zero))) = does (answers 0 (unlock 0) Done)
 act (suc (suc (suc (suc zero)))) = does (calls 1)
 act (suc (suc (suc (suc (suc zero))))) = does (steps 1 (Some (performs (Fast 1 0))))
 act (suc (suc (suc (suc (suc (suc zero)))))) = does (answers 1 (lock 0 ToTheEnd) Done)
-act (suc (suc (suc (suc (suc (suc (suc zero))))))) = reads 1 0 7
+act (suc (suc (suc (suc (suc (suc (suc zero))))))) = accesses (reads 1 0 7)
 act (suc (suc (suc (suc (suc (suc (suc (suc i)))))))) = does halts
 
 module _ (kind : Kind) where
@@ -136,7 +138,7 @@ module _ (kind : Kind) where
   unfolding put ℕ_discrete lock_at
   second_has = record { seat = omega arith; idle = refl; owns = refl }
 
-  in_hand : (i d x : ℕ) → AccessesAt d x (act i) → HasInHand (stage i) d 0
+  in_hand : (i d x : ℕ) → AccessesAt d x (access_at act i) → HasInHand (stage i) d 0
   in_hand zero d x (value, inl is) = let own : 0 ≡ d = cc in subst (λ t. HasInHand (stage 0) t 0) own first_has
   in_hand (suc (suc (suc (suc (suc (suc (suc zero))))))) d x (value, inr is) = let own : 1 ≡ d = cc in
       subst (λ t. HasInHand (stage 7) t 0) own second_has
@@ -153,7 +155,7 @@ module _ (kind : Kind) where
 -- ---- its memory
 
 -- only the first deed writes, and only the eighth reads
-writes_first : (x k : ℕ) → WritesAt x (act k) → k ≡ 0
+writes_first : (x k : ℕ) → WritesAt x (access_at act k) → k ≡ 0
 writes_first x zero w = refl
 writes_first x (suc zero) w = let is = w.2 in absurd (cc)
 writes_first x (suc (suc zero)) w = let is = w.2 in absurd (cc)
@@ -164,7 +166,7 @@ writes_first x (suc (suc (suc (suc (suc (suc zero)))))) w = let is = w.2 in absu
 writes_first x (suc (suc (suc (suc (suc (suc (suc zero))))))) w = let is = w.2 in absurd (cc)
 writes_first x (suc (suc (suc (suc (suc (suc (suc (suc i)))))))) w = let is = w.2 in absurd (cc)
 
-reads_eighth : (j e x value : ℕ) → act j ≡ reads e x value → j ≡ 7
+reads_eighth : (j e x value : ℕ) → access_at act j ≡ reads e x value → j ≡ 7
 reads_eighth zero e x value is = absurd (cc)
 reads_eighth (suc zero) e x value is = absurd (cc)
 reads_eighth (suc (suc zero)) e x value is = absurd (cc)
@@ -175,14 +177,14 @@ reads_eighth (suc (suc (suc (suc (suc (suc zero)))))) e x value is = absurd (cc)
 reads_eighth (suc (suc (suc (suc (suc (suc (suc zero))))))) e x value is = refl
 reads_eighth (suc (suc (suc (suc (suc (suc (suc (suc i)))))))) e x value is = absurd (cc)
 
-is_visible : (x j : ℕ) → IsVisible act x 0 j
+is_visible : (x j : ℕ) → IsVisible (HappensBefore (λ i. seen (act i))) (access_at act) x 0 j
 is_visible x j = record {
-  no_later = λ b. let less = comes_first act j 0 b in omega arith;
-  unhidden = λ k w b c. let is = writes_first x k w in let less = comes_first act 0 k b in omega arith;
+  no_later = λ b. let less = comes_first (λ i. seen (act i)) j 0 b in omega arith;
+  unhidden = λ k w b c. let is = writes_first x k w in let less = comes_first (λ i. seen (act i)) 0 k b in omega arith;
 }
 
-memory : ReadsWhatIsVisible (λ _. 0) act
-memory j e x value is = let there : reads 1 0 7 ≡ reads e x value = ap act (sym (reads_eighth j e x value is)) ∙ is in
+memory : ReadsOfADrive act (λ _. 0)
+memory j e x value is = let there : reads 1 0 7 ≡ reads e x value = ap (access_at act) (sym (reads_eighth j e x value is)) ∙ is in
     let place : 0 ≡ x = cc in let same : 7 ≡ value = cc in
     inl (0, 0, ap (λ y. writes 0 y 7) place ∙ ap (writes 0 x) same, is_visible x j)
 
@@ -206,8 +208,8 @@ data_is_handed_over kind = record {
 -- ---- a read without the lock
 
 abbrev hasty : ℕ → DataAct
-hasty zero = writes 0 0 7
-hasty (suc zero) = reads 1 0 0
+hasty zero = accesses (writes 0 0 7)
+hasty (suc zero) = accesses (reads 1 0 0)
 hasty (suc (suc i)) = does halts
 
 hasty_on : (i : ℕ) → as_deed (hasty i) ≡ halts
@@ -215,26 +217,30 @@ hasty_on zero = refl
 hasty_on (suc zero) = refl
 hasty_on (suc (suc i)) = refl
 
-apart : (i j : ℕ) → HappensBefore hasty i j → i ≡ 0 → j ≡ 1 → ⊥
+hasty_releases : (i t n : ℕ) → seen (hasty i) ≢ lets_go t n
+hasty_releases zero t n is = cc
+hasty_releases (suc zero) t n is = cc
+hasty_releases (suc (suc i)) t n is = cc
+
+apart : (i j : ℕ) → HappensBefore (λ k. seen (hasty k)) i j → i ≡ 0 → j ≡ 1 → ⊥
 apart _ _ (in_order zero (suc zero) d less a b) low high = second_not_first (b ∙ sym a)
 apart _ _ (in_order zero zero d less a b) low high = absurd (omega arith)
 apart _ _ (in_order zero (suc (suc j)) d less a b) low high = absurd (omega arith)
 apart _ _ (in_order (suc i) j d less a b) low high = absurd (omega arith)
-apart _ _ (handed i j d e n less a b) low high = ⊎_elim (λ is. let z = sym (hasty_on i) ∙ is in cc) (λ is. let z = sym (hasty_on i) ∙ is in cc) a
-apart _ _ (through i k j a b) low high = let x = comes_first hasty i k a in let y = comes_first hasty k j b in omega arith
+apart _ _ (handed i j d e n less a b) low high = hasty_releases i d n a
+apart _ _ (through i k j a b) low high = let x = comes_first (λ n. seen (hasty n)) i k a in let y = comes_first (λ n. seen (hasty n)) k j b in omega arith
 
-hasty_writes : (x k : ℕ) → WritesAt x (hasty k) → k ≡ 0
+hasty_writes : (x k : ℕ) → WritesAt x (access_at hasty k) → k ≡ 0
 hasty_writes x zero w = refl
 hasty_writes x (suc zero) w = let is = w.2 in absurd (cc)
 hasty_writes x (suc (suc i)) w = let is = w.2 in absurd (cc)
 
-hasty_memory : ReadsWhatIsVisible (λ _. 0) hasty
+hasty_memory : ReadsOfADrive hasty (λ _. 0)
 hasty_memory zero e x value is = absurd (cc)
 hasty_memory (suc zero) e x value is = inr ((let old : value ≡ 0 = cc in old), λ k w b. apart k 1 b (hasty_writes x k w) refl)
 hasty_memory (suc (suc i)) e x value is = absurd (cc)
 
-is_stale : ◌≢◌ {A = ℕ} 0 (wrote (λ _. 0) hasty 1 0)
-unfolding put ℕ_discrete
+is_stale : ◌≢◌ {A = ℕ} 0 (wrote (λ _. 0) (access_at hasty) 1 0)
 is_stale is = omega arith
 
 pub data_is_stale_without_its_lock : DataIsStaleWithoutItsLock

@@ -4,6 +4,7 @@ pub mod Held
 pub mod Answered
 pub mod Outside
 pub mod Ordered
+pub mod Looking
 pub mod Kept
 pub mod Keeping
 pub mod Runs

@@ -18,7 +18,7 @@ pub desks_hold_what_they_own : DesksHoldWhatTheyOwn
 desks_hold_what_they_own s d n = let same = d.keeps.owns.same n in let is = d.seen in cc
 
 -- between two calls the table says of the seat what its desk's view says
-in_hand : {key : Start} (g : Stage key) → IsDriven g → (d n : ℕ) → HasInHand g d n → owns (g.moment.part d).core n ≡ true
+pub in_hand : {key : Start} (g : Stage key) → IsDriven g → (d n : ℕ) → HasInHand g d n → owns (g.moment.part d).core n ≡ true
 in_hand g from d n h = let k = in_order g from d h.seat in
     ap (λ (v : View). owns v n) (sym (k.current.view h.idle)) ∙ h.owns
 

@@ -1,9 +1,10 @@
 -- What holds of desks that are driven so.
-use Rattle.std.specs.Prelude.{ℕ, suc, ◌≡◌, ◌≢◌, ◌<◌, ◌⊎◌, true, false, List, Option, Some, None}
+use Rattle.std.specs.Prelude.{ℕ, suc, ◌≡◌, ◌≢◌, ◌<◌, ◌⊎◌, true, false, List, [], Option, Some, None, Ok}
 use Rattle.ww_model.specs.declared.event.Event.TheVariants.{Die, Leave}
 use Rattle.ww_model.specs.Waits.{IsOneOf}
 use Rattle.atomic_table.specs.Seated.{TableId}
-use Rattle.ww_model.specs.State.{start}
+use Rattle.ww_model.specs.declared.state.Holder.TheVariants.{Nobody}
+use Rattle.ww_model.specs.State.{State, start, word_of}
 use Rattle.ww_invariant.specs.declared.cells.Start.{Start}
 use Rattle.ww_invariant.specs.Rule.{St, Ruled, first_part, places_for}
 use Rattle.ww_laws.specs.Scene.{Step, performs}
@@ -13,13 +14,17 @@ use Rattle.ww_laws.specs.GoingOn.{AreDeadlocked}
 use Rattle.ww_refines.specs.Moment.{core, view, HasToWake, Acts, HasLeftToWait, IsToldOf}
 use Rattle.ww_refines.specs.Moves.{Follows}
 use Rattle.ww_refines.specs.Naps.{ArePlaysOf, is_to_sleep, HaveNone, SleepsLast}
+use Rattle.ww_refines.specs.Seen.{SawWord}
 use Rattle.ww_refines.specs.Runs.{IsOfRun, HasToWaitThere}
 use Rattle.ww_refines.specs.Endless.{IsEndless}
 use Rattle.ww_refines.specs.Deadlocks.{IsScheduledThere, HoldersGoOnThere, EndsSomeWaitThere}
 use Rattle.ww_seat.specs.Marks.{IsMarked}
 use Rattle.ww_steps.specs.declared.turn.Answer.{Answer}
-use Rattle.ww_steps.specs.declared.turn.Answer.TheVariants.{Sleeps}
-use Rattle.ww_steps.specs.Situations.{Situation}
+use Rattle.ww_steps.specs.declared.turn.Answer.TheVariants.{Done, Busy, Sleeps}
+use Rattle.ww_steps.specs.declared.outlook.Outlook.{Outlook}
+use Rattle.ww_steps.specs.Situations.{Situation, is_at_rest}
+use Rattle.ww_steps.specs.Answers.{IsFreeAnswer}
+use Rattle.ww_steps.specs.Outlooks.{IsOutlookAnswer, shown_by}
 use Rattle.ww_callers.specs.Stages.{Stage, IsDesk, StandsOutside, IsFirstStage}
 use Rattle.ww_callers.specs.Deeds.{Call, HasDone, Deed, steps, wakes, parks, rises, Does, IsDriven}
 
@@ -53,6 +58,25 @@ SleepsAtItsEnd _ xs = HaveNone is_to_sleep xs
 abbrev pub CallsSleepLast : Type 0
 CallsSleepLast = (key : Start) (call : Call) (s s' : Situation) (a : Answer) (xs : List (Option Step)) → HasDone call s a s' →
     IsDesk s' → ArePlaysOf key s.view xs s'.view → SleepsAtItsEnd a xs
+
+-- ---- what its looks saw
+
+-- nobody has the lock, and nobody waits for it
+abbrev pub IsFreeThere : State → ℕ → Type 0
+IsFreeThere c n = (c.owner n ≡ Nobody) × (c.queue n ≡ [])
+
+-- Whatever the seat of a desk did at the table during a call that looked at lock n: amid that there was a moment of which the
+-- answer is true.
+pub record LooksAreTrue : Type 0 where
+  pub free : (key : Start) (s s' : Situation) (n : ℕ) (xs : List (Option Step)) → IsFreeAnswer s n Done s' →
+      ArePlaysOf key s.view xs s'.view →
+      (w : SawWord key s.view xs s'.view n 0) × IsFreeThere (core w.look.moment) n
+  pub busy : (key : Start) (s s' : Situation) (n : ℕ) (xs : List (Option Step)) → is_at_rest s.turn ≡ true →
+      IsFreeAnswer s n Busy s' → ArePlaysOf key s.view xs s'.view →
+      (word : ℕ) × (w : SawWord key s.view xs s'.view n word) × (¬ IsFreeThere (core w.look.moment) n)
+  pub whose : (key : Start) (s s' : Situation) (n : ℕ) (seen : Outlook) (xs : List (Option Step)) →
+      IsOutlookAnswer s n (Ok seen) s' → ArePlaysOf key s.view xs s'.view →
+      (word : ℕ) × (w : SawWord key s.view xs s'.view n word) × (seen ≡ shown_by s.stamp (word_of (core w.look.moment) n))
 
 -- ---- drives are runs
 

@@ -7,7 +7,7 @@ use lib.ListN.{get_elem?}
 use Rattle.atomic_table.specs.Table.{Step, step, Act, keeps, takes, gives, chain, stepped, carried_after, Valid, Allows, rest}
 use Rattle.atomic_table.proofs.Lists.{set_here, set_else, exchanged}
 use Rattle.ww_word.specs.declared.owner.Owner.{Owner}
-use Rattle.ww_word.specs.Owner.{with_waiters}
+use Rattle.ww_word.specs.Owner.{idle, with_waiters}
 use Rattle.ww_word.specs.AnySeats.{Fits, IsValid, packed}
 use Rattle.ww_word.proofs.AnyWords.{packing_is_injective}
 use Rattle.ww_queue.proofs.Rooms.{room_for}
@@ -15,35 +15,37 @@ use Rattle.ww_queue.specs.declared.kind.Kind.{Kind}
 use Rattle.ww_queue.specs.declared.kind.Kind.TheVariants.{WoundWait, WaitDie}
 use Rattle.ww_queue.specs.declared.entry.Entry.{Entry}
 use Rattle.ww_queue.specs.Queue.{StandsNot, IsNewStamp, left}
-use Rattle.ww_model.specs.declared.state.Holder.TheVariants.{Taken}
+use Rattle.ww_model.specs.declared.state.Holder.TheVariants.{Nobody, Taken}
 use Rattle.ww_model.specs.State.{State}
 use Rattle.ww_model.specs.Run.{Reached}
 use Rattle.ww_model.proofs.Kept.{reached_is_lawful}
 use Rattle.ww_model.proofs.Holders.{not_empty}
 use Rattle.ww_model.proofs.Leaving.{waiters_are_seats}
 use Rattle.ww_model.proofs.Ranges.{new_stamp}
+use Rattle.ww_plain.proofs.Members.{true_or_false}
 use Rattle.ww_plain.specs.declared.node.Node.{Node}
 use Rattle.ww_plain.specs.Graph.{node_at}
 use Rattle.ww_plain.specs.History.{last_graph}
 use Rattle.ww_view.specs.declared.view.View.{View}
 use Rattle.ww_model.specs.State.{word_of}
 use Rattle.ww_view.specs.Word.{taken_word, asked_word, given_word, rest_word}
-use Rattle.ww_view.specs.View.{Knows, IsBare, IsQuiet, IsAway}
+use Rattle.ww_view.specs.View.{owns, Knows, IsBare, IsQuiet, IsAway}
 use Rattle.ww_view.specs.May.{MayEnter, MayExit, MayJoin, MayTake, MayGive, MayAsk, MayDie, MaySign, MayClear, MayHeed, MayStop}
 use Rattle.ww_view.specs.Made as made
-use Rattle.ww_view.proofs.Inside.{mine_look, mine_lost_sign, mine_read, mine_read_none, mine_glanced, mine_found_pending, mine_shut_out, mine_uncancelled, mine_stepped}
-use Rattle.ww_view.proofs.Written.{HaveRoom, wide_word_is_valid}
+use Rattle.ww_view.proofs.Inside.{mine_look, mine_lost_sign, mine_read, mine_read_none, mine_glanced, mine_seen_word, mine_found_pending, mine_shut_out, mine_uncancelled, mine_stepped}
+use Rattle.ww_view.proofs.Tells.{no_seat}
+use Rattle.ww_view.proofs.Written.{HaveRoom, wide_found_is, wide_word_is_valid}
 use Rattle.ww_invariant.specs.declared.cells.Cell.{Cell}
 use Rattle.ww_invariant.specs.declared.cells.Cell.TheVariants.{Content, Line}
 use Rattle.ww_invariant.specs.declared.cells.Start.{Start}
 use Rattle.ww_invariant.specs.Layout.{lock_at, guard_at, sign_at, cancel_at}
 use Rattle.ww_invariant.specs.Rule.{St, Sat, first_graph, Ruled}
-use Rattle.ww_invariant.specs.Steps.{knowing, whose_to}
+use Rattle.ww_invariant.specs.Steps.{knowing, seeing, whose_to, IsToldBy}
 use Rattle.ww_invariant.specs.Guards.{lost, AreSeats, IsSeenBy, entering, exiting, looking, glancing, enters_to, exits_to, looks_to, glances_to, counts_to}
 use Rattle.ww_invariant.specs.Waiting.{HasListOnTop, StandsIfWaiting, Expects, IsStillThere, tries_to, HasPlace, joining, joins, taking_inside, under_top, takes_inside, giving_inside, gives_inside, takes_bare_inside, gives_bare_inside, asking, asks, dying, dies, dies_to}
 use Rattle.ww_invariant.specs.Signs.{condemning, noting, having_read, finding_none, clearing, signs_to, reads_to, clears_to}
 use Rattle.ww_invariant.specs.Cancels.{cancelling, heeding, stopping, stops, leaves_to, cancels_to, heeds_to}
-use Rattle.ww_invariant.proofs.Moves.{Shot, on_owner, as_step, Exchanges, Hits, cas, looks, low, node_there, have_room, room_is, at_room, same_lock}
+use Rattle.ww_invariant.proofs.Moves.{Shot, on_owner, as_step, Exchanges, Hits, cas, looks, low, node_there, have_room, room_is, at_room, same_lock, idle_valid, told}
 use Rattle.ww_invariant.proofs.Told.{stands_as, stands_there, seen_by, death_is_older}
 use Rattle.ww_invariant.proofs.InsideMoves.{enter_makes, exit_makes, join_makes, take_makes, give_makes, take_bare_makes, give_bare_makes, ask_makes, die_makes, sign_makes, clear_makes, leave_makes, cancel_makes, heed_makes, mine, inside_low}
 
@@ -202,17 +204,26 @@ module _ (key : Start) (slots id : ℕ) (me : Sat) (seated : me.0.seated ≡ tru
 
   pub whose_anywhere : (n i : ℕ) → i ≡ lock_at key.locks n → n < key.locks
       → Allows (Ruled key) slots id me i (λ x. x) (whose_to (step slots i 0 0 none) me)
-  whose_anywhere n i is low s r deep at small = let c : State = r.core in (
-    me.0,
+  whose_anywhere n i is low s r deep at small = let c : State = r.core in let v : View = view in let x : ℕ = get_or s.words i 0 in (
+    seeing me.0 n x,
     keeps,
     tt,
-    looks key s r id me at seated i view refl (λ m. refl) (mine key s r id me at seated).part.knows,
+    looks key s r id me at seated i (made.has_seen_word v n x) refl (λ m. refl) (mine_seen_word c v (mine key s r id me at seated).part.knows n x),
     (
-      refl,
       (
         word_of c n,
         wide_word_is_valid c n r.reached (have_room key s r),
         ap (λ (j : ℕ). get_or s.words j 0) is ∙ r.words.owners n low,
+      ),
+      λ j there. let e : n ≡ j = same_lock key s r id me at seated n j (sym is ∙ there) in (
+        ap (λ (k : ℕ). let z : Sat = (seeing me.0 k x, me.1) in z) e,
+        λ away. subst (λ (p : ℕ × ℕ). IsToldBy v p.0 (get_or s.words p.1 0)) (λ t. (e t, sym is t)) (told key s r id me at seated n low away),
+        λ none. let free : c.owner n ≡ Nobody = no_seat c n idle (wide_found_is c n idle r.reached (have_room key s r) idle_valid
+            (sym none ∙ ap (λ (k : ℕ). get_or s.words k 0) is ∙ r.words.owners n low)) refl in
+            elim (true_or_false (owns v j)) [
+              | inl own ↦ absurd (let has = sym free ∙ ap c.owner e ∙ (mine key s r id me at seated).part.knows.owned.has j own in cc)
+              | inr lacks ↦ lacks
+            ],
       ),
     ),
   )

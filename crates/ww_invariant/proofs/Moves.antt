@@ -57,7 +57,7 @@ use Rattle.ww_invariant.proofs.Regions.{owner_set, drawn_set, none_set, spent_se
 use Rattle.ww_invariant.proofs.Told.{told_by}
 use Rattle.ww_invariant.proofs.Fits.{seats_stay, there_kept, strange_on, Spares, part_on, sits_on, stays_as}
 
-idle_valid : IsValid idle
+pub idle_valid : IsValid idle
 idle_valid = record { seating = (refl, omega arith); flags = inl refl }
 
 -- the counts of draws never end

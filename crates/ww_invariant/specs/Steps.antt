@@ -15,7 +15,7 @@ use Rattle.ww_plain.specs.Meaning.{graph_after}
 use Rattle.ww_plain.specs.History.{Recorded, IsNext}
 use Rattle.ww_view.specs.declared.view.View.{View}
 use Rattle.ww_view.specs.View.{owns, IsAway, IsBare}
-use Rattle.ww_view.specs.Made.{begun, ended, fast_taken, fast_missed, fast_given, fast_kept, has_read}
+use Rattle.ww_view.specs.Made.{begun, ended, fast_taken, fast_missed, fast_given, fast_kept, has_read, has_seen_word}
 use Rattle.ww_invariant.specs.declared.cells.Cell.{Cell}
 use Rattle.ww_invariant.specs.declared.cells.Cell.TheVariants.{Content}
 use Rattle.ww_invariant.specs.declared.cells.Part.{Part}
@@ -109,10 +109,14 @@ gives_bare_to st m found m' = (n : ℕ) → st.word ≡ owner_at m.0.part.core.r
 abbrev pub owns_to : Step Cell → Sat → ℕ → Sat → Type 0
 owns_to st m found m' = (m' ≡ m) × ((n : ℕ) → st.word ≡ owner_at m.0.part.core.room n → IsToldBy m.0.part.core n found)
 
--- ---- whose: the owner word of any lock, which is that of an owner
+-- ---- whose: the owner word of any lock, which is that of an owner, and of which the view notes what was found
+
+abbrev pub seeing : Sight → ℕ → ℕ → Sight
+seeing v n found = knowing v (has_seen_word v.part.core n found)
 
 abbrev pub whose_to : Step Cell → Sat → ℕ → Sat → Type 0
-whose_to st m found m' = (m' ≡ m) × ((o : Owner) × IsValid o × (found ≡ packed o))
+whose_to st m found m' = ((o : Owner) × IsValid o × (found ≡ packed o)) × ((n : ℕ) → st.word ≡ owner_at m.0.part.core.room n →
+    (m' ≡ (seeing m.0 n found, m.1)) × (IsAway m.0.part.core → IsToldBy m.0.part.core n found) × (found ≡ 0 → owns m.0.part.core n ≡ false))
 
 -- ---- end: the context ends, where the own sign is 0
 

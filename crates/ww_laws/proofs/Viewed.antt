@@ -16,13 +16,13 @@ use Rattle.ww_view.specs.declared.view.View.{View}
 use Rattle.ww_view.specs.View.{Knows, first_view}
 use Rattle.ww_view.specs.May.{Shows}
 use Rattle.ww_view.specs.Made.{exited, found_uncancelled, view_after}
-use Rattle.ww_view.proofs.Inside.{mine_look, mine_lost_sign, mine_read, mine_missed, mine_kept, mine_glanced, mine_found_pending, mine_shut_out, mine_stepped}
+use Rattle.ww_view.proofs.Inside.{mine_look, mine_lost_sign, mine_read, mine_missed, mine_kept, mine_glanced, mine_seen_word, mine_found_pending, mine_shut_out, mine_stepped}
 use Rattle.ww_laws.specs.Scene.{Phase, Scene, first_scene, acting, going_to_sleep, asleep, Step, performs, leaves_to_sleep, finds_no_sign, finds_no_cancel, wakes, falls_asleep, rises, May, next, woken_by, IsReached, begins, goes_on}
 use Rattle.ww_laws.specs.InCall.{IsInCall, IsResting, also, mover}
 use Rattle.ww_laws.proofs.Woken.{debt_was}
 use Rattle.ww_laws.proofs.Calls.{shown_is_a_step, leaving_is_a_step, sign_look_is_a_step, cancel_look_is_a_step, others_leave_calls_alone, call_stays}
 use Rattle.ww_laws.proofs.AtRest.{start_is_in_call, leaving_comes_to_rest, rest_stays, rising_is_in_call}
-use Rattle.ww_laws.specs.Views.{Learns, looks, notes, reads, keeps, misses, glances, pends, is_shut_out, steps, FindsOn, no_more, more, MayByView, MadeBy, IsViewedRun, ViewedRunsAreRuns, ViewedWaitersSleep, ViewedDeadlocksEnd, ViewedRunsAreThere, LooksAgainStill, LaterStays, ViewedRunsAsk}
+use Rattle.ww_laws.specs.Views.{Learns, looks, notes, reads, keeps, misses, glances, sees, pends, is_shut_out, steps, FindsOn, no_more, more, MayByView, MadeBy, IsViewedRun, ViewedRunsAreRuns, ViewedWaitersSleep, ViewedDeadlocksEnd, ViewedRunsAreThere, LooksAgainStill, LaterStays, ViewedRunsAsk}
 use Rattle.ww_laws.proofs.Deadlocks.{no_deadlock_lasts}
 use Rattle.ww_laws.proofs.Asked.{who_leaves_has_asked}
 use Rattle.ww_laws.proofs.Endless.{holds_at}
@@ -62,6 +62,7 @@ knows_found c v w k (reads signed) = mine_read c v k (c.sign v.who) refl (λ non
 knows_found c v w k keeps = mine_kept c v k
 knows_found c v w k misses = mine_missed c v k
 knows_found c v w k glances = mine_glanced c v k
+knows_found c v w k (sees n) = mine_seen_word c v k n _
 knows_found c v w k pends = mine_found_pending c v k
 knows_found c v w k is_shut_out = mine_shut_out c v k
 knows_found c v w k steps = mine_stepped c v k
@@ -69,6 +70,7 @@ knows_found c v w k steps = mine_stepped c v k
 fresh_before : (c : State) (v w : View) → Learns c v w → w.fresh ≡ true → v.fresh ≡ true
 fresh_before c v w (reads signed) fresh = absurd (signed (same_number (c.sign v.who) 0 fresh))
 fresh_before c v w glances fresh = fresh
+fresh_before c v w (sees n) fresh = fresh
 fresh_before c v w pends fresh = fresh
 fresh_before c v w _ fresh = absurd (true≢false (sym fresh))
 

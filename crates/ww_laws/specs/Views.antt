@@ -1,5 +1,6 @@
 -- Runs of seats that go by their views, as seats do at the table.
 use Rattle.std.specs.Prelude.{ℕ, suc, ◌≡◌, ◌≢◌, ◌<◌, ◌⊎◌, true, false, List}
+use Rattle.ww_word.specs.AnySeats.{packed}
 use Rattle.ww_queue.specs.declared.kind.Kind.{Kind}
 use Rattle.ww_model.specs.declared.event.Event.{Event}
 use Rattle.ww_model.specs.declared.event.Event.TheVariants.{Guard, Unguard}
@@ -9,7 +10,7 @@ use Rattle.ww_model.specs.Waits.{IsOneOf}
 use Rattle.ww_view.specs.declared.view.View.{View}
 use Rattle.ww_view.specs.View.{IsQuiet, first_view}
 use Rattle.ww_view.specs.May.{MayLeave, Shows}
-use Rattle.ww_view.specs.Made.{exited, fast_missed, fast_kept, glanced, found_pending, shut_out, has_looked, noted, has_read, found_none, found_uncancelled, stepped, view_after}
+use Rattle.ww_view.specs.Made.{exited, fast_missed, fast_kept, glanced, has_seen_word, found_pending, shut_out, has_looked, noted, has_read, found_none, found_uncancelled, stepped, view_after}
 use Rattle.ww_laws.specs.Scene.{Scene, first_scene, acting, going_to_sleep, asleep, Step, performs, leaves_to_sleep, finds_no_sign, finds_no_cancel, wakes, falls_asleep, rises, next}
 use Rattle.ww_laws.specs.Sleepers.{IsEndlessRun}
 use Rattle.ww_laws.specs.InCall.{mover}
@@ -19,7 +20,7 @@ use Rattle.ww_laws.specs.GoingOn.{AreDeadlocked, IsResolved}
 -- ---- what a seat does by its view
 
 -- What the view of a seat becomes where the seat finds something without an event and without a step of the scene: it
--- reads the owner word inside, sees that a seat or itself is signed, or its step was lost or told nothing that lasts.
+-- reads an owner word, sees that a seat or itself is signed, or its step was lost or told nothing that lasts.
 pub data Learns (c : State) (v : View) : View → Type 0 where
   looks : (n : ℕ) → v.inside ≡ suc n → Learns c v (has_looked v (word_of c n))
   notes : (u : ℕ) → c.sign u ≢ 0 → Learns c v (noted v u)
@@ -27,6 +28,7 @@ pub data Learns (c : State) (v : View) : View → Type 0 where
   keeps : Learns c v (fast_kept v)
   misses : Learns c v (fast_missed v)
   glances : Learns c v (glanced v)
+  sees : (n : ℕ) → Learns c v (has_seen_word v n (packed (word_of c n)))
   pends : Learns c v (found_pending v)
   is_shut_out : Learns c v (shut_out v)
   steps : Learns c v (stepped v)

@@ -1,9 +1,9 @@
 -- Runs of few steps, of one seat and of threads and tasks 0, 1 and 2.
-use Rattle.std.proofs.Common.{◌≡◌, ◌≢◌, ◌<◌, inl, inr, ℕ, true, false, Option, Some, None, List, [], ◌∷◌, refl, sym, ap, ◌∙◌, subst, arith, true≢false}
+use Rattle.std.proofs.Common.{◌≡◌, ◌≢◌, ◌<◌, inl, inr, ℕ, true, false, Option, Some, None, List, [], ◌∷◌, refl, sym, ◌∙◌, subst, arith, true≢false}
 use native.Mathlib.Decide.{ℕ_discrete}
-use Rattle.ww_protocols.specs.Seat.{Word, away, came, uses, Keep, stranger, keeps, found_used, nothing, to_call, to_offer, set, claims, goes_over, comes_to_keep, finds_unkept, finds_kept, gives, returns, returns_own, finds_own_free, uses_own, finds_own_used, leaves_used, finds_own_returned, Rule, claims_no_kept, keeps_as_it_came, ends_by_exchange, returns_by_exchange, looks_as_it_joins, asks_who_waits, calls_the_next, as_user, as_keeper}
+use Rattle.ww_protocols.specs.Seat.{nothing, to_call, to_offer, set, claims, gives, goes_over, finds_own_free, uses_own, takes_own, leaves_own, Rule, claims_no_own, uses_its_own, takes_nobodys, uses_before_it_leaves, looks_as_it_joins, asks_who_waits, calls_the_next}
 use Rattle.ww_protocols.specs.Class.{out, waits, called, due, Class, opened, QueueStep, acts, joins, sees_used, has_looked, serves_threads, serves_tasks, calls, leaves_called, MayBeMade, after_step, ReachedWithout, begins, goes_on}
-use Rattle.ww_protocols.specs.Witness.{HasKeptAndLent, HasOneThatWaits, SuchAreReached, HasTwoUsers, HasNoKeeper, HasForgotten, HasUncalled, EachRuleMatters}
+use Rattle.ww_protocols.specs.Witness.{HasLent, HasOneThatWaits, SuchAreReached, HasTwoUsers, HasForgotten, HasUncalled, EachRuleMatters}
 use Rattle.ww_protocols.proofs.Sets.{set_else, set_cases}
 
 abbrev after : Class → List QueueStep → Class
@@ -19,38 +19,32 @@ reached_on : (left_out : Option Rule) (c : Class) (steps : List QueueStep) → R
 reached_on left_out c [] r may = r
 reached_on left_out c (step ∷ steps) r may = reached_on left_out (after_step c step) steps (goes_on c step r may.0) may.1
 
--- one seat, which threads may keep; and one for which tasks are called
+-- one seat: a thread's own; one that threads use; and one for which tasks are called
+abbrev of_own : Class
+of_own = opened 1 (λ _. true) (λ _. false)
+
 abbrev of_threads : Class
 of_threads = opened 1 (λ _. false) (λ _. false)
 
 abbrev of_tasks : Class
-of_tasks = opened 1 (λ _. true) (λ _. true)
+of_tasks = opened 1 (λ _. false) (λ _. true)
 
 -- ---- by the rules
 
-abbrev both_steps : List QueueStep
-both_steps = acts 0 (claims 0) ∷ acts 0 (comes_to_keep 0) ∷ acts 0 (goes_over 0 1) ∷ acts 0 (finds_kept 1) ∷ acts 0 (finds_own_used 0) ∷ []
+-- the second goes on with what the first began by its own seat, which is the third's own once the first has ended
+abbrev lent_steps : List QueueStep
+lent_steps = acts 0 (takes_own 0) ∷ acts 0 (finds_own_free 0) ∷ acts 0 (uses_own 0) ∷ acts 0 (goes_over 0 1) ∷ acts 0 (leaves_own 0)
+    ∷ acts 0 (takes_own 2) ∷ []
 
-both_at_once : HasKeptAndLent
+lent : HasLent
 unfolding set ℕ_discrete
-both_at_once = record {
-  class_ = after of_threads both_steps;
+lent = record {
+  class_ = after of_own lent_steps;
   s = 0;
-  reached = reached_on None of_threads both_steps (begins 1 (λ _. false) (λ _. false)) (
-    (refl, inr refl),
-    (
-      (refl, (λ is. let z : ⊥ = cc in z), inr refl),
-      (
-        inr refl,
-        (
-          (inr refl, refl),
-          ((refl, λ is. true≢false (ap (λ (w : Word). w.busy) is)), tt),
-        ),
-      ),
-    ),
-  );
+  reached = reached_on None of_own lent_steps (begins 1 (λ _. true) (λ _. false))
+      (inr refl, ((refl, refl, inr refl), (refl, (refl, ((refl, inr refl), (inr refl, tt))))));
   user = (1, refl);
-  keeper = (0, refl);
+  owner = (2, refl);
   others = λ is. omega arith;
 }
 
@@ -66,9 +60,9 @@ at_0 : (P : ℕ → Type 0) → P 0 → (s : ℕ) → s < 1 → P s
 at_0 P here s is = let same : 0 ≡ s = omega arith in subst P same here
 
 -- the second and the third wait for the seat of the first, and the second is called
-abbrev pub waits_steps : List QueueStep
-waits_steps = acts 0 (claims 0) ∷ joins 1 waits true ∷ sees_used 1 0 ∷ has_looked 1 ∷ joins 2 waits false ∷ acts 0 (finds_unkept 0)
-    ∷ acts 0 (gives 0) ∷ serves_threads 0 0 ∷ calls 1 ∷ serves_tasks 0 0 ∷ []
+abbrev waits_steps : List QueueStep
+waits_steps = acts 0 (claims 0) ∷ joins 1 waits true ∷ sees_used 1 0 ∷ has_looked 1 ∷ joins 2 waits false ∷ acts 0 (gives 0)
+    ∷ serves_threads 0 0 ∷ calls 1 ∷ serves_tasks 0 0 ∷ []
 
 no_due : (t : ℕ) → set (set (λ _. out) 1 waits) 2 waits t ≢ due
 no_due t = set_cases (set (λ _. out) 1 waits) 2 waits t (λ it. it ≢ due) (λ _ is. let z : ⊥ = cc in z)
@@ -79,7 +73,7 @@ in_use_by free = true≢false free.0
 
 waited : (left_out : Option Rule) → ReachedWithout left_out (after of_tasks waits_steps)
 unfolding set ℕ_discrete
-waited left_out = reached_on left_out of_tasks waits_steps (begins 1 (λ _. true) (λ _. true)) (
+waited left_out = reached_on left_out of_tasks waits_steps (begins 1 (λ _. false) (λ _. true)) (
   (refl, inr refl),
   (
     record { nobody_looks = refl; is_out = refl; stays = inl refl; looks_first = inr (inl refl) },
@@ -90,17 +84,14 @@ waited left_out = reached_on left_out of_tasks waits_steps (begins 1 (λ _. true
         (
           record { nobody_looks = refl; is_out = refl; stays = inl refl; looks_first = inr (inr (inr (refl, inl (1, refl)))) },
           (
-            (inl refl, refl),
+            (refl, refl),
             (
-              refl,
+              (refl, inr (inr no_due)),
               (
-                (refl, inr (inr no_due)),
+                refl,
                 (
-                  refl,
-                  (
-                    record { has_to = refl; nobody_looks = refl; no_need = inr (inr (inr (inl (1, refl)))) },
-                    tt,
-                  ),
+                  record { has_to = refl; nobody_looks = refl; no_need = inr (inr (inr (inl (1, refl)))) },
+                  tt,
                 ),
               ),
             ),
@@ -113,168 +104,110 @@ waited left_out = reached_on left_out of_tasks waits_steps (begins 1 (λ _. true
 
 one_that_waits : HasOneThatWaits
 unfolding set ℕ_discrete
-one_that_waits = record {
-  class_ = after of_tasks waits_steps;
-  s = 0;
-  reached = waited None;
-  rest = record { nobody_looks = refl; all_settled = at_0 (λ s. (t : ℕ) → ((after of_tasks waits_steps).seat s).debt t ≡ nothing) all_done };
-  is_seat = omega arith;
-  free = (refl, refl);
-  open_now = refl;
-  one_waits = (2, refl);
-}
+one_that_waits = (
+  record {
+    class_ = after of_tasks waits_steps;
+    s = 0;
+    reached = waited None;
+    rest = record { nobody_looks = refl; all_settled = at_0 (λ s. (t : ℕ) → ((after of_tasks waits_steps).seat s).debt t ≡ nothing) all_done };
+    is_seat = omega arith;
+    free = (refl, refl);
+  },
+  refl,
+  (2, refl),
+)
 
 pub such_are_reached : SuchAreReached
-such_are_reached = (both_at_once, one_that_waits)
+such_are_reached = (lent, one_that_waits)
 
 -- ---- without a rule
 
-not_away : uses ≢ away
-not_away is = let z : ⊥ = cc in z
+-- the first and the second come to use one seat
+two_users : (rule : Rule) (steps : List QueueStep) → AllMay (Some rule) of_own steps → ((after of_own steps).seat 0).user 0 ≡ true →
+    ((after of_own steps).seat 0).user 1 ≡ true → HasTwoUsers (Some rule)
+two_users rule steps may one two = record {
+  class_ = after of_own steps;
+  s = 0;
+  reached = reached_on (Some rule) of_own steps (begins 1 (λ _. true) (λ _. false)) may;
+  one = (0, one);
+  two = (1, two);
+  others = λ is. omega arith;
+}
 
-came_not_away : came ≢ away
-came_not_away is = let z : ⊥ = cc in z
-
--- the first keeps the seat, and finds it free; then the second claims it, and the first uses it
+-- the first has its own seat, and finds it free; then the second claims it, and the first uses it
 abbrev claimed_steps : List QueueStep
-claimed_steps = acts 0 (claims 0) ∷ acts 0 (comes_to_keep 0) ∷ acts 0 (returns_own 0) ∷ acts 0 (finds_own_free 0) ∷ acts 0 (claims 1)
-    ∷ acts 0 (uses_own 0) ∷ []
+claimed_steps = acts 0 (takes_own 0) ∷ acts 0 (finds_own_free 0) ∷ acts 0 (claims 1) ∷ acts 0 (uses_own 0) ∷ []
 
-claimed : HasTwoUsers (Some claims_no_kept)
+claimed : HasTwoUsers (Some claims_no_own)
 unfolding set ℕ_discrete
-claimed = record {
-  class_ = after of_threads claimed_steps;
-  s = 0;
-  reached = reached_on (Some claims_no_kept) of_threads claimed_steps (begins 1 (λ _. false) (λ _. false))
-      ((refl, inl refl), ((refl, came_not_away, inr refl), ((refl, refl), ((refl, refl), ((refl, inl refl), (refl, tt))))));
-  one = (as_user 0, not_away);
-  two = (as_user 1, came_not_away);
-  others = λ is. let z : ⊥ = cc in z;
-}
+claimed = two_users claims_no_own claimed_steps (inr refl, ((refl, refl, inr refl), ((refl, inl refl), (refl, tt)))) refl refl
 
--- the second comes to keep the seat that it uses, which the first keeps
-abbrev kept_steps : List QueueStep
-kept_steps = acts 0 (claims 0) ∷ acts 0 (comes_to_keep 0) ∷ acts 0 (goes_over 0 1) ∷ acts 0 (comes_to_keep 1) ∷ acts 0 (returns_own 1)
-    ∷ acts 0 (finds_own_free 0) ∷ acts 0 (finds_own_free 1) ∷ acts 0 (uses_own 0) ∷ acts 0 (uses_own 1) ∷ []
+-- the second finds it free too
+abbrev not_its_own_steps : List QueueStep
+not_its_own_steps = acts 0 (takes_own 0) ∷ acts 0 (finds_own_free 0) ∷ acts 0 (finds_own_free 1) ∷ acts 0 (uses_own 0) ∷ acts 0 (uses_own 1) ∷ []
 
-kept : HasTwoUsers (Some keeps_as_it_came)
+not_its_own : HasTwoUsers (Some uses_its_own)
 unfolding set ℕ_discrete
-kept = record {
-  class_ = after of_threads kept_steps;
-  s = 0;
-  reached = reached_on (Some keeps_as_it_came) of_threads kept_steps (begins 1 (λ _. false) (λ _. false)) (
-    (refl, inr refl),
-    (
-      (refl, came_not_away, inl refl),
-      (
-        inr refl,
-        (
-          (refl, not_away, inl refl),
-          (
-            (refl, refl),
-            ((refl, refl), ((refl, refl), (refl, (refl, tt)))),
-          ),
-        ),
-      ),
-    ),
-  );
-  one = (as_user 0, not_away);
-  two = (as_user 1, not_away);
-  others = λ is. let z : ⊥ = cc in z;
-}
+not_its_own = two_users uses_its_own not_its_own_steps
+    (inr refl, ((refl, refl, inr refl), ((refl, refl, inl refl), (refl, (refl, tt))))) refl refl
 
--- the first stops keeping the seat, by a store, though the second uses it
-abbrev ended_steps : List QueueStep
-ended_steps = acts 0 (claims 0) ∷ acts 0 (comes_to_keep 0) ∷ acts 0 (goes_over 0 1) ∷ acts 0 (finds_own_used 0) ∷ acts 0 (finds_own_returned 0)
-    ∷ []
+-- it is both threads' own
+abbrev taken_steps : List QueueStep
+taken_steps = acts 0 (takes_own 0) ∷ acts 0 (takes_own 1) ∷ acts 0 (finds_own_free 0) ∷ acts 0 (finds_own_free 1) ∷ acts 0 (uses_own 0)
+    ∷ acts 0 (uses_own 1) ∷ []
 
-ended : HasTwoUsers (Some ends_by_exchange)
+taken : HasTwoUsers (Some takes_nobodys)
 unfolding set ℕ_discrete
-ended = record {
-  class_ = after of_threads ended_steps;
-  s = 0;
-  reached = reached_on (Some ends_by_exchange) of_threads ended_steps (begins 1 (λ _. false) (λ _. false)) (
-    (refl, inr refl),
-    (
-      (refl, came_not_away, inr refl),
-      (
-        inr refl,
-        ((refl, λ is. true≢false (ap (λ (w : Word). w.busy) is)), ((refl, inl refl), tt)),
-      ),
-    ),
-  );
-  one = (as_user 1, not_away);
-  two = (as_keeper 0, refl);
-  others = λ is. let z : ⊥ = cc in z;
-}
+taken = two_users takes_nobodys taken_steps
+    (inr refl, (inl refl, ((refl, refl, inr refl), ((refl, refl, inr refl), (refl, (refl, tt)))))) refl refl
 
--- the second has read that the seat is kept; the first stops keeping it; and the second returns it to its keeper
-abbrev returned_steps : List QueueStep
-returned_steps = acts 0 (claims 0) ∷ acts 0 (comes_to_keep 0) ∷ acts 0 (goes_over 0 1) ∷ acts 0 (finds_kept 1) ∷ acts 0 (finds_own_used 0)
-    ∷ acts 0 (leaves_used 0) ∷ acts 0 (returns 1) ∷ []
+-- the first leaves it, and uses it nevertheless
+abbrev left_steps : List QueueStep
+left_steps = acts 0 (takes_own 0) ∷ acts 0 (finds_own_free 0) ∷ acts 0 (leaves_own 0) ∷ acts 0 (takes_own 1) ∷ acts 0 (finds_own_free 1)
+    ∷ acts 0 (uses_own 0) ∷ acts 0 (uses_own 1) ∷ []
 
-nobody_keeps : (f : ℕ → Keep) → ((t : ℕ) → t ≢ 0 → f t ≡ stranger) → (t : ℕ) → set f 0 stranger t ≡ stranger
-nobody_keeps f others t = set_cases f 0 stranger t (λ it. it ≡ stranger) (λ _. refl) (λ other. others t other)
-
-returned : HasNoKeeper (Some returns_by_exchange)
+left : HasTwoUsers (Some uses_before_it_leaves)
 unfolding set ℕ_discrete
-returned = record {
-  class_ = after of_threads returned_steps;
-  s = 0;
-  reached = reached_on (Some returns_by_exchange) of_threads returned_steps (begins 1 (λ _. false) (λ _. false)) (
-    (refl, inr refl),
-    (
-      (refl, came_not_away, inr refl),
-      (
-        inr refl,
-        (
-          (inr refl, refl),
-          ((refl, λ is. true≢false (ap (λ (w : Word). w.busy) is)), ((refl, refl), ((refl, inl refl), tt))),
-        ),
-      ),
-    ),
-  );
-  kept = refl;
-  nobody = nobody_keeps (set (set (λ _. stranger) 0 keeps) 0 found_used)
-      (λ t other. set_else (set (λ _. stranger) 0 keeps) 0 found_used t other ∙ set_else (λ _. stranger) 0 keeps t other);
-}
+left = two_users uses_before_it_leaves left_steps
+    (inr refl, ((refl, refl, inr refl), ((refl, inl refl), (inr refl, ((refl, refl, inr refl), (refl, (refl, tt))))))) refl refl
 
 -- one comes to wait, and doesn't look at the seat
 unlooked : HasForgotten (Some looks_as_it_joins)
 unfolding set ℕ_discrete
-unlooked = record {
-  class_ = after of_threads (joins 0 due false ∷ []);
-  s = 0;
-  reached = reached_on (Some looks_as_it_joins) of_threads (joins 0 due false ∷ []) (begins 1 (λ _. false) (λ _. false))
-      (record { nobody_looks = refl; is_out = refl; stays = inr refl; looks_first = inl refl }, tt);
-  rest = record { nobody_looks = refl; all_settled = λ s _ t. refl };
-  is_seat = omega arith;
-  free = (refl, refl);
-  one_is_due = (0, refl);
-}
+unlooked = (
+  record {
+    class_ = after of_threads (joins 0 due false ∷ []);
+    s = 0;
+    reached = reached_on (Some looks_as_it_joins) of_threads (joins 0 due false ∷ []) (begins 1 (λ _. false) (λ _. false))
+        (record { nobody_looks = refl; is_out = refl; stays = inr refl; looks_first = inl refl }, tt);
+    rest = record { nobody_looks = refl; all_settled = λ s _ t. refl };
+    is_seat = omega arith;
+    free = (refl, refl);
+  },
+  (0, refl),
+)
 
 -- the first gives its seat, and doesn't look who waits
 abbrev unasked_steps : List QueueStep
-unasked_steps = acts 0 (claims 0) ∷ joins 1 due true ∷ sees_used 1 0 ∷ has_looked 1 ∷ acts 0 (finds_unkept 0) ∷ acts 0 (gives 0)
-    ∷ serves_threads 0 0 ∷ serves_tasks 0 0 ∷ []
+unasked_steps = acts 0 (claims 0) ∷ joins 1 due true ∷ sees_used 1 0 ∷ has_looked 1 ∷ acts 0 (gives 0) ∷ serves_threads 0 0
+    ∷ serves_tasks 0 0 ∷ []
 
 unasked : HasForgotten (Some asks_who_waits)
 unfolding set ℕ_discrete
-unasked = record {
-  class_ = after of_threads unasked_steps;
-  s = 0;
-  reached = reached_on (Some asks_who_waits) of_threads unasked_steps (begins 1 (λ _. false) (λ _. false)) (
-    (refl, inr refl),
-    (
-      record { nobody_looks = refl; is_out = refl; stays = inr refl; looks_first = inr (inl refl) },
+unasked = (
+  record {
+    class_ = after of_threads unasked_steps;
+    s = 0;
+    reached = reached_on (Some asks_who_waits) of_threads unasked_steps (begins 1 (λ _. false) (λ _. false)) (
+      (refl, inr refl),
       (
-        (refl, in_use_by),
+        record { nobody_looks = refl; is_out = refl; stays = inr refl; looks_first = inr (inl refl) },
         (
-          (refl, λ s is. inl (seen s is)),
+          (refl, in_use_by),
           (
-            (inl refl, refl),
+            (refl, λ s is. inl (seen s is)),
             (
-              refl,
+              (refl, refl),
               (
                 (refl, inl refl),
                 (
@@ -286,13 +219,13 @@ unasked = record {
           ),
         ),
       ),
-    ),
-  );
-  rest = record { nobody_looks = refl; all_settled = at_0 (λ s. (t : ℕ) → ((after of_threads unasked_steps).seat s).debt t ≡ nothing) all_done };
-  is_seat = omega arith;
-  free = (refl, refl);
-  one_is_due = (1, refl);
-}
+    );
+    rest = record { nobody_looks = refl; all_settled = at_0 (λ s. (t : ℕ) → ((after of_threads unasked_steps).seat s).debt t ≡ nothing) all_done };
+    is_seat = omega arith;
+    free = (refl, refl);
+  },
+  (1, refl),
+)
 
 -- the second leaves, and the third isn't called
 nobody_is : (t : ℕ) → set (set (set (set (λ _. out) 1 waits) 2 waits) 1 called) 1 out t ≢ called
@@ -303,28 +236,30 @@ nobody_is t = set_cases (set (set (set (λ _. out) 1 waits) 2 waits) 1 called) 1
     plain t = set_cases (set (λ _. out) 1 waits) 2 waits t (λ it. it ≢ called) (λ _ is. let z : ⊥ = cc in z)
         (λ _. set_cases (λ _. out) 1 waits t (λ it. it ≢ called) (λ _ is. let z : ⊥ = cc in z) (λ _ is. let z : ⊥ = cc in z))
 
-abbrev left : Class
-left = after_step (after of_tasks waits_steps) (leaves_called 1)
+abbrev passed_over : Class
+passed_over = after_step (after of_tasks waits_steps) (leaves_called 1)
 
 uncalled : HasUncalled (Some calls_the_next)
 unfolding set ℕ_discrete
-uncalled = record {
-  class_ = left;
-  s = 0;
-  reached = goes_on (after of_tasks waits_steps) (leaves_called 1) (waited (Some calls_the_next)) (refl, inl refl);
-  rest = record { nobody_looks = refl; all_settled = at_0 (λ s. (t : ℕ) → (left.seat s).debt t ≡ nothing) all_done };
-  is_seat = omega arith;
-  free = (refl, refl);
-  open_now = refl;
-  one_waits = (2, refl);
-  nobody_called = λ one. nobody_is one.0 one.1;
-}
+uncalled = (
+  record {
+    class_ = passed_over;
+    s = 0;
+    reached = goes_on (after of_tasks waits_steps) (leaves_called 1) (waited (Some calls_the_next)) (refl, inl refl);
+    rest = record { nobody_looks = refl; all_settled = at_0 (λ s. (t : ℕ) → (passed_over.seat s).debt t ≡ nothing) all_done };
+    is_seat = omega arith;
+    free = (refl, refl);
+  },
+  refl,
+  (2, refl),
+  λ one. nobody_is one.0 one.1,
+)
 
 pub each_rule_matters : EachRuleMatters
-each_rule_matters claims_no_kept = claimed
-each_rule_matters keeps_as_it_came = kept
-each_rule_matters ends_by_exchange = ended
-each_rule_matters returns_by_exchange = returned
+each_rule_matters claims_no_own = claimed
+each_rule_matters uses_its_own = not_its_own
+each_rule_matters takes_nobodys = taken
+each_rule_matters uses_before_it_leaves = left
 each_rule_matters looks_as_it_joins = unlooked
 each_rule_matters asks_who_waits = unasked
 each_rule_matters calls_the_next = uncalled

@@ -1,7 +1,7 @@
 -- Each move keeps a hall orderly.
 use Rattle.std.proofs.Common.{◌≡◌, ◌≢◌, ◌⊎◌, ◌<◌, ℕ, Bool, true, false, Option, Some, None, refl, sym, ap, ◌∙◌, ⊎_elim, inl, inr, true≢false}
 use Rattle.ww_protocols.specs.Hall.{Layout, Hall, first_hall, Progress, apart, has_mark, found_free, found_bit, reads, Finding, nothing, no_bit, no_mark, change, change_in, Move, sits, stands_up, visits, quits, locks, unlocks, sets_bit, sets_mark, finds_free, finds_bit, finds_free_again, reads_as_owner, reads_no_more, clears_mark, finds_no_bit, finds_no_mark, clears_bit, begins_to_write, MayMove, HasBitAndMark, MayClearMark, MayClearBit, MayWrite, coming, hall_after, opens, goes_on}
-use Rattle.ww_protocols.specs.Invariant.{is_past_first_look, is_past_bit, IsSound, IsOrderlyHall, ReachedHallsAreOrderly}
+use Rattle.ww_protocols.specs.Invariant.{is_past_first_look, is_past_bit, IsSound, IsAlone, IsOrderlyHall, ReachedHallsAreOrderly}
 use Rattle.ww_protocols.specs.Readers.{WritersExcludeReaders, WritersExcludeWriters, ReadersAreInSight}
 use Rattle.ww_protocols.proofs.Changes.{same_or_not, change_here, change_else, change_cases, change_in_cases}
 
@@ -58,7 +58,7 @@ module _ (l : Layout) (h : Hall) (k : IsOrderlyHall l h) where
       met_no_mark = s.met_no_mark;
       was_met = s.was_met;
     };
-    around = k.around;
+    alone = λ x y w. let a = k.alone x y w in record { owns = a.owns; around = a.around };
   }
 
   with_marks : (marks : ℕ → ℕ → Bool) → ((x y : ℕ) → h.progress x y ≢ apart → marks x (l.mark y) ≡ true) →
@@ -71,7 +71,7 @@ module _ (l : Layout) (h : Hall) (k : IsOrderlyHall l h) where
       met_no_mark = s.met_no_mark;
       was_met = s.was_met;
     };
-    around = k.around;
+    alone = λ x y w. let a = k.alone x y w in record { owns = a.owns; around = a.around };
   }
 
   with_bits : (bits : ℕ → ℕ → Bool) → ((x y : ℕ) → is_past_bit (h.progress x y) ≡ true → bits y (l.bit x) ≡ true) →
@@ -84,7 +84,7 @@ module _ (l : Layout) (h : Hall) (k : IsOrderlyHall l h) where
       met_no_mark = s.met_no_mark;
       was_met = s.was_met;
     };
-    around = k.around;
+    alone = λ x y w. let a = k.alone x y w in record { owns = a.owns; around = a.around };
   }
 
   with_progress : (progress : ℕ → ℕ → Progress) → ((x y : ℕ) → IsSound l h x y (progress x y)) →
@@ -97,7 +97,7 @@ module _ (l : Layout) (h : Hall) (k : IsOrderlyHall l h) where
       met_no_mark = s.met_no_mark;
       was_met = s.was_met;
     };
-    around = k.around;
+    alone = λ x y w. let a = k.alone x y w in record { owns = a.owns; around = a.around };
   }
 
   -- an owner finds something at a desk
@@ -113,8 +113,10 @@ module _ (l : Layout) (h : Hall) (k : IsOrderlyHall l h) where
       was_met = λ o owns other. change_in_cases h.finding m d f y x
           (λ i j g. g ≢ nothing → h.progress j i ≢ reads) (λ _. no_reader) (λ _. s.was_met o owns other);
     };
-    around = λ y o owns writes e few other. change_in_cases h.finding m d f y e (λ _ _ g. g ≢ nothing) some
-        (λ _. k.around y o owns writes e few other);
+    alone = λ x y w. let a = k.alone x y w in record {
+      owns = a.owns;
+      around = λ e few other. change_in_cases h.finding m d f y e (λ _ _ g. g ≢ nothing) some (λ _. a.around e few other);
+    };
   }
 
 -- ---- the moves
@@ -152,9 +154,9 @@ module _ (l : Layout) (h : Hall) (c : ℕ) (k : IsOrderlyHall l h) (low : c < l.
       (λ x y. change_cases h.sitter d None x (λ j o. h.progress j y ≢ apart → o ≡ Some j)
       (λ begun. absurd (other (one_owner d c (seat_of d y begun) has))) (λ _. seat_of x y))
 
-  -- the owner begins to know nothing
-  locks_on : (m : ℕ) → IsOrderlyHall l (hall_after l h c (locks m))
-  locks_on m = record {
+  -- The owner begins to know nothing; and since nobody had the mutex, nobody wrote it.
+  locks_on : (m : ℕ) → h.owner m ≡ None → IsOrderlyHall l (hall_after l h c (locks m))
+  locks_on m free = record {
     sound = λ x y. let s = k.sound x y in record {
       seated = s.seated;
       marked = s.marked;
@@ -166,10 +168,10 @@ module _ (l : Layout) (h : Hall) (c : ℕ) (k : IsOrderlyHall l h) (low : c < l.
           (λ is. absurd (found (fresh y x is)))
           (λ isnt. s.was_met o (sym (owner_else y isnt) ∙ owns) other (λ none. found (finding_else y x isnt ∙ none))) (same_or_not y m);
     };
-    around = λ y o owns writes d few other. ⊎_elim
-        (λ is. unset writes (ap (change h.written m false) is ∙ change_here h.written m false))
-        (λ isnt none. k.around y o (sym (owner_else y isnt) ∙ owns) (sym (change_else h.written m false y isnt) ∙ writes) d few other
-        (sym (finding_else y d isnt) ∙ none)) (same_or_not y m);
+    alone = λ x y w. let a = k.alone x y w in let isnt : y ≢ m = λ is. nobody x (ap h.owner is ∙ free) a.owns in record {
+      owns = owner_else y isnt ∙ a.owns;
+      around = λ d few other none. a.around d few other (sym (finding_else y d isnt) ∙ none);
+    };
   }
     where
       fresh : (y x : ℕ) → y ≡ m → change h.finding m (λ _. nothing) y x ≡ nothing
@@ -181,8 +183,9 @@ module _ (l : Layout) (h : Hall) (c : ℕ) (k : IsOrderlyHall l h) (low : c < l.
       finding_else : (y x : ℕ) → y ≢ m → change h.finding m (λ _. nothing) y x ≡ h.finding y x
       finding_else y x isnt = ap (λ f. f x) (change_else h.finding m (λ _. nothing) y isnt)
 
-  unlocks_on : (m : ℕ) → IsOrderlyHall l (hall_after l h c (unlocks m))
-  unlocks_on m = record {
+  -- whoever else writes has another mutex
+  unlocks_on : (m : ℕ) → h.owner m ≡ Some c → IsOrderlyHall l (hall_after l h c (unlocks m))
+  unlocks_on m has = record {
     sound = λ x y. let s = k.sound x y in record {
       seated = s.seated;
       marked = s.marked;
@@ -190,7 +193,12 @@ module _ (l : Layout) (h : Hall) (c : ℕ) (k : IsOrderlyHall l h) (low : c < l.
       met_no_mark = λ o owns. s.met_no_mark o (had y o owns);
       was_met = λ o owns. s.was_met o (had y o owns);
     };
-    around = λ y o owns. k.around y o (had y o owns);
+    alone = λ x y. change_in_cases h.writes c m false x y
+        (λ i j v. v ≡ true → IsAlone l (hall_after l h c (unlocks m)) i j) (λ w. absurd (true≢false (sym w)))
+        (λ else w. let a = k.alone x y w in record {
+          owns = change_else h.owner m None y (λ is. else (one_owner x c a.owns (ap h.owner is ∙ has), is)) ∙ a.owns;
+          around = a.around;
+        });
   }
     where
       had : (y o : ℕ) → change h.owner m None y ≡ Some o → h.owner y ≡ Some o
@@ -295,10 +303,10 @@ module _ (l : Layout) (h : Hall) (c : ℕ) (k : IsOrderlyHall l h) (low : c < l.
       met_no_mark = s.met_no_mark;
       was_met = s.was_met;
     };
-    around = λ y o owns. change_cases h.written m true y
-        (λ i v. h.owner i ≡ Some o → v ≡ true → (d : ℕ) → d < l.contexts → d ≢ o → h.finding i d ≢ nothing)
-        (λ has _ d few other. may.found d few (λ is. other (is ∙ one_owner c o may.owns has)))
-        (λ _ has. k.around y o has) owns;
+    alone = λ x y. change_in_cases h.writes c m true x y
+        (λ i j v. v ≡ true → IsAlone l (hall_after l h c (begins_to_write m)) i j)
+        (λ _. record { owns = may.owns; around = may.found })
+        (λ _ w. let a = k.alone x y w in record { owns = a.owns; around = a.around });
   }
 
   -- ---- every move
@@ -308,8 +316,8 @@ module _ (l : Layout) (h : Hall) (c : ℕ) (k : IsOrderlyHall l h) (low : c < l.
   moves_on stands_up may = stands_up_on
   moves_on (visits d) may = visits_on d may.1
   moves_on (quits d) may = quits_on d may.0 may.1
-  moves_on (locks m) may = locks_on m
-  moves_on (unlocks m) may = unlocks_on m
+  moves_on (locks m) may = locks_on m may
+  moves_on (unlocks m) may = unlocks_on m may
   moves_on (sets_bit m) may = sets_bit_on m
   moves_on (sets_mark m) may = sets_mark_on m may.0
   moves_on (finds_free m) may = coming_on m found_free (finds_free_on m may.0 may.1)
@@ -326,18 +334,19 @@ module _ (l : Layout) (h : Hall) (c : ℕ) (k : IsOrderlyHall l h) (low : c < l.
 pub reached_halls_are_orderly : ReachedHallsAreOrderly
 reached_halls_are_orderly l _ opens = record {
   sound = λ x y. apart_is_sound l first_hall x y;
-  around = λ m o owns. let z : ⊥ = cc in absurd z;
+  alone = λ c m w. absurd (true≢false (sym w));
 }
 reached_halls_are_orderly l _ (goes_on h c a reached low may) = moves_on l h c (reached_halls_are_orderly l h reached) low a may
 
 pub writers_exclude_readers : WritersExcludeReaders
 writers_exclude_readers l h reached w c m writing reading = let k = reached_halls_are_orderly l h reached in
     let s = k.sound c m in let begun : h.progress c m ≢ apart = λ is. let z : ⊥ = cc in z in
-    ⊎_elim (λ is. sym is) (λ isnt. absurd (s.was_met w writing.owns isnt
-    (k.around m w writing.owns writing.writes c (s.seated begun).1 isnt) reading)) (same_or_not c w)
+    let a = k.alone w m writing in ⊎_elim (λ is. sym is)
+    (λ isnt. absurd (s.was_met w a.owns isnt (a.around c (s.seated begun).1 isnt) reading)) (same_or_not c w)
 
 pub writers_exclude_writers : WritersExcludeWriters
-writers_exclude_writers l h reached w c m one other = one_owner w c one.owns other.owns
+writers_exclude_writers l h reached w c m one other = let k = reached_halls_are_orderly l h reached in
+    one_owner w c (k.alone w m one).owns (k.alone c m other).owns
 
 pub readers_are_in_sight : ReadersAreInSight
 readers_are_in_sight l h reached c m reading = let s = (reached_halls_are_orderly l h reached).sound c m in

@@ -1,75 +1,39 @@
--- A bit that is set just where somebody has something, and that is one.
-use Rattle.std.proofs.Common.{◌≡◌, ◌≢◌, ◌⊎◌, inl, inr, ℕ, Bool, true, false, refl, sym, ◌∙◌, subst, true≢false}
-use mathlib.Core.Logic.{dite}
-use native.Mathlib.Decide.{ℕ_discrete}
+-- How a bit goes on to tell of who has something.
+use Rattle.std.proofs.Common.{◌≡◌, ⊎_elim, ℕ, Bool, true, false, refl, sym, ◌∙◌, subst, true≢false}
 use Rattle.ww_protocols.specs.Seat.{set}
-use Rattle.ww_protocols.proofs.Sets.{set_here, set_else, set_cases}
+use Rattle.ww_protocols.specs.Seats.{SaysWho}
+use Rattle.ww_protocols.proofs.Sets.{set_here, set_was}
 
-module _ {A : Type 0} (none : A) where
-  abbrev pub NobodyHas : (ℕ → A) → Type 0
-  NobodyHas f = (t : ℕ) → f t ≡ none
+pub not_both : {A : Type 0} {b : Bool} → b ≡ true → b ≡ false → A
+not_both is isnt = absurd (true≢false (sym is ∙ isnt))
 
-  pub record HasOne (f : ℕ → A) : Type 0 where
-    pub who : ℕ
-    pub has : f who ≢ none
-    pub others : (t : ℕ) → t ≢ who → f t ≡ none
+pub false_unless : (b : Bool) → (b ≡ true → ⊥) → b ≡ false
+false_unless true isnt = absurd (isnt refl)
+false_unless false isnt = refl
 
-  abbrev pub Held : Bool → (ℕ → A) → Type 0
-  Held bit f = ((bit ≡ false) × NobodyHas f) ⊎ ((bit ≡ true) × HasOne f)
+module _ {bit : Bool} {has : ℕ → Bool} (h : SaysWho bit has) where
+  pub nobody_has : bit ≡ false → (t : ℕ) → has t ≡ false
+  nobody_has free t = false_unless (has t) (λ is. not_both (h.is_set t is) free)
 
-  one_is : (f : ℕ → A) (x : HasOne f) (t : ℕ) → f t ≢ none → t ≡ x.who
-  one_is f x t has = dite (ℕ_discrete t x.who) (λ is. is) (λ isnt. absurd (has (x.others t isnt)))
-
-  pub held_one : (bit : Bool) (f : ℕ → A) → Held bit f → (t u : ℕ) → f t ≢ none → f u ≢ none → t ≡ u
-  held_one bit f (inl not) t u has too = absurd (has (not.1 t))
-  held_one bit f (inr x) t u has too = one_is f x.1 t has ∙ sym (one_is f x.1 u too)
-
-  pub held_bit : (bit : Bool) (f : ℕ → A) → Held bit f → (t : ℕ) → f t ≢ none → bit ≡ true
-  held_bit bit f (inl not) t has = absurd (has (not.1 t))
-  held_bit bit f (inr x) t has = x.0
-
-  pub held_by : (bit : Bool) (f : ℕ → A) → Held bit f → bit ≡ true → (t : ℕ) × (f t ≢ none)
-  held_by bit f (inl not) is = absurd (true≢false (sym is ∙ not.0))
-  held_by bit f (inr x) is = (x.1.who, x.1.has)
-
-  pub held_none : (bit : Bool) (f : ℕ → A) → Held bit f → bit ≡ false → NobodyHas f
-  held_none bit f (inl not) is = not.1
-  held_none bit f (inr x) is = absurd (true≢false (sym x.0 ∙ is))
-
-  pub held_others : (bit : Bool) (f : ℕ → A) → Held bit f → (t : ℕ) → f t ≢ none → (u : ℕ) → u ≢ t → f u ≡ none
-  held_others bit f h t has u other = dite (ℕ_discrete u t) (λ is. absurd (other is)) (λ isnt. go h)
+  pub comes : bit ≡ false → (t : ℕ) → SaysWho true (set has t true)
+  comes free t = record {
+    somebody = λ _. (t, set_here has t true);
+    is_set = λ _ _. refl;
+    one = λ u v p q. it u p ∙ sym (it v q);
+  }
     where
-      go : Held bit f → f u ≡ none
-      go (inl not) = not.1 u
-      go (inr x) = x.1.others u (λ is. other (is ∙ sym (one_is f x.1 t has)))
+      it : (u : ℕ) → set has t true u ≡ true → u ≡ t
+      it u p = ⊎_elim (λ here. here.0) (λ there. not_both there.1 (nobody_has free u)) (set_was has t true u (λ b. b ≡ true) p)
 
-  pub held_comes : (f : ℕ → A) (t : ℕ) (a : A) → NobodyHas f → a ≢ none → Held true (set f t a)
-  held_comes f t a nobody is = inr (
-    refl,
-    record {
-      who = t;
-      has = λ isnt. is (sym (set_here f t a) ∙ isnt);
-      others = λ u other. set_else f t a u other ∙ nobody u;
-    },
-  )
+  pub goes : (t : ℕ) → has t ≡ true → SaysWho false (set has t false)
+  goes t was = record {
+    somebody = λ is. not_both is refl;
+    is_set = λ u p. absurd (nobody u p);
+    one = λ u v p _. absurd (nobody u p);
+  }
+    where
+      nobody : (u : ℕ) → set has t false u ≡ true → ⊥
+      nobody u p = ⊎_elim (λ here. not_both here.1 refl) (λ there. there.0 (h.one u t there.1 was)) (set_was has t false u (λ b. b ≡ true) p)
 
-  pub held_stays : (bit : Bool) (f : ℕ → A) (t : ℕ) (a : A) → Held bit f → f t ≢ none → a ≢ none → Held bit (set f t a)
-  held_stays bit f t a h has is = inr (
-    held_bit bit f h t has,
-    record {
-      who = t;
-      has = λ isnt. is (sym (set_here f t a) ∙ isnt);
-      others = λ u other. set_else f t a u other ∙ held_others bit f h t has u other;
-    },
-  )
-
-  pub none_left : (bit : Bool) (f : ℕ → A) (t : ℕ) → Held bit f → f t ≢ none → NobodyHas (set f t none)
-  none_left bit f t h has u = set_cases f t none u (λ b. b ≡ none) (λ _. refl) (held_others bit f h t has u)
-
-  pub held_goes : (bit : Bool) (f : ℕ → A) (t : ℕ) → Held bit f → f t ≢ none → Held false (set f t none)
-  held_goes bit f t h has = inl (refl, none_left bit f t h has)
-
-  pub held_moves : (bit : Bool) (f : ℕ → A) (t u : ℕ) (a : A) → Held bit f → f t ≢ none → a ≢ none →
-      Held bit (set (set f t none) u a)
-  held_moves bit f t u a h has is = subst (λ b. Held b (set (set f t none) u a)) (sym (held_bit bit f h t has))
-      (held_comes (set f t none) u a (none_left bit f t h has) is)
+pub moves : {bit : Bool} {has : ℕ → Bool} → SaysWho bit has → (t u : ℕ) → has t ≡ true → SaysWho bit (set (set has t false) u true)
+moves {bit} {has} h t u was = subst (λ b. SaysWho b (set (set has t false) u true)) (sym (h.is_set t was)) (comes (goes h t was) refl u)

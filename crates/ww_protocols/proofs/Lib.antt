@@ -3,6 +3,13 @@ pub mod Changes
 pub mod HallsKept
 pub mod HallRuns
 pub mod Ways
+-- data under a lock
+pub mod Times
+pub mod Memory
+pub mod Data
+pub mod HallSteps
+pub mod SharedData
+pub mod SharedDataRuns
 -- seats
 pub mod Sets
 pub mod Held

@@ -2,9 +2,10 @@
 use Rattle.std.proofs.Common.{◌≡◌, ◌≢◌, ◌⊎◌, inl, inr, ⊎_elim, ℕ, Bool, true, false, Option, Some, None, refl, sym, ap, ◌∙◌, subst, true≢false}
 use mathlib.Core.Logic.{dite}
 use native.Mathlib.Decide.{ℕ_discrete}
-use Rattle.ww_protocols.specs.Seat.{Debt, nothing, to_call, to_offer, ClassSeat, set, SeatStep, claims, goes_over, comes_to_keep, finds_unkept, finds_kept, gives, hands_on, returns, finds_it_left, returns_own, finds_own_free, uses_own, finds_own_used, leaves_used, finds_own_returned, leaves_returned, leaves_own, next_seat}
+use Rattle.ww_protocols.specs.Seat.{Debt, nothing, to_call, to_offer, ClassSeat, IsFree, set, SeatStep, claims, gives, goes_over, finds_own_free, uses_own, returns_own, takes_own, leaves_own, MaySeat, next_seat}
 use Rattle.ww_protocols.specs.Class.{InQueue, waits, called, due, also_to_call}
 use Rattle.ww_protocols.proofs.Sets.{set_here, set_else, set_was}
+use Rattle.ww_protocols.proofs.Held.{not_both}
 
 -- somebody has this to do of the seat
 abbrev pub Owes : (ℕ → Debt) → Debt → Type 0
@@ -24,41 +25,30 @@ abbrev pub ComesToTasks : (ℕ → InQueue) → Option ℕ → Bool → (ℕ →
 ComesToTasks stands looks unseen debts = Called stands ⊎ (LooksFor stands looks unseen ⊎ (Owes debts to_call ⊎ Owes debts to_offer))
 
 -- Of one seat, which is free or not, and open to tasks or not.
-pub record Serves (stands : ℕ → InQueue) (looks : Option ℕ) (unseen is_open busy kept : Bool) (debts : ℕ → Debt) : Type 0 where
-  pub if_due : (t : ℕ) → (busy ≡ false) × (kept ≡ false) → stands t ≡ due → ComesToOne looks unseen debts t
-  pub if_waits : (t : ℕ) → (busy ≡ false) × (kept ≡ false) → is_open ≡ true → stands t ≡ waits → ComesToTasks stands looks unseen debts
+pub record Serves (stands : ℕ → InQueue) (looks : Option ℕ) (unseen is_open : Bool) (Free : Type 0) (debts : ℕ → Debt) : Type 0 where
+  pub if_due : (t : ℕ) → Free → stands t ≡ due → ComesToOne looks unseen debts t
+  pub if_waits : (t : ℕ) → Free → is_open ≡ true → stands t ≡ waits → ComesToTasks stands looks unseen debts
 
 -- ---- of one seat, by its own steps
 
-module _ (stands : ℕ → InQueue) (looks : Option ℕ) (unseen is_open busy kept : Bool) (debts : ℕ → Debt) where
-  pub in_use : ((busy ≡ false) × (kept ≡ false) → ⊥) → Serves stands looks unseen is_open busy kept debts
-  in_use isnt = record { if_due = λ t free _. absurd (isnt free); if_waits = λ t free _ _. absurd (isnt free) }
+module _ {stands : ℕ → InQueue} {looks : Option ℕ} {unseen is_open : Bool} {Free : Type 0} {debts : ℕ → Debt} where
+  pub in_use : (Free → ⊥) → Serves stands looks unseen is_open Free debts
+  in_use isnt = record { if_due = λ t is _. absurd (isnt is); if_waits = λ t is _ _. absurd (isnt is) }
 
-  offered : Owes debts to_offer → Serves stands looks unseen is_open busy kept debts
+  offered : Owes debts to_offer → Serves stands looks unseen is_open Free debts
   offered owes = record { if_due = λ t _ _. inr owes; if_waits = λ t _ _ _. inr (inr (inr owes)) }
 
-module _ (stands : ℕ → InQueue) (looks : Option ℕ) (unseen is_open : Bool) (seat : ClassSeat) where
-  abbrev StillServes : SeatStep → Type 0
-  StillServes step = let after = next_seat seat step in Serves stands looks unseen is_open after.word.busy after.word.kept after.debt
-
-  pub serves_on : (step : SeatStep) → Serves stands looks unseen is_open seat.word.busy seat.word.kept seat.debt → StillServes step
-  serves_on (claims t) h = in_use stands looks unseen is_open true seat.word.kept seat.debt (λ free. true≢false free.0)
-  serves_on (goes_over t u) h = h
-  serves_on (comes_to_keep t) h = in_use stands looks unseen is_open true true seat.debt (λ free. true≢false free.0)
-  serves_on (finds_unkept t) h = h
-  serves_on (finds_kept t) h = h
-  serves_on (gives t) h = offered stands looks unseen is_open false seat.word.kept (set seat.debt t to_offer) (t, set_here seat.debt t to_offer)
-  serves_on (hands_on t u) h = h
-  serves_on (returns t) h = in_use stands looks unseen is_open false true seat.debt (λ free. true≢false free.1)
-  serves_on (finds_it_left t) h = h
-  serves_on (returns_own t) h = in_use stands looks unseen is_open false true seat.debt (λ free. true≢false free.1)
-  serves_on (finds_own_free t) h = h
-  serves_on (uses_own t) h = in_use stands looks unseen is_open true true seat.debt (λ free. true≢false free.0)
-  serves_on (finds_own_used t) h = h
-  serves_on (leaves_used t) h = in_use stands looks unseen is_open true false seat.debt (λ free. true≢false free.0)
-  serves_on (finds_own_returned t) h = h
-  serves_on (leaves_returned t) h = offered stands looks unseen is_open false false (set seat.debt t to_offer) (t, set_here seat.debt t to_offer)
-  serves_on (leaves_own t) h = offered stands looks unseen is_open false false (set seat.debt t to_offer) (t, set_here seat.debt t to_offer)
+module _ {stands : ℕ → InQueue} {looks : Option ℕ} {unseen is_open : Bool} (seat : ClassSeat) where
+  pub serves_on : (step : SeatStep) → MaySeat None seat step → Serves stands looks unseen is_open (IsFree seat) seat.debt →
+      let after = next_seat seat step in Serves stands looks unseen is_open (IsFree after) after.debt
+  serves_on (claims t) may h = in_use (λ free. not_both refl free.0)
+  serves_on (gives t) may h = offered (t, set_here seat.debt t to_offer)
+  serves_on (goes_over t u) may h = h
+  serves_on (finds_own_free t) may h = h
+  serves_on (uses_own t) may h = in_use (λ free. not_both refl free.0)
+  serves_on (returns_own t) may h = in_use (λ free. not_both may.1 free.1)
+  serves_on (takes_own t) may h = h
+  serves_on (leaves_own t) may h = h
 
 -- ---- of one seat, by what others do
 
@@ -79,18 +69,18 @@ owes_else : (debts : ℕ → Debt) (t : ℕ) (it now : Debt) → Owes debts it �
 owes_else debts t it now owes isnt = dite (ℕ_discrete owes.0 t)
     (λ is. absurd (isnt (ap debts (sym is) ∙ owes.1))) (λ other. (owes.0, set_else debts t now owes.0 other ∙ owes.1))
 
-module _ (stands : ℕ → InQueue) (looks : Option ℕ) (unseen is_open busy kept : Bool) (debts : ℕ → Debt)
-    (h : Serves stands looks unseen is_open busy kept debts) where
+module _ {stands : ℕ → InQueue} {looks : Option ℕ} {unseen is_open : Bool} {Free : Type 0} {debts : ℕ → Debt}
+    (h : Serves stands looks unseen is_open Free debts) where
   -- where nobody looks, a thread that waits has the seat offered
-  pub offered_to : looks ≡ None → (t : ℕ) → (busy ≡ false) × (kept ≡ false) → stands t ≡ due → Owes debts to_offer
-  offered_to none t free is = ⊎_elim (λ coming. absurd (none_looks looks none t coming.0)) (λ owes. owes) (h.if_due t free is)
+  pub offered_to : looks ≡ None → (t : ℕ) → Free → stands t ≡ due → Owes debts to_offer
+  offered_to none t Free is = ⊎_elim (λ coming. absurd (none_looks looks none t coming.0)) (λ owes. owes) (h.if_due t Free is)
 
   -- one comes to stand otherwise
   pub restood : (t : ℕ) (how : InQueue) (looks' : Option ℕ) (unseen' : Bool) →
-      ((u : ℕ) → u ≢ t → looks ≡ Some u → (busy ≡ false) × (kept ≡ false) → stands u ≡ due → ComesToOne looks' unseen' debts u) →
-      (how ≡ due → (busy ≡ false) × (kept ≡ false) → ComesToOne looks' unseen' debts t) →
-      ((u : ℕ) → (busy ≡ false) × (kept ≡ false) → is_open ≡ true → set stands t how u ≡ waits → ComesToTasks (set stands t how) looks' unseen' debts) →
-      Serves (set stands t how) looks' unseen' is_open busy kept debts
+      ((u : ℕ) → u ≢ t → looks ≡ Some u → Free → stands u ≡ due → ComesToOne looks' unseen' debts u) →
+      (how ≡ due → Free → ComesToOne looks' unseen' debts t) →
+      ((u : ℕ) → Free → is_open ≡ true → set stands t how u ≡ waits → ComesToTasks (set stands t how) looks' unseen' debts) →
+      Serves (set stands t how) looks' unseen' is_open Free debts
   restood t how looks' unseen' others new tasks = record {
     if_due = λ u free is. ⊎_elim
         (λ here. subst (ComesToOne looks' unseen' debts) (sym here.0) (new here.1 free))
@@ -101,7 +91,7 @@ module _ (stands : ℕ → InQueue) (looks : Option ℕ) (unseen is_open busy ke
 
   module _ (t : ℕ) (how : InQueue) (looks' : Option ℕ) (unseen' : Bool) where
     -- what came to tasks still does, where no task looks, and one that wasn't called stands otherwise
-    pub still_comes : stands t ≢ called → ((u : ℕ) → looks ≡ Some u → stands u ≡ waits → ⊥) → (u : ℕ) → (busy ≡ false) × (kept ≡ false) →
+    pub still_comes : stands t ≢ called → ((u : ℕ) → looks ≡ Some u → stands u ≡ waits → ⊥) → (u : ℕ) → Free →
         is_open ≡ true → stands u ≡ waits → ComesToTasks (set stands t how) looks' unseen' debts
     still_comes isnt none u free open_ is = go (h.if_waits u free open_ is)
       where
@@ -111,8 +101,8 @@ module _ (stands : ℕ → InQueue) (looks : Option ℕ) (unseen is_open busy ke
         go (inr (inr owes)) = inr (inr owes)
 
   -- no thread waits, or the seat is in use; now a task has to be called for it
-  pub served_threads : (t : ℕ) → ((busy ≡ false) × (kept ≡ false) → (u : ℕ) → stands u ≢ due) →
-      Serves stands looks unseen is_open busy kept (set debts t to_call)
+  pub served_threads : (t : ℕ) → (Free → (u : ℕ) → stands u ≢ due) →
+      Serves stands looks unseen is_open Free (set debts t to_call)
   served_threads t nobody = record {
     if_due = λ u free is. absurd (nobody free u is);
     if_waits = λ u _ _ _. inr (inr (inl (t, set_here debts t to_call)));
@@ -120,8 +110,8 @@ module _ (stands : ℕ → InQueue) (looks : Option ℕ) (unseen is_open busy ke
 
   -- and it has none to call
   pub served_tasks : (t : ℕ) → looks ≡ None → debts t ≡ to_call →
-      ((busy ≡ false) × (kept ≡ false) → is_open ≡ true → (((u : ℕ) → stands u ≢ waits) ⊎ (Called stands ⊎ ((u : ℕ) × (stands u ≡ due))))) →
-      Serves stands looks unseen is_open busy kept (set debts t nothing)
+      (Free → is_open ≡ true → (((u : ℕ) → stands u ≢ waits) ⊎ (Called stands ⊎ ((u : ℕ) × (stands u ≡ due))))) →
+      Serves stands looks unseen is_open Free (set debts t nothing)
   served_tasks t none has why = record {
     if_due = λ u free is. inr (others (offered_to none u free is));
     if_waits = λ u free open_ is. ⊎_elim (λ nobody. absurd (nobody u is))
@@ -132,7 +122,7 @@ module _ (stands : ℕ → InQueue) (looks : Option ℕ) (unseen is_open busy ke
       others owes = owes_else debts t to_offer nothing owes (λ is. let z : ⊥ = cc in z)
 
   -- tasks may claim it from now on, and one is to be called for it
-  pub opened_now : (t : ℕ) → Serves stands looks unseen true busy kept (set debts t (also_to_call (debts t)))
+  pub opened_now : (t : ℕ) → Serves stands looks unseen true Free (set debts t (also_to_call (debts t)))
   opened_now t = record {
     if_due = λ u free is. ⊎_elim inl (λ owes. inr (dite (ℕ_discrete owes.0 t)
         (λ same. (t, set_here debts t (also_to_call (debts t)) ∙ ap also_to_call (ap debts (sym same) ∙ owes.1)))
@@ -145,5 +135,5 @@ module _ (stands : ℕ → InQueue) (looks : Option ℕ) (unseen is_open busy ke
       has_it to_call is = inl (t, set_here debts t (also_to_call (debts t)) ∙ ap also_to_call is)
       has_it to_offer is = inr (t, set_here debts t (also_to_call (debts t)) ∙ ap also_to_call is)
 
-  pub closed_now : Serves stands looks unseen false busy kept debts
+  pub closed_now : Serves stands looks unseen false Free debts
   closed_now = record { if_due = h.if_due; if_waits = λ u _ open_ _. absurd (true≢false (sym open_)) }

@@ -77,6 +77,6 @@ pub owners_can_write : OwnersCanWrite
 owners_can_write l h c m owns free = let come = looks_around l c m h l.contexts owns free in record {
   hall = _;
   way = and_moves come.hall (begins_to_write m) come.way (record { owns = come.owns; found = come.found });
-  there = record { owns = come.owns; writes = change_here come.hall.written m true };
+  there = change_in_here come.hall.writes c m true;
   read_on = λ d n reading. come.same d n ∙ reading;
 }

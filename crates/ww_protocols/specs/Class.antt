@@ -19,11 +19,11 @@ pub record Class : Type 0 where
   pub looks : Option ℕ
   pub unseen : ℕ → Bool
 
--- all seats are free, and nobody waits
+-- nobody uses a seat, no thread has its own yet, and nobody waits
 abbrev pub opened : ℕ → (ℕ → Bool) → (ℕ → Bool) → Class
-opened seats are_shared are_open = record {
+opened seats are_own are_open = record {
   seats = seats;
-  seat = λ s. free_seat (are_shared s);
+  seat = λ s. free_seat (are_own s);
   is_open = are_open;
   stands = λ _. out;
   looks = None;
@@ -39,14 +39,14 @@ pub data QueueStep : Type 0 where
   serves_tasks : (t s : ℕ) → QueueStep  -- and that no task need be called for it
   calls : (u : ℕ) → QueueStep  -- `called` is set
   joins : (t : ℕ) (how : InQueue) (looks_now : Bool) → QueueStep  -- `seekers` up: it looks at the seats, or stands behind another
-  sees_used : (t s : ℕ) → QueueStep  -- load, or an exchange that failed, or its own: who looks finds the seat in use, or kept
+  sees_used : (t s : ℕ) → QueueStep  -- load, or an exchange, its own or one that failed: who looks finds the seat in use; or it is a thread's own
   has_looked : (t : ℕ) → QueueStep  -- in vain
   has_found : (t : ℕ) → QueueStep  -- `seekers` down, or `called` set for the next one: who looks has a seat
   drops : (t : ℕ) (looks_now : Bool) → QueueStep  -- `called` is cleared: who was called waits again, and looks, or a thread waits
   leaves : (t : ℕ) → QueueStep  -- `seekers` down: it has a seat, or its wait has ended
   leaves_called : (t : ℕ) → QueueStep  -- `called` is set for the next one, or cleared: so does one that was called
-  opens : (t s : ℕ) → QueueStep  -- `limit` up: tasks may claim this seat, which is to be offered to them
-  closes : (s : ℕ) → QueueStep  -- `limit` down
+  opens : (t s : ℕ) → QueueStep  -- `open` up: tasks may claim this seat, which is to be offered to them
+  closes : (s : ℕ) → QueueStep  -- `open` down
 
 -- the seat, when one has done this much of what it had to do of it
 abbrev pub settled : ClassSeat → ℕ → Debt → ClassSeat
@@ -89,9 +89,9 @@ module _ (c : Class) where
   abbrev pub IsClosedTo : ℕ → ℕ → Type 0
   IsClosedTo t s = (c.stands t ≡ waits) × (c.is_open s ≡ false)
 
-  -- in use, or kept
+  -- in use, or a thread's own
   abbrev pub IsInUse : ℕ → Type 0
-  IsInUse s = ¬ IsFree (c.seat s).word
+  IsInUse s = ¬ IsFree (c.seat s)
 
   -- no task has to be called for the seat
   abbrev pub NeedsNoCall : ℕ → Type 0
@@ -149,7 +149,7 @@ module _ (c : Class) where
 
 -- a class that some steps lead to from its opening, where this rule may be left out
 pub data ReachedWithout (left_out : Option Rule) : Class → Type 0 where
-  begins : (seats : ℕ) (are_shared are_open : ℕ → Bool) → ReachedWithout left_out (opened seats are_shared are_open)
+  begins : (seats : ℕ) (are_own are_open : ℕ → Bool) → ReachedWithout left_out (opened seats are_own are_open)
   goes_on : (c : Class) (step : QueueStep) → ReachedWithout left_out c → MayBeMade left_out c step → ReachedWithout left_out (after_step c step)
 
 -- by the rules

@@ -26,15 +26,15 @@ pub data Finding : Type 0 where
 
 -- Mutexes and desks are exclusive locks: each has one owner at most, and nothing else is known of them. The bits of a mutex
 -- and the marks of a desk are in memory that all contexts read. The rest is what contexts know: of a context and a mutex
--- its progress; of a mutex what its owner has found of each desk, and whether it writes.
+-- its progress, and whether it writes; of a mutex what its owner has found of each desk.
 pub record Hall : Type 0 where
   pub owner : ℕ → Option ℕ
   pub sitter : ℕ → Option ℕ
   pub bits : ℕ → ℕ → Bool
   pub marks : ℕ → ℕ → Bool
   pub progress : ℕ → ℕ → Progress
+  pub writes : ℕ → ℕ → Bool
   pub finding : ℕ → ℕ → Finding
-  pub written : ℕ → Bool
 
 -- all is free, and nothing is set
 abbrev pub first_hall : Hall
@@ -44,8 +44,8 @@ first_hall = record {
   bits = λ _ _. false;
   marks = λ _ _. false;
   progress = λ _ _. apart;
+  writes = λ _ _. false;
   finding = λ _ _. nothing;
-  written = λ _. false;
 }
 
 -- the function, but with this value at this number
@@ -136,12 +136,8 @@ module _ (l : Layout) (h : Hall) (c : ℕ) where
   hall_after stands_up = record h { sitter = change h.sitter c None; progress = change h.progress c (λ _. apart) }
   hall_after (visits d) = record h { sitter = change h.sitter d (Some c) }
   hall_after (quits d) = record h { sitter = change h.sitter d None }
-  hall_after (locks m) = record h {
-    owner = change h.owner m (Some c);
-    finding = change h.finding m (λ _. nothing);
-    written = change h.written m false;
-  }
-  hall_after (unlocks m) = record h { owner = change h.owner m None }
+  hall_after (locks m) = record h { owner = change h.owner m (Some c); finding = change h.finding m (λ _. nothing) }
+  hall_after (unlocks m) = record h { owner = change h.owner m None; writes = change_in h.writes c m false }
   hall_after (sets_bit m) = record h { bits = change_in h.bits m (l.bit c) true }
   hall_after (sets_mark m) = record h {
     marks = change_in h.marks c (l.mark m) true;
@@ -156,7 +152,7 @@ module _ (l : Layout) (h : Hall) (c : ℕ) where
   hall_after (finds_no_bit m d) = record h { finding = change_in h.finding m d no_bit }
   hall_after (finds_no_mark m d) = record h { finding = change_in h.finding m d no_mark }
   hall_after (clears_bit m b) = record h { bits = change_in h.bits m b false }
-  hall_after (begins_to_write m) = record h { written = change h.written m true }
+  hall_after (begins_to_write m) = record h { writes = change_in h.writes c m true }
 
 -- a hall that some moves of contexts, in whatever order, lead to from the first
 pub data IsReachedHall (l : Layout) : Hall → Type 0 where

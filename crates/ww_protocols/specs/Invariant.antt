@@ -28,14 +28,14 @@ module _ (l : Layout) (h : Hall) where
     -- Nor does it read once an owner has found no bit or no mark of it, until that releases the mutex.
     pub was_met : (o : ℕ) → h.owner m ≡ Some o → c ≢ o → h.finding m c ≢ nothing → p ≢ reads
 
-  -- an owner that writes has found something of each desk but its own
-  abbrev pub HasLookedAround : ℕ → Type 0
-  HasLookedAround m = (o : ℕ) → h.owner m ≡ Some o → h.written m ≡ true → (d : ℕ) → d < l.contexts → d ≢ o →
-      h.finding m d ≢ nothing
+  -- A context that writes has the mutex, and has found something of each desk but its own.
+  pub record IsAlone (c m : ℕ) : Type 0 where
+    pub owns : h.owner m ≡ Some c
+    pub around : (d : ℕ) → d < l.contexts → d ≢ c → h.finding m d ≢ nothing
 
   pub record IsOrderlyHall : Type 0 where
     pub sound : (c m : ℕ) → IsSound c m (h.progress c m)
-    pub around : (m : ℕ) → HasLookedAround m
+    pub alone : (c m : ℕ) → h.writes c m ≡ true → IsAlone c m
 
 abbrev pub ReachedHallsAreOrderly : Type 0
 ReachedHallsAreOrderly = (l : Layout) (h : Hall) → IsReachedHall l h → IsOrderlyHall l h

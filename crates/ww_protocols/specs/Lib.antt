@@ -3,6 +3,10 @@ pub mod Hall
 pub mod Invariant
 pub mod Readers
 pub mod Ways
+-- data under a lock
+pub mod Memory
+pub mod Data
+pub mod SharedData
 -- seats
 pub mod Seat
 pub mod Class

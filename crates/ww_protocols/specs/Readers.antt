@@ -1,14 +1,14 @@
 -- A writer and a reader never have one mutex at once, nor have two writers.
 use Rattle.std.specs.Prelude.{ℕ, ◌≡◌, ◌≢◌, ◌<◌, true, Some}
-use Rattle.ww_protocols.specs.Hall.{Layout, Hall, has_mark, found_free, found_bit, reads, nothing, Move, finds_free, finds_bit, finds_free_again, clears_bit, MayMove, first_hall, hall_after, IsReachedHall}
+use Rattle.ww_protocols.specs.Hall.{Layout, Hall, has_mark, found_free, found_bit, reads, nothing, Move, locks, finds_free, finds_bit, finds_free_again, clears_bit, MayMove, first_hall, hall_after, IsReachedHall}
 
 module _ (h : Hall) where
   abbrev pub IsReading : ℕ → ℕ → Type 0
   IsReading c m = h.progress c m ≡ reads
 
-  pub record IsWriting (c m : ℕ) : Type 0 where
-    pub owns : h.owner m ≡ Some c
-    pub writes : h.written m ≡ true
+  -- as it knows by itself: it came to write the mutex, and hasn't released it since
+  abbrev pub IsWriting : ℕ → ℕ → Type 0
+  IsWriting c m = h.writes c m ≡ true
 
 -- who writes a mutex is the only one who reads it, if anybody does
 abbrev pub WritersExcludeReaders : Type 0
@@ -60,21 +60,23 @@ pub record ReadersAndWritersCome : Type 0 where
 
 -- ---- each look is needed
 
--- a look that is left out: one of a reader's three, or a writer's at the marks
+-- a look that is left out: one of a reader's three, or a writer's at the marks; or the look whether somebody has the mutex
 pub data Omission : Type 0 where
   first_look : Omission
   look_at_bit : Omission
   last_look : Omission
   look_at_marks : Omission
+  look_at_owner : Omission
 
 -- A move without that look: a reader goes on as if it had looked; a writer clears a bit that it found unset before, though
--- a reader may have set it since.
+-- a reader may have set it since; a context takes a mutex that another has.
 abbrev pub MovesUnlooking : Omission → Layout → Hall → ℕ → Move → Type 0
 MovesUnlooking first_look l h c (finds_free m) = h.progress c m ≡ has_mark
 MovesUnlooking look_at_bit l h c (finds_bit m) = h.progress c m ≡ found_free
 MovesUnlooking last_look l h c (finds_free_again m) = h.progress c m ≡ found_bit
 MovesUnlooking look_at_marks l h c (clears_bit m b) = (h.owner m ≡ Some c) ×
     ((d : ℕ) → d < l.contexts → d ≢ c → l.bit d ≡ b → h.finding m d ≢ nothing)
+MovesUnlooking look_at_owner l h c (locks m) = h.owner m ≢ Some c
 MovesUnlooking _ _ _ _ _ = ⊥
 
 -- a hall that moves lead to where that look may be left out
@@ -94,12 +96,25 @@ pub record HasBothAtOnce (h : Hall) : Type 0 where
   pub writing : IsWriting h writer mutex
   pub reading : IsReading h reader mutex
 
--- without any one look, both are reached at once
+-- two contexts write one mutex
+pub record HasTwoWriters (h : Hall) : Type 0 where
+  pub one : ℕ
+  pub other : ℕ
+  pub mutex : ℕ
+  pub differ : one ≢ other
+  pub one_writes : IsWriting h one mutex
+  pub other_writes : IsWriting h other mutex
+
+abbrev pub GoesWrong : Omission → Hall → Type 0
+GoesWrong look_at_owner = HasTwoWriters
+GoesWrong _ = HasBothAtOnce
+
+-- without any one look, two are reached at once that the laws above exclude
 pub record IsNeeded (look : Omission) : Type 0 where
   pub layout : Layout
   pub hall : Hall
   pub reached : IsReachedWithout look layout hall
-  pub both : HasBothAtOnce hall
+  pub wrong : GoesWrong look hall
 
 abbrev pub EachLookIsNeeded : Type 0
 EachLookIsNeeded = (look : Omission) → IsNeeded look

@@ -13,7 +13,7 @@ pub fn writers_exclude_readers()
     ensures { WritersExcludeReaders }
 {}
 
-/// It is the only one who writes it.
+/// It is the only one who writes it, as writers know it by themselves.
 pub fn writers_exclude_writers()
     ensures { WritersExcludeWriters }
 {}
@@ -28,7 +28,8 @@ pub fn readers_and_writers_come()
     ensures { ReadersAndWritersCome }
 {}
 
-/// Without any one of a reader's three looks, or of a writer's at the marks, moves lead to a writer beside a reader.
+/// Without any one of a reader's three looks, or of a writer's at the marks, moves lead to a writer beside a reader; and to
+/// two writers where a mutex is taken from its owner.
 pub fn each_look_is_needed()
     ensures { EachLookIsNeeded }
 {}

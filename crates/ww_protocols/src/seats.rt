@@ -11,13 +11,13 @@ pub fn nobody_uses_it_yet()
     ensures { NobodyUsesItYet }
 {}
 
-/// A seat is BUSY just where it has a user, and IS_KEPT just where it has a keeper.
+/// A seat is BUSY just where it has a user, and a thread's own is one thread's at a time.
 pub fn seats_say_whose_they_are()
     ensures { SeatsSayWhoseTheyAre }
 {}
 
-/// Where nobody is in a call of a queue, no seat is free while a thread waits, and none that tasks may claim while a task waits,
-/// unless one was called.
+/// Of the seats that aren't threads' own: where nobody is in a call of a queue, none is free while a thread waits, and none that
+/// tasks may claim while a task waits, unless one was called.
 pub fn no_seat_is_lost()
     ensures { NoSeatIsLost }
 {}

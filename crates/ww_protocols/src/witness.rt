@@ -1,8 +1,8 @@
 //! The theorems of seats speak of something, and need their rules.
 ghost use Rattle.ww_protocols.specs.Witness.{SuchAreReached, EachRuleMatters};
 
-/// A class is reached in which one returns a seat while its keeper, another, stops keeping it; and one at rest in which
-/// a task waits beside a seat that is free, and another was called.
+/// A class is reached in which one uses a seat that is another's own; and one at rest in which a task waits beside a
+/// seat that is free, and another was called.
 pub fn such_are_reached()
     ensures { SuchAreReached }
 {}

@@ -25,7 +25,7 @@ use Rattle.ww_view.specs.View.{Knows}
 use Rattle.ww_view.specs.May.{MayGive, MayLeave}
 use Rattle.ww_view.specs.Made.{view_after, naps_after, queued, has_asked, given, died, interrupted, has_heeded, begun, exited, found_none, has_read, found_uncancelled, noted}
 use Rattle.ww_view.proofs.Tells.{asked_is}
-use Rattle.ww_view.proofs.Inside.{mine_look, mine_uncancelled, mine_lost_sign, mine_read, mine_read_none, mine_missed, mine_kept, mine_glanced, mine_found_pending, mine_shut_out, mine_stepped}
+use Rattle.ww_view.proofs.Inside.{mine_look, mine_uncancelled, mine_lost_sign, mine_read, mine_read_none, mine_missed, mine_kept, mine_glanced, mine_seen_word, mine_found_pending, mine_shut_out, mine_stepped}
 use Rattle.ww_invariant.specs.declared.cells.Part.{Part}
 use Rattle.ww_invariant.specs.declared.cells.Sight.{Sight}
 use Rattle.ww_invariant.specs.declared.cells.Start.{Start}
@@ -250,6 +250,9 @@ module _ {key : Start} (m : Moment key) (id : ℕ) (me : Sat) (here : get_elem? 
       (plain refl refl refl refl refl (λ f. absurd (true≢false (sym f))) (λ u. u))
   is_read _ _ (play.glances i) = as_read refl refl
       (mine_glanced (core m) me.0.part.core mine.part.knows)
+      (plain refl refl refl refl refl (λ f. f) (λ u. u))
+  is_read _ _ (play.sees n low) = as_read refl refl
+      (mine_seen_word (core m) me.0.part.core mine.part.knows n _)
       (plain refl refl refl refl refl (λ f. f) (λ u. u))
   is_read _ _ (play.tells_nothing i) = as_read refl refl
       mine.part.knows

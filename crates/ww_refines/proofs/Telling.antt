@@ -209,7 +209,8 @@ module _ {key : Start} (m : Moment key) (id : ℕ) (me : Sat) (h : StandsThere m
     take_bare = take_bare_plays;
     give_bare = give_bare_plays;
     has = λ n low away slots w a valid told. found (owner_at key.locks n) a v (play.tells_nothing _) valid told.0;
-    whose = λ n low slots w a valid told. found (owner_at key.locks n) a v (play.tells_nothing _) valid told.0;
+    whose = λ n low slots w a valid told. found (owner_at key.locks n) a
+        (made.has_seen_word v n (word m id me (owner_at key.locks n))) (play.sees n low) valid (told.1 n (at_room n)).0;
     end = end_plays;
     place = place_plays;
     glance = λ n low may slots w a valid told. found (owner_at key.locks n) a (made.glanced v) (play.glances _) valid told.1;

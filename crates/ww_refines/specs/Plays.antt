@@ -17,7 +17,7 @@ use Rattle.ww_view.specs.declared.view.View.{View}
 use Rattle.ww_view.specs.Word.{taken_word, asked_word, given_word, rest_word}
 use Rattle.ww_view.specs.View.{owns, IsAway, IsBare, IsQuiet}
 use Rattle.ww_view.specs.May.{MayFast, MayEnter, MayJoin, MayTake, MayAsk, MayGive, MayDie, MayHeed, MayStop, MaySign, MayClear, MayExit, MayLeave}
-use Rattle.ww_view.specs.Made.{ended, fast_taken, fast_missed, fast_given, fast_kept, glanced, found_pending, shut_out, has_looked, noted, has_read, found_none, found_uncancelled, stepped as made_a_step, taken, given}
+use Rattle.ww_view.specs.Made.{ended, fast_taken, fast_missed, fast_given, fast_kept, glanced, has_seen_word, found_pending, shut_out, has_looked, noted, has_read, found_none, found_uncancelled, stepped as made_a_step, taken, given}
 use Rattle.ww_invariant.specs.declared.cells.Cell.{Cell}
 use Rattle.ww_invariant.specs.declared.cells.Cell.TheVariants.{Content, Line}
 use Rattle.ww_invariant.specs.declared.cells.Part.{Part}
@@ -54,12 +54,13 @@ module _ {key : Start} (m : Moment key) (id : ℕ) (me : Sat) where
   read i v = changed i (word i) (knowing me.0 v) keeps
 
   -- What a seat's view is once it read word i, and made neither an event nor found that it has no sign, or no cancel:
-  -- it looked at an owner word inside the guard; read a word from outside; read its own sign, which isn't 0; found a
+  -- it looked at an owner word inside the guard; read a word from outside; saw whose a lock is; read its own sign, which isn't 0; found a
   -- seat signed, or its cancel pending; or found another word than it expected.
   pub data IsFound : ℕ → View → Type 0 where
     looks : (n : ℕ) (o : Owner) → own.inside ≡ suc n → IsValid o → word (owner_at key.locks n) ≡ packed o →
         IsFound (owner_at key.locks n) (has_looked own o)
     glances : (i : ℕ) → IsFound i (glanced own)
+    sees : (n : ℕ) → n < key.locks → IsFound (owner_at key.locks n) (has_seen_word own n (word (owner_at key.locks n)))
     tells_nothing : (i : ℕ) → IsFound i own
     is_signed : word (sign_at key.locks own.who) ≢ 0 →
         IsFound (sign_at key.locks own.who) (has_read own (word (sign_at key.locks own.who)))

@@ -15,7 +15,7 @@ use Rattle.ww_view.specs.View.{owns, IsAway}
 use Rattle.ww_view.specs.May.{WantsBase, WantsSigns, MayFast}
 use Rattle.ww_view.specs.Made.{with_heir}
 use Rattle.ww_invariant.specs.Rule.{Sat}
-use Rattle.ww_invariant.specs.Steps.{drawing_none}
+use Rattle.ww_invariant.specs.Steps.{drawing_none, seeing}
 use Rattle.ww_invariant.specs.Signs.{having_read, finding_none}
 use Rattle.ww_invariant.specs.Cancels.{cancelling, finding_pending}
 use Rattle.ww_invariant.specs.Guards.{AreSeats, shutting_out}
@@ -215,6 +215,10 @@ pub record MaySleep (patience : Patience) (bells : List Bell) (waits : Waits) (s
 pub record HasStayedAway (s s' : Standing) : Type 0 where
   pub now : s' ≡ record s { me = s'.me }
   pub glanced : HasGlanced s.me s'.me
+
+-- it saw whose lock n is: its view says which number it found in the lock's word, and nothing else has changed
+abbrev pub HasSeenWord : Standing → ℕ → ℕ → Standing → Type 0
+HasSeenWord s n word s' = s' ≡ record s { me = (seeing s.me.0 n word, s.me.1) }
 
 -- it stays away, and has so many spin reads left
 pub record MayGlanceOn (stay : Stay) (v : View) : Type 0 where

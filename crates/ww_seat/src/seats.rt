@@ -41,13 +41,13 @@ impl Seat {
     ghost use Rattle.ww_view.specs.May.{MayGlance};
     ghost use Rattle.ww_invariant.specs.declared.cells.Start.{Start};
     ghost use Rattle.ww_invariant.specs.Rule.{first_graph};
-    ghost use Rattle.ww_word.specs.AnySeats.{IsValid};
+    ghost use Rattle.ww_word.specs.AnySeats.{IsValid, packed};
     ghost use Rattle.ww_invariant.specs.Steps.{MayDraw, MayEnd};
     ghost use Rattle.ww_invariant.specs.Guards.{glancing};
     ghost use Rattle.ww_table.specs.Seat.{IsNew, locks_of, size_of, taking_of, giving_of};
     ghost use Rattle.ww_seat.specs.Bells.{AreBellsOf};
     ghost use Rattle.ww_seat.specs.Work.{ComesOutside};
-    ghost use Rattle.ww_seat.specs.Standings.{Standing, standing_of, view_in, size_in, owns_any, OwnsNodes, IsAt, IsKept, IsBegin, IsEnd, MayTry, MayTryBare, MayTakeBare, MayLookSigned, HasLookedSigned, IsTry, IsTryBare, MayWait, MayWaitWith, IsWait, StaysEven, MayRelease, MayReleaseNode, MayReleaseBare, IsGive, IsGiveBare, IsGiven, MayCancel, HasCancelled, IsCancel, MayCommit, IsCommit, MayGoIn, IsGoneIn, IsAtWorkThere, HasAttempted, IsVisit, IsGivingThere, IsGoneInToGive, HasGivenOn};
+    ghost use Rattle.ww_seat.specs.Standings.{Standing, standing_of, view_in, size_in, owns_any, OwnsNodes, IsAt, IsKept, IsBegin, IsEnd, MayTry, MayTryBare, MayTakeBare, MayLookSigned, HasLookedSigned, HasSeenWord, IsTry, IsTryBare, MayWait, MayWaitWith, IsWait, StaysEven, MayRelease, MayReleaseNode, MayReleaseBare, IsGive, IsGiveBare, IsGiven, MayCancel, HasCancelled, IsCancel, MayCommit, IsCommit, MayGoIn, IsGoneIn, IsAtWorkThere, HasAttempted, IsVisit, IsGivingThere, IsGoneInToGive, HasGivenOn};
 
     /// A seat that has done nothing yet.
     #[inline(always)]
@@ -149,8 +149,10 @@ impl Seat {
     #[inline(always)]
     pub fn is_free(&mut self, board: &Board, lock: u32) -> bool
         requires at { IsAt board.now self.old }
-        requires may { (lock < locks_of board.now) × IsAway (view_in self.old) }
-        ensures { (self.new ≡ self.old) × (result ≡ true → owns (view_in self.old) lock ≡ false) }
+        requires there { lock < locks_of board.now }
+        ensures lacks { result ≡ true → owns (view_in self.old) lock ≡ false }
+        ensures free { result ≡ true → HasSeenWord self.old lock 0 self.new }
+        ensures taken { result ≡ false → (word : ℕ) × (word ≢ 0) × HasSeenWord self.old lock word self.new }
     {
         self.seat.is_free(board, lock)
     }
@@ -160,7 +162,8 @@ impl Seat {
     pub fn whose(&mut self, board: &Board, lock: u32) -> Owner
         requires at { IsAt board.now self.old }
         requires there { lock < locks_of board.now }
-        ensures { (self.new ≡ self.old) × IsValid result }
+        ensures valid { IsValid result }
+        ensures seen { HasSeenWord self.old lock (packed result) self.new }
     {
         self.seat.whose(board, lock)
     }

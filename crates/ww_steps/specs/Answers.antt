@@ -1,7 +1,7 @@
 -- What became of a call of a desk, by its answer. A call may learn something of the locks, which its view then says.
 use Rattle.std.specs.Prelude.{ℕ, suc, ◌≡◌, ◌≢◌, ◌<◌, ◌≤◌, ◌+◌, ◌-◌, ◌⊎◌, ◌∷◌, ◌++◌, [], Option, Bool, true, false, List, Some, None, length}
 use Rattle.ww_plain.specs.Numbers.{is_among}
-use Rattle.ww_view.specs.Made.{found_pending, shut_out, without}
+use Rattle.ww_view.specs.Made.{found_pending, has_seen_word, shut_out, without}
 use Rattle.ww_invariant.specs.Rule.{times}
 use Rattle.ww_table.specs.declared.seat.Taking.{Taking}
 use Rattle.ww_table.specs.declared.seat.Taking.TheVariants as try
@@ -297,10 +297,16 @@ IsHasAnswer s n Busy s' = (is_at_rest s.turn ≡ false) × (s' ≡ s)
 IsHasAnswer s n Invalid s' = (is_at_rest s.turn ≡ true) × (is_among n s.held ≡ false) × (s' ≡ s)
 IsHasAnswer s n _ s' = ⊥
 
--- whether nobody had the lock or waited for it, as its word said at one moment; then it didn't hold it itself
+-- by one look it saw this number in the lock's word, which its view says then; and nothing else has changed
+abbrev pub HasLookedAt : Situation → ℕ → ℕ → Situation → Type 0
+HasLookedAt s n word s' = s' ≡ record s { view = has_seen_word s.view n word }
+
+-- Whether the number that it saw in the lock's word is 0, as it is where nobody has the lock or waits for it; then it didn't hold
+-- it itself.
 abbrev pub IsFreeAnswer : Situation → ℕ → Answer → Situation → Type 0
-IsFreeAnswer s n Done s' = (is_at_rest s.turn ≡ true) × HasLockNumber s n × (is_among n s.held ≡ false) × (s' ≡ s)
-IsFreeAnswer s n Busy s' = ((is_at_rest s.turn ≡ false) ⊎ HasLockNumber s n) × (s' ≡ s)
+IsFreeAnswer s n Done s' = (is_at_rest s.turn ≡ true) × HasLockNumber s n × (is_among n s.held ≡ false) × HasLookedAt s n 0 s'
+IsFreeAnswer s n Busy s' = ((is_at_rest s.turn ≡ false) × (s' ≡ s))
+    ⊎ ((is_at_rest s.turn ≡ true) × HasLockNumber s n × ((word : ℕ) × (word ≢ 0) × HasLookedAt s n word s'))
 IsFreeAnswer s n Invalid s' = (is_at_rest s.turn ≡ true) × (s.size ≤ n) × (s' ≡ s)
 IsFreeAnswer s n _ s' = ⊥
 

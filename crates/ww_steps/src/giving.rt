@@ -97,6 +97,7 @@ impl Desk {
 
     /// Whether nobody has a lock or waits for it, by one look at its word: `Done`, or `Busy` where somebody does. It tells
     /// nothing of later.
+    #[tactic(auto, using(crate::proofs::Seeing::seen_at_rest, crate::proofs::Seeing::seen_of))]
     pub fn is_free(&mut self, lock: u32) -> Answer
         ensures { IsFreeAnswer self.old lock result self.new }
     {

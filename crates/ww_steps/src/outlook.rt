@@ -67,6 +67,7 @@ impl Desk {
     ghost use Rattle.ww_steps.specs.Outlooks.{IsOutlookAnswer, IsWoundedAnswer};
 
     /// Whose a lock is, by one look at its word. It decides nothing, and tells nothing of later.
+    #[tactic(auto, using(crate::proofs::Seeing::seen_keeps))]
     pub fn outlook(&mut self, lock: u32) -> Result<Outlook, NoOutlook>
         ensures { IsOutlookAnswer self.old lock result self.new }
     {

@@ -1,10 +1,10 @@
 -- Each step outside all guards: what it requires of its seat, and what came of it.
-use Rattle.std.specs.Prelude.{ℕ, ◌≡◌, ◌<◌, ◌≤◌, ◌≢◌, ◌^◌, ◌==◌, ◌∷◌, Bool, true, false, List, length, Option, Some, IfSome, IfNone, IsSome, vec_capacity}
+use Rattle.std.specs.Prelude.{ℕ, ◌≡◌, ◌<◌, ◌≤◌, ◌≢◌, ◌^◌, ◌∷◌, Bool, true, false, List, length, Option, Some, IfSome, IfNone, IsSome, vec_capacity}
 use Rattle.std.specs.List.{AllByRecursion}
 use mathlib.Core.Option.{some}
 use lib.ListN.{get_elem?}
 use Rattle.ww_word.specs.declared.owner.Owner.{Owner}
-use Rattle.ww_word.specs.AnySeats.{IsValid}
+use Rattle.ww_word.specs.AnySeats.{IsValid, packed}
 use Rattle.ww_plain.specs.declared.node.Node.{Node}
 use Rattle.ww_plain.specs.declared.history.Record.{Record}
 use Rattle.ww_plain.specs.Graph.{IsNodeOf}
@@ -18,7 +18,7 @@ use Rattle.ww_invariant.specs.declared.cells.Cell.TheVariants.{Content}
 use Rattle.ww_invariant.specs.declared.cells.Sight.{Sight}
 use Rattle.ww_invariant.specs.Rule.{Sat}
 use Rattle.ww_invariant.specs.Out.{AreOthers, slot_of}
-use Rattle.ww_invariant.specs.Steps.{knowing, drawing, drawing_none, taking, giving, keeping, placing, IsToldBy}
+use Rattle.ww_invariant.specs.Steps.{knowing, drawing, drawing_none, taking, giving, keeping, placing, seeing, IsToldBy}
 use Rattle.ww_invariant.specs.Signs.{having_read, finding_none}
 use Rattle.ww_invariant.specs.Cancels.{finding_uncancelled, heeding}
 use Rattle.ww_table.specs.declared.board.Board.{Board}
@@ -119,20 +119,21 @@ pub record HasAskedWhoOwns (b : Board) (s : Stepper) (n : ℕ) (owner : Bool) (s
   pub me : s'.seat.me ≡ s.seat.me
   pub owns : owner ≡ view.owns (view_of s) n
 
--- It is told whether the word that it found there is 0, and nothing has changed. That word told whether it owns the lock, as a
--- word of 0 tells that it doesn't.
-pub record HasAskedIfFree (b : Board) (s : Stepper) (n : ℕ) (free : Bool) (s' : Stepper) : Type 0 where
+-- It is told whether the number that it found in the lock's word is 0: its view says what it found, and nothing else has changed.
+-- That number told whether it owns the lock, if it is away; and 0 tells that it doesn't.
+pub record HasAskedIfFree (b : Board) (s : Stepper) (n : ℕ) (answer : Bool) (s' : Stepper) : Type 0 where
   pub seat : IsSeatOf b s'
   pub same : s' ≡ record s { seat = s'.seat }
-  pub me : s'.seat.me ≡ s.seat.me
-  pub word : (found : ℕ) × (free ≡ (found == 0)) × IsToldBy (view_of s) n found
-  pub lacks : free ≡ true → view.owns (view_of s) n ≡ false
+  pub free : answer ≡ true → s'.seat.me ≡ (seeing s.seat.me.0 n 0, s.seat.me.1)
+  pub taken : answer ≡ false → (found : ℕ) × (found ≢ 0) × (s'.seat.me ≡ (seeing s.seat.me.0 n found, s.seat.me.1))
+  pub word : (found : ℕ) × (s'.seat.me ≡ (seeing s.seat.me.0 n found, s.seat.me.1)) × (IsAway (view_of s) → IsToldBy (view_of s) n found)
+  pub lacks : answer ≡ true → view.owns (view_of s) n ≡ false
 
--- it is told whose the lock was by its word, and nothing has changed
-pub record HasAskedWhose (b : Board) (s : Stepper) (o : Owner) (s' : Stepper) : Type 0 where
+-- It is told whose the lock was by the number that it found in the lock's word, which its view says; and nothing else has changed.
+pub record HasAskedWhose (b : Board) (s : Stepper) (n : ℕ) (o : Owner) (s' : Stepper) : Type 0 where
   pub seat : IsSeatOf b s'
   pub same : s' ≡ record s { seat = s'.seat }
-  pub me : s'.seat.me ≡ s.seat.me
+  pub me : s'.seat.me ≡ (seeing s.seat.me.0 n (packed o), s.seat.me.1)
   pub valid : IsValid o
 
 -- ---- nodes that are out

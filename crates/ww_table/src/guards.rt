@@ -94,7 +94,7 @@ impl Stepper {
     pub fn whose(&mut self, board: &Board, lock: u32) -> Owner
         requires at { IsSeatOf board.now self.old }
         requires there { lock < locks_of board.now }
-        ensures { HasAskedWhose board.now self.old result self.new }
+        ensures { HasAskedWhose board.now self.old lock result self.new }
     {
         let shared = &board.table.shared;
         let word = shared.load::<Whose>(&mut self.seat, owner_word(board.locks, lock));

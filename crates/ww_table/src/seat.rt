@@ -16,7 +16,7 @@ use crate::board::Board;
 use arrayvec::ArrayVec;
 use ww_invariant::layout::{STAMP, owner_word, packed_word, spread_word};
 use ww_invariant::nodes::{node_there, swap_there};
-use ww_invariant::plays::{Draw, End, GiveBare, GiveFree, Owns, TakeBare, TakeFree};
+use ww_invariant::plays::{Draw, End, GiveBare, GiveFree, Owns, TakeBare, TakeFree, Whose};
 use ww_invariant::{MAX_OUT, Page, TableSeat, bring};
 use ww_plain::{Node, Record};
 use ww_queue::Kind;
@@ -302,15 +302,14 @@ impl Stepper {
         without_flags(found) == without_flags(own)
     }
 
-    /// Whether nobody has a lock or waits for it, by a look at the lock's word from outside its guard. Others may change the
-    /// word any time.
+    /// Whether nobody has a lock or waits for it, by a look at the lock's word. Others may change the word any time.
     pub fn is_free(&mut self, board: &Board, lock: u32) -> bool
         requires at { IsSeatOf board.now self.old }
-        requires may { (lock < locks_of board.now) × IsAway (view_of self.old) }
+        requires there { lock < locks_of board.now }
         ensures { HasAskedIfFree board.now self.old lock result self.new }
     {
         let shared = &board.table.shared;
-        let found = shared.load::<Owns>(&mut self.seat, owner_word(board.locks, lock));
+        let found = shared.load::<Whose>(&mut self.seat, owner_word(board.locks, lock));
         found == 0
     }
 

@@ -1,7 +1,7 @@
--- An owner word of 0 is that of a free lock for which nobody waits.
-use Rattle.std.proofs.Common.{ℕ, ◌≡◌, Bool, true, false, List, [], inl, refl, sym, ap, ◌∙◌, arith}
+-- An owner word tells whose the lock is; one of 0 is that of a free lock for which nobody waits.
+use Rattle.std.proofs.Common.{ℕ, ◌≡◌, Bool, true, false, List, [], refl, sym, ap, ◌∙◌}
 use Rattle.ww_word.specs.Owner.{idle}
-use Rattle.ww_word.specs.AnySeats.{IsValid, packed}
+use Rattle.ww_word.specs.AnySeats.{packed}
 use Rattle.ww_queue.specs.declared.entry.Entry.{Entry}
 use Rattle.ww_model.specs.declared.state.Holder.{Holder}
 use Rattle.ww_model.specs.declared.state.Holder.TheVariants.{Nobody}
@@ -9,11 +9,8 @@ use Rattle.ww_model.specs.State.{State, word_from, word_of}
 use Rattle.ww_model.proofs.Kept.{reached_is_lawful}
 use Rattle.ww_view.proofs.Tells.{no_seat, no_flags}
 use Rattle.ww_view.proofs.Written.{wide_found_is}
-use Rattle.ww_invariant.proofs.Moves.{have_room}
-use Rattle.ww_table_laws.specs.Laws.{FreeWordsTell}
-
-idle_valid : IsValid idle
-idle_valid = record { seating = (refl, omega arith); flags = inl refl }
+use Rattle.ww_invariant.proofs.Moves.{have_room, idle_valid}
+use Rattle.ww_table_laws.specs.Laws.{FreeWordsTell, WordsTellWhose}
 
 -- what its word says then
 free_word : (c : State) (owner : Holder) (asked : Bool) (q : List Entry) → owner ≡ Nobody → asked ≡ false → q ≡ [] →
@@ -34,3 +31,6 @@ free_words_tell key s r n low = let c = r.core in let at = (reached_is_lawful c 
       ∙ free_word c (c.owner n) (c.asked n) (c.queue n) free.0
       (not_asked_for c n (c.asked n) (λ asked none. (at.asked_taken asked).1 none) free.1) free.1,
 )
+
+pub words_tell_whose : WordsTellWhose
+words_tell_whose key s r n o low valid found = wide_found_is r.core n o r.reached (have_room key s r) valid (sym found ∙ r.words.owners n low)

@@ -4,12 +4,13 @@ use mathlib.Core.Option.{some}
 use lib.ListN.{get_elem?}
 use Rattle.ww_word.specs.declared.owner.Owner.{Owner}
 use Rattle.ww_word.specs.AnySeats.{IsValid, packed}
-use Rattle.ww_view.specs.Made.{noted, found_uncancelled, stepped, glanced, found_pending, shut_out, has_looked, has_read, found_none, fast_missed, fast_kept}
-use Rattle.ww_view.proofs.Inside.{mine_look, mine_uncancelled, mine_lost_sign, mine_read, mine_read_none, mine_missed, mine_kept, mine_glanced, mine_found_pending, mine_shut_out, mine_stepped}
+use Rattle.ww_view.specs.Made.{noted, found_uncancelled, stepped, glanced, has_seen_word, found_pending, shut_out, has_looked, has_read, found_none, fast_missed, fast_kept}
+use Rattle.ww_view.proofs.Inside.{mine_look, mine_uncancelled, mine_lost_sign, mine_read, mine_read_none, mine_missed, mine_kept, mine_glanced, mine_seen_word, mine_found_pending, mine_shut_out, mine_stepped}
 use Rattle.ww_invariant.specs.Layout.{lock_at}
 use Rattle.ww_invariant.specs.declared.cells.Start.{Start}
 use Rattle.ww_invariant.specs.Rule.{St, Sat, Sits, Ruled, Stays}
 use Rattle.ww_invariant.specs.Guards.{looking, glancing}
+use Rattle.ww_invariant.specs.Steps.{seeing}
 use Rattle.ww_invariant.specs.Signs.{noting}
 use Rattle.ww_invariant.proofs.Moves as moves
 use Rattle.ww_invariant.proofs.InsideMoves.{inside_low}
@@ -32,6 +33,11 @@ module _ (key : Start) (s : St) (r : Ruled key s) (id : ℕ) (me : Sat) (here : 
 
   pub owns_stays : (n : ℕ) → Stays key s r (once_read s (lock_at key.locks n) id me me.0)
   owns_stays n = moves.looks_on key s r id me here seated (lock_at key.locks n) me.0.part.core refl (λ m. refl) mine.part.knows
+
+  pub whose_stays : (n : ℕ) → Stays key s r (once_read s (lock_at key.locks n) id me (seeing me.0 n (get_or s.words (lock_at key.locks n) 0)))
+  whose_stays n = let x : ℕ = get_or s.words (lock_at key.locks n) 0 in
+      moves.looks_on key s r id me here seated (lock_at key.locks n) (has_seen_word me.0.part.core n x) refl (λ m. refl)
+      (mine_seen_word r.core me.0.part.core mine.part.knows n x)
 
   pub count_stays : Stays key s r (once_read s 0 id me (glancing me.0))
   count_stays = moves.looks_on key s r id me here seated 0 (glanced me.0.part.core) refl (λ m. refl)

@@ -4,7 +4,8 @@ use mathlib.Core.Option.{some}
 use lib.ListN.{get_elem?}
 use Rattle.atomic_table.specs.Table.{stepped, keeps, takes, gives, rest, opening}
 use Rattle.ww_word.specs.Owner as narrow
-use Rattle.ww_word.specs.AnySeats.{packed, most_for}
+use Rattle.ww_word.specs.declared.owner.Owner.{Owner}
+use Rattle.ww_word.specs.AnySeats.{IsValid, packed, most_for}
 use Rattle.ww_model.specs.declared.event.Event.{Event}
 use Rattle.ww_model.specs.declared.event.Event.TheVariants.{Begin, Fast, FastGive, Commit, End}
 use Rattle.ww_model.specs.State.{State, start, word_of}
@@ -103,6 +104,11 @@ WordsTellOwners = (key : Start) (s : St) (r : Ruled key s) (id : ℕ) (me : Sat)
 abbrev pub FreeWordsTell : Type 0
 FreeWordsTell = (key : Start) (s : St) (r : Ruled key s) (n : ℕ) → n < key.locks →
     (slice_index s.words (owner_at key.locks n) ≡ 0) ↔ ((r.core.owner n ≡ Nobody) × (r.core.queue n ≡ []))
+
+-- An owner whose word stands there is the lock's, with the flags that the lock has.
+abbrev pub WordsTellWhose : Type 0
+WordsTellWhose = (key : Start) (s : St) (r : Ruled key s) (n : ℕ) (o : Owner) → n < key.locks → IsValid o →
+    slice_index s.words (owner_at key.locks n) ≡ packed o → o ≡ word_of r.core n
 
 -- The part of the rule that tells who owns a lock (`RuleTellsOwners`). The owner words show a state of the core, in which a lock
 -- has one owner at most; each seat that steps knows which locks are its own there; and each number stands in one place.

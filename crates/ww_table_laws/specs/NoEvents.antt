@@ -12,7 +12,7 @@ use Rattle.ww_invariant.specs.declared.cells.Sight.{Sight}
 use Rattle.ww_invariant.specs.declared.cells.Start.{Start}
 use Rattle.ww_invariant.specs.Layout.{owner_at, sign_at, stamp_at}
 use Rattle.ww_invariant.specs.Rule.{St, Sat, Ruled, Stays}
-use Rattle.ww_invariant.specs.Steps.{knowing, keeping, nobody, first_seat, without_first, with_seat}
+use Rattle.ww_invariant.specs.Steps.{knowing, seeing, keeping, nobody, first_seat, without_first, with_seat}
 use Rattle.ww_invariant.specs.Guards.{lost, shutting_out, looking, glancing}
 use Rattle.ww_invariant.specs.Signs.{noting, having_read, finding_none}
 use Rattle.ww_invariant.specs.Cancels.{finding_pending, finding_uncancelled}
@@ -38,10 +38,10 @@ abbrev pub OwnsIsNoEvent : Type 0
 OwnsIsNoEvent = (key : Start) (s : St) (r : Ruled key s) (id : ℕ) (me : Sat) (n : ℕ) → StepsAt s id me →
     Stays key s r (once_read s (owner_at key.locks n) id me me.0)
 
--- a look whose a lock is
+-- a look whose a lock is, of which the view notes what was found
 abbrev pub WhoseIsNoEvent : Type 0
 WhoseIsNoEvent = (key : Start) (s : St) (r : Ruled key s) (id : ℕ) (me : Sat) (n : ℕ) → StepsAt s id me →
-    Stays key s r (once_read s (owner_at key.locks n) id me me.0)
+    Stays key s r (once_read s (owner_at key.locks n) id me (seeing me.0 n (slice_index s.words (owner_at key.locks n))))
 
 -- a spin read of the stamp word
 abbrev pub CountIsNoEvent : Type 0

@@ -1,6 +1,6 @@
 //! Laws of the table: each function's contract is one. A step's own call cites the lemma that its law does.
 
-ghost use Rattle.ww_table_laws.specs.Laws.{DrawIsBegin, SpentIsNoEvent, FewSeatsSpendNone, FewSeatsHaveNarrowWords, TakeFreeIsFast, GiveFreeIsFastGive, TakeBareIsFast, GiveBareIsFastGive, EndIsEnd, PlaceIsCommit, RuledIsLawful, ShownIsOne, StepsExtendTheRun, NewTableShowsStart, NewSeatsCanClose, WordsTellOwners, FreeWordsTell, RuleTellsOwners, OwnersExclude};
+ghost use Rattle.ww_table_laws.specs.Laws.{DrawIsBegin, SpentIsNoEvent, FewSeatsSpendNone, FewSeatsHaveNarrowWords, TakeFreeIsFast, GiveFreeIsFastGive, TakeBareIsFast, GiveBareIsFastGive, EndIsEnd, PlaceIsCommit, RuledIsLawful, ShownIsOne, StepsExtendTheRun, NewTableShowsStart, NewSeatsCanClose, WordsTellOwners, FreeWordsTell, WordsTellWhose, RuleTellsOwners, OwnersExclude};
 
 /// From every table that the rule allows, a draw is the event Begin on what is shown.
 pub fn draw_is_begin()
@@ -53,6 +53,12 @@ pub fn words_tell_owners()
 #[tactic(auto, using(crate::proofs::Freedom::free_words_tell))]
 pub fn free_words_tell()
     ensures { FreeWordsTell }
+{}
+
+/// The word of a lock tells whose it is.
+#[tactic(auto, using(crate::proofs::Freedom::words_tell_whose))]
+pub fn words_tell_whose()
+    ensures { WordsTellWhose }
 {}
 
 /// At each moment that the rule allows, the part of it holds on which mutual exclusion rests.

@@ -21,8 +21,8 @@ pub fn owns_is_no_event()
     ensures { OwnsIsNoEvent }
 {}
 
-/// So does a look whose one is.
-#[tactic(auto, using(crate::proofs::NoEvents::owns_stays))]
+/// So does a look whose one is, of which the view notes what was found.
+#[tactic(auto, using(crate::proofs::NoEvents::whose_stays))]
 pub fn whose_is_no_event()
     ensures { WhoseIsNoEvent }
 {}

@@ -14,6 +14,8 @@ mod growths;
 #[cfg(test)]
 mod locks;
 #[cfg(test)]
+mod passes;
+#[cfg(test)]
 mod transactions;
 mod worlds;
 

@@ -14,7 +14,7 @@ use ww_plain::{Graph, Node, PORTS};
 use ww_queue::Kind;
 
 /// A world of these nodes, with two passes, each of which may begin once.
-fn two_passes(
+pub(crate) fn two_passes(
     alloc: Global,
     kind: Kind,
     nodes: &[(u64, Option<u8>)],

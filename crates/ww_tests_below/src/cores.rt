@@ -207,3 +207,31 @@ fn a_cancel_that_was_set_after_another_was_heeded_stays(rt: HostRuntime) -> Resu
     }
     Ok(())
 }
+
+#[test]
+fn a_replay_ends_at_the_first_event_that_is_impossible(rt: HostRuntime) -> Result<(), Fail> {
+    let events = [Event::Begin(0), Event::Fast(0, 0), Event::Fast(1, 0)];
+    let whole = replay(rt.alloc(), Kind::WoundWait, 1, 2, &events);
+    assert!(rt; whole.err() == Some(ReplayFault::Impossible(2)));
+    assert!(rt; replay(rt.alloc(), Kind::WoundWait, 1, 2, &events[..2]).is_ok());
+    Ok(())
+}
+
+/// An event that is refused leaves the core as it was: what is possible after each is possible still.
+#[test]
+fn a_core_goes_on_past_what_it_refuses(rt: HostRuntime) -> Result<(), Fail> {
+    let mut core = Core::new(rt.alloc(), Kind::WoundWait, 1, 2)?;
+    for (event, answer) in [
+        (Event::Begin(0), Some(Answer::Stamp(1))),
+        (Event::Fast(0, 0), Some(Answer::Locked)),
+        (Event::Fast(1, 0), None),
+        (Event::Commit(0), Some(Answer::Place(0))),
+        (Event::End(0), None),
+        (Event::FastGive(0, 0), Some(Answer::Done)),
+        (Event::End(0), Some(Answer::Done)),
+        (Event::Commit(0), None),
+    ] {
+        assert!(rt; core.step(event).ok() == answer);
+    }
+    Ok(())
+}

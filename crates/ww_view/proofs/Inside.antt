@@ -24,7 +24,7 @@ use Rattle.ww_model.proofs.Dues.{by_kind, wound_from, sign_for, sign_owed, sign_
 use Rattle.ww_view.specs.declared.view.View.{View}
 use Rattle.ww_view.specs.Word.{taken_word, asked_word, given_word, rest_word}
 use Rattle.ww_view.specs.View.{owns, KnowsQueues, Knows, IsQuiet}
-use Rattle.ww_view.specs.Made.{entry_of_view, queued, taken, has_asked, given, died, has_heeded, interrupted, has_looked, noted, has_condemned, has_read, found_none, found_uncancelled, cleared, fast_missed, fast_kept, glanced, found_pending, shut_out, stepped}
+use Rattle.ww_view.specs.Made.{entry_of_view, queued, taken, has_asked, given, died, has_heeded, interrupted, has_looked, noted, has_condemned, has_read, found_none, found_uncancelled, cleared, fast_missed, fast_kept, glanced, has_seen_word, found_pending, shut_out, stepped}
 use Rattle.ww_view.proofs.Written.{word_join, word_take, word_ask, word_give, word_die, word_leave}
 use Rattle.ww_view.proofs.Mine.{taken_from, gets, gives, bare_still}
 
@@ -196,6 +196,9 @@ module _ (c : State) (v : View) (k : Knows c v) where
 
   pub mine_glanced : Knows c (glanced v)
   mine_glanced = assumption
+
+  pub mine_seen_word : (n word : ℕ) → Knows c (has_seen_word v n word)
+  mine_seen_word n word = assumption
 
   pub mine_found_pending : Knows c (found_pending v)
   mine_found_pending = assumption

@@ -16,7 +16,7 @@ use Rattle.ww_view.specs.declared.view.View.{View}
 use Rattle.ww_view.specs.Word.{words_after}
 use Rattle.ww_view.specs.View.{IsBare, IsAway, IsQuiet, Knows, first_view}
 use Rattle.ww_view.specs.May.{MayDie, MaySign, MayExit, MayStop, MetByView, Shows}
-use Rattle.ww_view.specs.Made.{died, interrupted, fast_missed, fast_kept, glanced, found_pending, shut_out, has_looked, noted, has_read, found_none, found_uncancelled, stepped, view_after}
+use Rattle.ww_view.specs.Made.{died, interrupted, fast_missed, fast_kept, glanced, has_seen_word, found_pending, shut_out, has_looked, noted, has_read, found_none, found_uncancelled, stepped, view_after}
 
 -- ---- what a seat knows
 
@@ -46,6 +46,7 @@ pub record FindsMore (c : State) (v : View) : Type 0 where
   pub found_uncancelled : Knows c (found_uncancelled v)
   pub missed : Knows c (fast_missed v)
   pub glanced : Knows c (glanced v)
+  pub seen_word : (n word : ℕ) → Knows c (has_seen_word v n word)
   pub found_pending : Knows c (found_pending v)
   pub shut_out : Knows c (shut_out v)
   pub stepped : Knows c (stepped v)

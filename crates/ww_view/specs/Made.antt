@@ -101,6 +101,10 @@ fast_kept v = record v { fresh = false; kept = v.kept + 1 }
 abbrev pub glanced : View → View
 glanced v = record v { glances = v.glances + 1; all_glances = v.all_glances + 1 }
 
+-- it looked whose lock n is, and found this number in its owner word; others may change that word at any time
+abbrev pub has_seen_word : View → ℕ → ℕ → View
+has_seen_word v n word = record v { words_seen = (n, word) ∷ v.words_seen }
+
 -- it would set the cancel of a seat, and one was pending
 abbrev pub found_pending : View → View
 found_pending v = record v { pendings = v.pendings + 1 }

@@ -65,6 +65,7 @@ first_view kind locks seats s = record {
   naps = 0;
   deaf = 0;
   locks = [];
+  words_seen = [];
 }
 
 -- Nobody else writes the owner word of this lock while the seat is inside its guard: somebody waits there, or the lock is

@@ -83,4 +83,7 @@ pub struct View {
     pub deaf: u64,
     /// The locks that it owns, in the order in which it took them.
     pub locks: LinkedList<u32>,
+    /// How often it looked whose a lock is, the last time first: which lock, and which number it found in its owner word.
+    /// No other step changes it.
+    pub words_seen: LinkedList<(u32, u64)>,
 }

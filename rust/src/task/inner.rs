@@ -254,7 +254,7 @@ impl Inside {
 
     /// The call, if it needn't wait; else `-ETIMEDOUT`.
     #[inline]
-    pub(super) fn poll_once(&mut self, asked: Asked) -> c_int {
+    pub(super) fn poll_once(&mut self, class: &'static RawClass, asked: Asked) -> c_int {
         if let Some(rare) = self.rare.as_mut() {
             if !rare.is_free() {
                 return -ffi::ETIMEDOUT;
@@ -264,11 +264,25 @@ impl Inside {
             }
         }
         // SAFETY: the number is one of the context's class, and no call is on its way.
-        unsafe { asked.poll_once(self.raw()) }
+        let answer = unsafe { asked.poll_once(class, self.raw()) };
+        let first = self.rare.as_mut().filter(|_| answer == -ffi::EALREADY).and_then(|rare| rare.prelocked.take());
+        // As for threads: its number may be that of a shared mutex by now, or of what the library reads by.
+        let Some(first) = first else { return answer };
+        // SAFETY: the context holds it, without a guard; and as above.
+        unsafe {
+            ffi::unlock(first.index(), self.raw());
+            asked.poll_once(class, self.raw())
+        }
     }
 
     /// The lock call goes on, whose future this is, or begins.
-    pub(super) fn poll(&mut self, asked: Asked, waker: &Waker, later: &mut Later) -> Poll<Result<(), Error>> {
+    pub(super) fn poll(
+        &mut self,
+        class: &'static RawClass,
+        asked: Asked,
+        waker: &Waker,
+        later: &mut Later,
+    ) -> Poll<Result<(), Error>> {
         let mut lent = None;
         if let Call::Waits(old) = &mut self.rare().call {
             match old.take().and_then(|old| self.take_back(old)) {
@@ -278,13 +292,13 @@ impl Inside {
         } else if self.is_over() {
             return Poll::Ready(Err(Error::Deadlock));
         // SAFETY: it has begun, and no call is on its way; others wait for this one until it is.
-        } else if unsafe { asked.is_duplicate(self.raw()) } {
+        } else if unsafe { asked.is_duplicate(class, self.raw()) } {
             return Poll::Ready(Err(Error::Duplicate));
         }
         // If the clone panics, the call is as it was, but for its waker.
         let lent = lent.unwrap_or_else(|| Lent::lend(waker.clone()));
         // SAFETY: the context has begun; what is on its way is this call, or nothing.
-        let answer = unsafe { asked.poll(self.raw(), &raw const lent.0) };
+        let answer = unsafe { asked.poll(class, self.raw(), &raw const lent.0) };
         if answer == -ffi::EINPROGRESS {
             self.rare().call = Call::Waits(Some(lent));
             return Poll::Pending;

@@ -30,7 +30,7 @@ impl<'x> Acquire<'x> {
     #[inline]
     pub(super) fn poll(&mut self, asked: Asked, waker: &Waker) -> Poll<Result<(), Error>> {
         let mut inside = self.inner.enter();
-        match inside.poll_once(asked) {
+        match inside.poll_once(self.inner.class, asked) {
             0 => Poll::Ready(Ok(())),
             answer => self.poll_on(inside, asked, answer, waker),
         }
@@ -54,7 +54,7 @@ impl<'x> Acquire<'x> {
             }
             return Poll::Pending;
         }
-        let told = inside.poll(asked, waker, &mut later);
+        let told = inside.poll(self.inner.class, asked, waker, &mut later);
         self.is_under_way = told.is_pending();
         if told.is_ready() {
             later.others = mem::take(&mut inside.rare().others);

@@ -1,5 +1,6 @@
 //! Waits for a context.
 
+use super::inner::Call;
 use super::waker::Lent;
 use crate::class::RawClass;
 use crate::{error, ffi, Error};
@@ -14,8 +15,8 @@ pub(super) struct Seek {
     raw: UnsafeCell<MaybeUninit<ffi::ww_acquire_ctx>>,
     inside: UnsafeCell<ffi::ww_seek>,
     class: &'static RawClass,
-    /// Under way.
-    lent: Option<Lent>,
+    /// Its one call, which waits or hasn't begun.
+    call: Call,
     _stays: PhantomPinned,
 }
 
@@ -29,14 +30,15 @@ impl Seek {
             raw: UnsafeCell::new(MaybeUninit::uninit()),
             inside: ffi::ww_seek::new(is_within).into(),
             class,
-            lent: None,
+            call: Call::None,
             _stays: PhantomPinned,
         }
     }
 
     /// What the library has lent, if nobody was or is being woken by it.
     fn take_back(&mut self) -> Option<Waker> {
-        let lent = self.lent.take()?;
+        let Call::Waits(lent) = &mut self.call else { return None };
+        let lent = lent.take()?;
         // SAFETY: a wait is on its way; if the library says so, it has the waker no more.
         unsafe { ffi::ww_poll_take_back(self.raw.get().cast(), self.inside.get()).then(|| lent.back()) }
     }
@@ -44,17 +46,19 @@ impl Seek {
     pub(super) fn poll(self: Pin<&mut Self>, waker: &Waker) -> Poll<Result<ffi::ww_acquire_ctx, Error>> {
         // SAFETY: nothing is moved.
         let this = unsafe { self.get_unchecked_mut() };
-        let back = this.take_back();
-        let lent = Lent::lend(waker.clone());
+        let waker = waker.clone();
+        // If its drop panics, the wait is as it was, but for its waker.
+        drop(this.take_back());
+        let lent = Lent::lend(waker);
         // SAFETY: the class is static, and the wait stays where it is.
         let answer = unsafe {
             ffi::ww_acquire_init_poll(this.raw.get().cast(), this.class.get(), this.inside.get(), &raw const lent.0)
         };
-        drop(back);
         if answer == -ffi::EINPROGRESS {
-            this.lent = Some(lent);
+            this.call = Call::Waits(Some(lent));
             return Poll::Pending;
         }
+        this.call = Call::None;
         // SAFETY: the library hasn't taken it.
         drop(unsafe { lent.back() });
         match answer {
@@ -67,7 +71,7 @@ impl Seek {
 
 impl Drop for Seek {
     fn drop(&mut self) {
-        if self.lent.is_none() {
+        if matches!(self.call, Call::None) {
             return;
         }
         let back = self.take_back();

@@ -3,6 +3,7 @@
 use super::inner::Inner;
 use super::lock::Acquire;
 use super::Tx;
+use crate::class::RawClass;
 use crate::number::Number;
 use crate::{ffi, place, Class, Error, SharedMutex};
 use core::ffi::c_int;
@@ -27,14 +28,19 @@ impl Asked {
     ///
     /// # Safety
     ///
-    /// The context has begun; what is on its way is this call, or nothing.
-    pub(super) unsafe fn poll(self, raw: *mut ffi::ww_acquire_ctx, waker: *const ffi::ww_waker) -> c_int {
+    /// The context, which is of this class, has begun; what is on its way is this call, or nothing.
+    pub(super) unsafe fn poll(
+        self,
+        class: &'static RawClass,
+        raw: *mut ffi::ww_acquire_ctx,
+        waker: *const ffi::ww_waker,
+    ) -> c_int {
         // SAFETY: as asked for here.
         unsafe {
             match self {
-                Asked::Lock(number) => ffi::ww_number_lock_poll(number.index(), raw, waker),
-                Asked::Read(number) => ffi::ww_number_lock_shared_poll(number.index(), raw, waker),
-                Asked::Write(number) => ffi::ww_number_lock_exclusive_poll(number.index(), raw, waker),
+                Asked::Lock(number) => ffi::ww_mutex_lock_poll(class.at(number), raw, waker),
+                Asked::Read(number) => ffi::ww_shared_mutex_lock_shared_poll(class.at(number), raw, waker),
+                Asked::Write(number) => ffi::ww_shared_mutex_lock_poll(class.at(number), raw, waker),
                 Asked::Await => ffi::ww_shared_mutex_await_poll(raw, waker),
             }
         }
@@ -46,7 +52,7 @@ impl Asked {
     ///
     /// The context has begun, and no call of it is on its way.
     #[inline]
-    pub(super) unsafe fn poll_once(self, raw: *mut ffi::ww_acquire_ctx) -> c_int {
+    pub(super) unsafe fn poll_once(self, class: &'static RawClass, raw: *mut ffi::ww_acquire_ctx) -> c_int {
         // SAFETY: as asked for here.
         unsafe {
             match self {
@@ -57,8 +63,8 @@ impl Asked {
                         -ffi::ETIMEDOUT
                     }
                 }
-                _ if self.is_duplicate(raw) => -ffi::EALREADY,
-                _ => self.poll(raw, ptr::null()),
+                _ if self.is_duplicate(class, raw) => -ffi::EALREADY,
+                _ => self.poll(class, raw, ptr::null()),
             }
         }
     }
@@ -68,9 +74,9 @@ impl Asked {
     /// # Safety
     ///
     /// The context has begun, and no call of it is on its way.
-    pub(super) unsafe fn is_duplicate(self, raw: *mut ffi::ww_acquire_ctx) -> bool {
+    pub(super) unsafe fn is_duplicate(self, class: &'static RawClass, raw: *mut ffi::ww_acquire_ctx) -> bool {
         // SAFETY: as asked for here.
-        matches!(self, Asked::Write(number) if unsafe { ffi::ww_number_is_read(number.index(), raw) })
+        matches!(self, Asked::Write(number) if unsafe { ffi::ww_shared_mutex_is_read_by(class.at(number), raw) })
     }
 }
 

@@ -1,0 +1,445 @@
+/*
+ * class.c - classes of mutexes: how they are opened, cancelled and freed, and what they count; and what becomes of them in a
+ * child of a fork.  The lock `ww_opening`: see process.c.
+ */
+#define _GNU_SOURCE
+#include "seat.h"
+#include <limits.h>
+#include <string.h>
+#include <sys/mman.h>
+
+/* One more seat, which no context has: see ww_look_from_outside. */
+enum { SPARE = 1 };
+
+static struct ww_pool *freed; /* the memory of classes that were freed */
+
+/* ---- as the library is loaded, and forks ---- */
+
+/*
+ * The lock of the queue is held for a few instructions at a time, by whoever comes or goes while others wait: who meets it tries
+ * again before it sleeps, where the C library has such a lock.
+ */
+#ifdef PTHREAD_ADAPTIVE_MUTEX_INITIALIZER_NP
+#define MET_OFTEN PTHREAD_ADAPTIVE_MUTEX_INITIALIZER_NP
+#else
+#define MET_OFTEN PTHREAD_MUTEX_INITIALIZER
+#endif
+
+static void make_locks(struct ww_pool *p)
+{
+	p->numbers.lock = p->spare = (pthread_mutex_t)PTHREAD_MUTEX_INITIALIZER;
+	p->queue = (pthread_mutex_t)MET_OFTEN;
+}
+
+/* Whether nobody uses a seat, nor waits, which who waits for a permit and then for a seat does throughout. Opening is locked. */
+static bool is_idle(struct ww_pool *p)
+{
+	bool idle;
+
+	pthread_mutex_lock(&p->queue);
+	idle = !p->threads.first && !p->tasks.first && !waiting_threads(p);
+	for (uint32_t k = 0; k < seats_of(p) && idle; k++)
+		idle = !(__atomic_load_n(&p->seats[k].busy, __ATOMIC_ACQUIRE) & BUSY);
+	pthread_mutex_unlock(&p->queue);
+	return idle;
+}
+
+static bool is_free(pthread_mutex_t *lock) { return !pthread_mutex_trylock(lock) && !pthread_mutex_unlock(lock); }
+
+/*
+ * Whether nobody was amid what another can't go on from.  The memory here is that of one moment, at which a seat was BUSY while
+ * a step was made by it, as a mutex was locked by a context or without one.  Only these locks cover more: the queue, the spare
+ * seat, by which a look is made without a context, and numbers; and `ww_opening`, which the forking thread had, classes and whose
+ * own seats are.  Whoever was between these left at most a number that no mutex has, or its count at a mutex that it was about
+ * to wait for, which can't be destroyed then.
+ */
+static bool was_idle(struct ww_pool *p)
+{
+	return is_free(&p->queue) && is_free(&p->spare) && is_free(&p->numbers.lock) && is_idle(p);
+}
+
+/* Threads that are gone leave no age. */
+static void stop_rests(struct ww_pool *p)
+{
+	for (uint32_t k = 0; k < seats_of(p); k++)
+		stop_rest(&p->seats[k]);
+}
+
+/*
+ * A class that nobody used goes on, as do its mutexes.  Of any other, also in a child of this child, threads were in the middle of
+ * their calls, and don't exist here: so no seat and no number of it is given any more, nobody waits in its queues or looks at its
+ * limiters, and nobody takes its locks.  The memory of a freed class is used again, though a thread may have been about to leave
+ * its last context or mutex.  Opening is locked.
+ */
+static void in_child(void)
+{
+	for (struct ww_open *it = ww_all_open; it; it = it->next) {
+		struct ww_pool *p = (struct ww_pool *)it;
+
+		if (was_idle(p)) {
+			stop_rests(p);
+			continue;
+		}
+		p->gone = true;
+		p->is_crowded = false;
+		p->tasks.id = NO_ID;
+		ww_set_at_hand(p, false);
+		for (struct ww_seats *of = &p->threads; of <= &p->tasks; of++) {
+			of->seekers = 0;
+			of->due = UINT64_MAX;
+		}
+		p->crowd.quiet_until = UINT64_MAX;
+	}
+	for (struct ww_pool *p = freed; p; p = next_pool(p))
+		make_locks(p);
+}
+
+/*
+ * The next thread whose own these seats are has ages of its own, but for a seat by which a context goes on elsewhere.  Opening
+ * is locked.
+ */
+static void thread_ends(void)
+{
+	for (struct ww_open *it = ww_all_open; it; it = it->next) {
+		ww_seat *s = it->gone ? NULL : own_seat((struct ww_pool *)it);
+
+		if (s && use_own(s)) {
+			stop_rest(s);
+			give_seat(s);
+		}
+	}
+}
+
+/* Nobody else uses the library yet. */
+__attribute__((constructor(101))) static void load(void) { ww_load(thread_ends, in_child); }
+
+/* ---- what an open class consists of ---- */
+
+/* The memory of a class that was freed, or new memory. */
+static struct ww_pool *memory_of_pool(void)
+{
+	struct ww_pool *p = freed;
+
+	if (p) {
+		freed = next_pool(p);
+		return p;
+	}
+	p = aligned_alloc(_Alignof(struct ww_pool), sizeof *p);
+	if (!p)
+		return NULL;
+	memset(p, 0, sizeof *p);
+	p->copy = ww_this_copy;
+	make_locks(p);
+	for (struct ww_seats *of = &p->threads; of <= &p->tasks; of++) {
+		of->pool = p;
+		of->end = &of->first;
+	}
+	return p;
+}
+
+static void keep_memory(struct ww_pool *p)
+{
+	ww_close_numbers(&p->numbers);
+	free(p->seats);
+	p->next = (struct ww_open *)freed;
+	freed = p;
+}
+
+/* The queues of a class that is opened, which nobody uses yet. */
+static void open_seats_of(struct ww_pool *p)
+{
+	struct ww_seats *tasks = &p->tasks;
+
+#ifndef WW_FEW
+	p->processors = ww_processors();
+#else
+	p->processors = 1;
+#endif
+	p->threads.count = p->class_->contexts ? p->class_->contexts : MANY_CONTEXTS;
+	tasks->count = p->class_->contexts ? 0 : MANY_TASKS;
+	p->threads.open = p->threads.count;
+	ww_reset_task_limiter(tasks);
+	tasks->open = tasks->limiter.width;
+	tasks->called = false;
+	for (struct ww_seats *of = &p->threads; of <= &p->tasks; of++) {
+		__atomic_store_n(&of->due, 0, __ATOMIC_RELAXED);
+		__atomic_store_n(&of->sought, 0, __ATOMIC_RELAXED);
+	}
+}
+
+/* The handles of a new world are moved into the seats. */
+static void fill_seats(struct ww_pool *p, ww_handle *handles)
+{
+	memset(p->seats, 0, (seats_of(p) + SPARE) * sizeof *p->seats);
+	p->threads.seats = p->seats;
+	p->tasks.seats = &p->seats[p->threads.count - p->tasks.count];
+	p->before_own = &p->seats[p->threads.count - 1];
+	for (uint32_t k = seats_of(p) + SPARE; k--;) {
+		ww_seat *s = &p->seats[k];
+
+		ww_swap_(&s->handle, &handles[k]);
+		s->pool = p;
+		ww_make_cancel_pending(s);
+		s->busy = k >= p->threads.count && k < seats_of(p) ? IS_OWN : 0;
+		s->of = s >= p->tasks.seats && k < p->threads.count ? &p->tasks : &p->threads;
+	}
+}
+
+static int open_world(struct ww_pool *p, bool is_wait_die, ww_handle *handles)
+{
+	int r;
+
+	ww_heap_opens();
+	r = ww_open_(is_wait_die, p->numbers.locks, ((uint64_t)1 << 52) - 1, handles, seats_of(p) + SPARE);
+	if (!r) {
+		fill_seats(p, handles);
+		p->span = p->numbers.span;
+		p->words = (uintptr_t)words_of(p->seats);
+	}
+	ww_heap_opened();
+	return r;
+}
+
+static int make_pool(struct ww_class *c, bool has_own, struct ww_pool **made)
+{
+	struct ww_pool *p = memory_of_pool();
+	ww_handle *handles;
+	bool has_numbers;
+	int r;
+
+	if (!p)
+		return -ENOMEM;
+	p->class_ = c;
+	p->own_seats = has_own ? MANY_OWN : 0;
+	/* Relaxed: a thread that gave a seat of a class that had this memory may read it (ww_serve), and finds nobody in the queue. */
+	__atomic_store_n(&p->id, ww_new_id(), __ATOMIC_RELAXED);
+	p->tasks.id = ~p->id;
+	open_seats_of(p);
+	__atomic_store_n(&p->ends_waits, false, __ATOMIC_SEQ_CST);
+	has_numbers = ww_open_numbers(&p->numbers, c->mutexes);
+	p->seats = aligned_alloc(_Alignof(ww_seat), (seats_of(p) + SPARE) * sizeof *p->seats);
+	handles = calloc(seats_of(p) + SPARE, sizeof *handles);
+	r = has_numbers && p->seats && handles ? ww_debug_open(p) : -ENOMEM;
+	if (!r) {
+		r = open_world(p, !!c->is_wait_die, handles);
+		ww_reset_crowd(p);
+		if (r)
+			NOTE(CLASS_FREED, .pool = p);
+	}
+	free(handles);
+	if (r)
+		keep_memory(p);
+	*made = p;
+	return r;
+}
+
+/* ---- how a class is opened ---- */
+
+/* Opening is locked. */
+static int open_now(struct ww_class *c, bool has_own)
+{
+	struct ww_pool *p = NULL;
+	int r = 0;
+
+	if (!c->pool && !(r = ww_prepare()) && !(r = make_pool(c, has_own, &p))) {
+		p->next = ww_all_open;
+		ww_all_open = &p->open;
+		__atomic_store_n(&c->pool, p, __ATOMIC_RELEASE);
+	}
+	return r;
+}
+
+COLD int ww_class_open_with(struct ww_class *c, bool has_own)
+{
+	int r;
+
+	of_this_copy_alone(__atomic_load_n(&c->pool, __ATOMIC_ACQUIRE));
+	pthread_mutex_lock(&ww_opening);
+	r = open_now(c, has_own);
+	pthread_mutex_unlock(&ww_opening);
+	return r;
+}
+
+/* A class that says how many contexts it has has no more, so no thread has its own. */
+int ww_class_open(struct ww_class *c) { return ww_class_open_with(c, !c->contexts); }
+
+size_t ww_class_size(void) { return sizeof(struct ww_class); }
+size_t ww_mutex_size(void) { return sizeof(struct ww_mutex); }
+size_t ww_acquire_size(void) { return sizeof(struct ww_acquire_ctx); }
+
+void ww_class_init(struct ww_class *c, int is_wait_die, const char *name)
+{
+	*c = (struct ww_class){ .is_wait_die = is_wait_die, .name = name };
+}
+
+static bool is_open(const struct ww_class *c, const char *call)
+{
+	bool is = __atomic_load_n(&c->pool, __ATOMIC_RELAXED);
+
+	if (is)
+		NOTE_MISUSE(c, call, "the class is open: this comes before its first use");
+	return is;
+}
+
+int ww_class_limit(struct ww_class *c, uint32_t mutexes, uint32_t contexts)
+{
+	if (mutexes > WW_MAX_LOCKS || contexts > WW_MAX_SEATS - SPARE) {
+		NOTE_MISUSE(c, "ww_class_limit", "a class has at most 16,777,216 mutexes and 4,094 contexts");
+		return -EINVAL;
+	}
+	if (is_open(c, "ww_class_limit"))
+		return -EBUSY;
+	c->mutexes = mutexes;
+	c->contexts = contexts;
+	return 0;
+}
+
+int ww_class_crowd(struct ww_class *c, uint32_t permits)
+{
+	if (permits > MANY_PERMITS && permits != WW_NO_CROWD)
+		return -EINVAL;
+	if (is_open(c, "ww_class_crowd"))
+		return -EBUSY;
+	c->permits = permits;
+	return 0;
+}
+
+/* ---- how a mutex gets its number at its first lock ---- */
+
+/*
+ * Other threads may lock it first too. One of them gives it its number; then `alone`, where the class was, is theirs.
+ */
+COLD int ww_number_at_first(struct ww_mutex *m)
+{
+	struct ww_class *c = ww_find_class_of(m);
+	uint32_t number;
+	int r = 0;
+
+	if (!c)
+		return -EINVAL;
+	of_this_copy_alone(__atomic_load_n(&c->pool, __ATOMIC_ACQUIRE));
+	pthread_mutex_lock(&ww_opening);
+	if (!pool_at(m)) {
+		r = open_now(c, !c->contexts);
+		if (!r)
+			r = c->pool->gone ? -EINVAL : ww_take_number(&c->pool->numbers, m, &number);
+		if (!r) {
+			__atomic_store_n(&m->number, number, __ATOMIC_RELAXED); /* who locks a list may look for it already */
+			lies_at(&c->pool->numbers, number, m);
+			__atomic_store_n(&m->pool, c->pool, __ATOMIC_RELEASE);
+		}
+	}
+	pthread_mutex_unlock(&ww_opening);
+	return r;
+}
+
+/* The thread that gives the mutex its number holds the lock; once it has one, the class is that of its pool. */
+struct ww_class *ww_find_class_of(const struct ww_mutex *m)
+{
+	struct ww_class *c;
+
+	pthread_mutex_lock(&ww_opening);
+	c = pool_at(m) ? m->pool->class_ : m->class_;
+	pthread_mutex_unlock(&ww_opening);
+	return c;
+}
+
+/* ---- how a class is cancelled, and freed ---- */
+
+/* Said before anybody is woken, who looks at it after that. */
+int ww_class_cancel(struct ww_class *c)
+{
+	struct ww_pool *p;
+	int r = open_pool_of(c, &p);
+
+	if (r)
+		return r;
+	__atomic_store_n(&p->ends_waits, true, __ATOMIC_SEQ_CST);
+	for (uint32_t k = 0; k < seats_of(p); k++)
+		ww_unpark(&p->seats[k]);
+	ww_end_seeking(&p->threads);
+	ww_end_seeking(&p->tasks);
+	pthread_mutex_lock(&p->queue);
+	ww_call_waiting(p, INT_MAX);
+	pthread_mutex_unlock(&p->queue);
+	return 0;
+}
+
+/* It stands here, so that a program without shared mutexes links nothing of shared.c. */
+static void free_slots(struct ww_pool *p)
+{
+	for (uint32_t k = 0; k < MANY_BITS; k++)
+		for (struct ww_slot *slot; (slot = p->slots[k]); munmap(slot, slot->size))
+			p->slots[k] = slot->next;
+}
+
+/* A thread that gave a seat may still look for a waiter to serve, but nobody is in the queues. */
+static void free_pool(struct ww_pool *p)
+{
+	NOTE(CLASS_FREED, .pool = p);
+	for (uint32_t k = 0; k < seats_of(p) + SPARE; k++) {
+		stop_rest(&p->seats[k]);
+		NOTE(SEAT_CLOSED, .seat = &p->seats[k]);
+		if (ww_close_(&p->seats[k].handle))
+			abort(); /* nobody has a seat of it */
+	}
+	free_slots(p);
+	free(p->numbered);
+	p->numbered = NULL;
+	keep_memory(p);
+}
+
+int ww_class_free(struct ww_class *c)
+{
+	struct ww_open **at = &ww_all_open;
+	struct ww_pool *p;
+	int r = 0;
+
+	of_this_copy_alone(__atomic_load_n(&c->pool, __ATOMIC_ACQUIRE));
+	pthread_mutex_lock(&ww_opening);
+	p = c->pool;
+	if (p && !p->gone)
+		ww_reclaim_numbers(&p->numbers);
+	if (p && !p->gone && (taken_numbers(&p->numbers) || !is_idle(p))) {
+		r = -EBUSY;
+	} else if (p) {
+		while (*at != &p->open)
+			at = &(*at)->next;
+		*at = p->next;
+		__atomic_store_n(&c->pool, NULL, __ATOMIC_RELEASE);
+		/* In a forked child others may have been in the middle of their calls, so its memory stays as it is. */
+		if (!p->gone)
+			free_pool(p);
+	}
+	pthread_mutex_unlock(&ww_opening);
+	if (r)
+		NOTE(CLASS_STAYS, .class_ = c);
+	return r;
+}
+
+/* ---- what is said of a class ---- */
+
+void ww_class_stats(struct ww_class *c, struct ww_class_counts *counts)
+{
+	struct ww_pool *p;
+
+	*counts = (struct ww_class_counts){ 0 };
+	of_this_copy_alone(__atomic_load_n(&c->pool, __ATOMIC_ACQUIRE));
+	pthread_mutex_lock(&ww_opening);
+	p = c->pool;
+	if (p)
+		*counts = (struct ww_class_counts){
+			.context_waits = __atomic_load_n(&p->threads.sought, __ATOMIC_RELAXED) +
+				__atomic_load_n(&p->tasks.sought, __ATOMIC_RELAXED),
+			.permit_waits = __atomic_load_n(&p->crowd.sought, __ATOMIC_RELAXED),
+			.context_waiters = __atomic_load_n(&p->threads.seekers, __ATOMIC_RELAXED) +
+				__atomic_load_n(&p->tasks.seekers, __ATOMIC_RELAXED),
+			.task_contexts = open_seats(of_tasks(p)),
+		};
+	for (uint32_t k = 0; p && k < seats_of(p); k++) {
+		counts->lock_waits += __atomic_load_n(&p->seats[k].waits, __ATOMIC_RELAXED);
+		counts->back_offs += __atomic_load_n(&p->seats[k].back_offs, __ATOMIC_RELAXED);
+		counts->contexts += __atomic_load_n(&p->seats[k].busy, __ATOMIC_RELAXED) & BUSY;
+	}
+	pthread_mutex_unlock(&ww_opening);
+}

@@ -1,0 +1,165 @@
+/*
+ * process.c - what the library knows of the process: its threads' numbers and ends, copies of the library, forks, and the list
+ * of open classes.
+ *
+ * The lock `ww_opening` is that of this list, of the memory of classes that were freed, and of whose own seats are.  Who takes it:
+ *
+ *	here		a process forks; a thread comes to have seats of its own, or ends
+ *	class.c		a class is opened, freed, counted or shown; a mutex gets its number at its first lock
+ *	watch.c		a report is about any class (ww_lock_pools)
+ */
+#define _GNU_SOURCE
+#include "process.h"
+#include <stdio.h>
+
+__thread struct ww_mine ww_mine __attribute__((tls_model("initial-exec")));
+pthread_mutex_t ww_opening = PTHREAD_MUTEX_INITIALIZER;
+struct ww_open *ww_all_open;
+uint32_t ww_threads;
+static bool is_taken[MANY_OWN];
+static void (*reports_to)(void *data, const char *message);
+static void *reports_data;
+static pthread_key_t ending;
+static bool is_prepared, is_closed;
+static void (*at_end)(void), (*in_child)(void);
+
+/*
+ * A process may have several copies of the library, and load one where another one lay before.  So each counts from a
+ * number that it makes of its address and the time as it is loaded, by Knuth's multiplication: no two have the same ids,
+ * and none is NO_ID or 0.
+ */
+uint64_t ww_this_copy = (uint64_t)1 << 62;
+
+/* Relaxed: it is a count. */
+void ww_number_thread(void)
+{
+	static uint64_t last_thread;
+
+	if (UNLIKELY(!ww_mine.thread))
+		ww_mine.thread = ww_this_copy + __atomic_add_fetch(&last_thread, 1, __ATOMIC_RELAXED);
+}
+
+uint64_t ww_new_id(void)
+{
+	static uint64_t last_id;
+
+	return ww_this_copy + ++last_id;
+}
+
+/* ---- messages ---- */
+
+void ww_report_to(void (*function)(void *data, const char *message), void *data)
+{
+	__atomic_store_n(&reports_data, data, __ATOMIC_RELAXED);
+	__atomic_store_n(&reports_to, function, __ATOMIC_RELEASE);
+}
+
+void ww_report_message(const char *message)
+{
+	void (*to)(void *, const char *) = __atomic_load_n(&reports_to, __ATOMIC_ACQUIRE);
+
+	if (to)
+		to(__atomic_load_n(&reports_data, __ATOMIC_RELAXED), message);
+	else
+		fprintf(stderr, "%s\n", message);
+}
+
+/* ---- threads' own seats ---- */
+
+/* Others read how many there are without the lock, as a hint. Opening is locked. */
+static void set_threads(uint32_t many) { __atomic_store_n(&ww_threads, many, __ATOMIC_RELAXED); }
+
+void ww_take_own(void)
+{
+	uint32_t k = 0;
+
+	if (ww_mine.own_at || ww_mine.ends || __atomic_load_n(&ww_threads, __ATOMIC_RELAXED) == MANY_OWN)
+		return;
+	pthread_mutex_lock(&ww_opening);
+	while (k < MANY_OWN && is_taken[k])
+		k++;
+	if (k < MANY_OWN && !is_closed && !pthread_setspecific(ending, &ww_mine)) {
+		is_taken[k] = true;
+		set_threads(ww_threads + 1);
+		ww_mine.own_at = (k + 1) * sizeof(ww_seat);
+	}
+	pthread_mutex_unlock(&ww_opening);
+}
+
+/* Its seats are another thread's next, which sees by the lock what this one did with them. */
+static void end_thread(void *mine)
+{
+	(void)mine;
+	pthread_mutex_lock(&ww_opening);
+	at_end();
+	is_taken[ww_mine.own_at / sizeof(ww_seat) - 1] = false;
+	set_threads(ww_threads - 1);
+	ww_mine.own_at = 0;
+	ww_mine.ends = true;
+	pthread_mutex_unlock(&ww_opening);
+}
+
+/* The threads of the parent don't exist here, but for this one. */
+static void keep_one_own(void)
+{
+	for (uint32_t k = 0; k < MANY_OWN; k++)
+		is_taken[k] = ww_mine.own_at == (k + 1) * sizeof(ww_seat);
+	set_threads(!!ww_mine.own_at);
+}
+
+/* ---- forks ---- */
+
+static void before_fork(void) { pthread_mutex_lock(&ww_opening); }
+static void in_parent(void) { pthread_mutex_unlock(&ww_opening); }
+static void behind_fork(void)
+{
+	keep_one_own();
+	in_child();
+	pthread_mutex_unlock(&ww_opening);
+}
+
+/* Once in a program; or nobody else uses the library yet. */
+int ww_prepare(void)
+{
+	if (is_prepared)
+		return 0;
+	if (pthread_key_create(&ending, end_thread))
+		return -ENOMEM;
+	if (pthread_atfork(before_fork, in_parent, behind_fork)) {
+		pthread_key_delete(ending);
+		return -ENOMEM;
+	}
+	is_prepared = true;
+	return 0;
+}
+
+/*
+ * Handlers that are registered first are called last before a fork, and first behind it.  So the lock `ww_opening`
+ * isn't held while a handler of the program runs, which may lock mutexes.  If that fails here, whoever opens a class
+ * first tries it again.
+ */
+void ww_load(void (*thread_ends)(void), void (*child)(void))
+{
+	struct timespec now;
+
+	clock_gettime(CLOCK_MONOTONIC, &now);
+	ww_this_copy |= (((uint64_t)now.tv_sec << 30 | (uint64_t)now.tv_nsec) ^ (uintptr_t)&ww_this_copy) * 0x9e3779b97f4a7c15 >> 2;
+	at_end = thread_ends;
+	in_child = child;
+	(void)ww_prepare();
+}
+
+/*
+ * When the library is closed (dlclose), threads that used it go on, and end without it.  At the end of the program they
+ * may go on as well, and another key may get the number of this one.  Destructors of the program or of a plugin may come
+ * later, and open a class: then no thread gets seats of its own, as its end would call what isn't there any more, and no
+ * handler of a fork is registered again.
+ */
+__attribute__((destructor)) static void unprepare(void)
+{
+	pthread_mutex_lock(&ww_opening);
+	if (is_prepared)
+		pthread_key_delete(ending);
+	is_prepared = is_closed = true;
+	pthread_mutex_unlock(&ww_opening);
+}

@@ -1,0 +1,144 @@
+/*
+ * heap.c - the heap of the proved library.  What the three functions have to do is written in the toolchain's libc
+ * (src/heap.rt).
+ *
+ * A large block has pages of its own, and returns them to the system: so what is done with these here is right
+ * whatever malloc the program has.  All others are malloc's.  A pointer to its pages, or NULL, stands before each
+ * block, which begins with a cache line: so the words of four locks of a class lie in one.
+ */
+#define _GNU_SOURCE
+#include <stdint.h>
+#include <stdlib.h>
+#include <string.h>
+#include <sys/mman.h>
+#include <unistd.h>
+#include "../base/inside.h"
+
+/* Whether it was granted, and the block; if it wasn't, an address that isn't null. */
+struct tried {
+	uint64_t ok;
+	void *p;
+};
+
+struct tried rattle_alloc(size_t size, size_t align);
+struct tried rattle_realloc(void *p, size_t kept, size_t size, size_t align);
+void rattle_dealloc(void *p);
+
+static char none;
+
+/* From how many bytes on a block is large, and has large pages while it is written; and where it lies in what was taken. */
+enum { LARGE = 64 << 10, LARGE_PAGE = 2 << 20, AHEAD = 64 };
+
+/* At the beginning of the pages of a block. */
+struct pages {
+	struct pages *older; /* of those that this thread took while it opens a world */
+	size_t size;	     /* to the end of the block */
+};
+
+/* While this thread opens a world: the pages that it took last, or `no_pages`.  Otherwise NULL. */
+static __thread struct pages *taken __attribute__((tls_model("initial-exec")));
+static struct pages no_pages;
+
+static struct pages **pages_of(void *p) { return (struct pages **)p - 1; }
+
+/* What the kernel is asked for: whole large pages, so that it puts them where large pages lie. */
+static size_t asked_for(size_t size) { return size < LARGE_PAGE ? size : (size + LARGE_PAGE - 1) & -(size_t)LARGE_PAGE; }
+
+/*
+ * The tables of a class's locks are written whole when the class opens: in large pages that takes half the time, and
+ * random locks of a million miss fewer pages.  The kernel takes the request as a hint.
+ */
+static void *take_pages(size_t size)
+{
+	struct pages *it = mmap(NULL, asked_for(AHEAD + size), PROT_READ | PROT_WRITE, MAP_PRIVATE | MAP_ANONYMOUS, -1, 0);
+	void *p = (char *)it + AHEAD;
+
+	if (it == MAP_FAILED)
+		return NULL;
+	if (size >= LARGE_PAGE)
+		madvise(it, size & -(size_t)LARGE_PAGE, MADV_HUGEPAGE);
+	*it = (struct pages){ .older = taken, .size = AHEAD + size };
+	if (taken)
+		taken = it;
+	*pages_of(p) = it;
+	return p;
+}
+
+static void *take_small(size_t size)
+{
+	char *it = aligned_alloc(AHEAD, AHEAD + ((size + AHEAD - 1) & -(size_t)AHEAD));
+
+	if (!it)
+		return NULL;
+	*pages_of(it + AHEAD) = NULL;
+	return it + AHEAD;
+}
+
+struct tried rattle_alloc(size_t size, size_t align)
+{
+	void *p = size >= LARGE ? take_pages(size) : take_small(size);
+
+	(void)align;
+	return (struct tried){ .ok = p != NULL, .p = p ? p : &none };
+}
+
+struct tried rattle_realloc(void *p, size_t kept, size_t size, size_t align)
+{
+	struct tried it = rattle_alloc(size, align);
+
+	if (it.ok) {
+		memcpy(it.p, p, kept < size ? kept : size);
+		rattle_dealloc(p);
+	}
+	return it;
+}
+
+void rattle_dealloc(void *p)
+{
+	struct pages *it = *pages_of(p), **at = &taken;
+
+	if (!it) {
+		free((char *)p - AHEAD);
+		return;
+	}
+	while (*at && *at != it)
+		at = &(*at)->older;
+	if (*at)
+		*at = it->older;
+	munmap(it, asked_for(it->size));
+}
+
+/* ---- what a world writes as it opens ---- */
+
+static bool is_zero(const char *page, size_t size) { return !*page && !memcmp(page, page + 1, size - 1); }
+
+void ww_heap_opens(void) { taken = &no_pages; }
+
+/*
+ * Most of what a world writes as it opens is zero: the words of its locks, and its wait lists, in which nobody stands
+ * (that these are zeros is proved, IsZerosIfEmpty of ww_invariant; how the compiler lays them out isn't, so each page
+ * is looked at). Pages of zeros go back to the system, and are zero when they are next accessed; so a lock that nobody
+ * uses takes no memory. Where the system refuses, they stay.
+ *
+ * The wait lists are the last large block, and lie in small pages from now on: a thread that waits for a lock makes one
+ * of them resident, and would make 2 MiB.
+ */
+void ww_heap_opened(void)
+{
+	size_t page = (size_t)sysconf(_SC_PAGESIZE);
+
+	for (struct pages *it = taken; it != &no_pages; it = it->older) {
+		char *from = (char *)it + page, *end = (char *)it + it->size / page * page;
+
+		for (char *at = from; at <= end; at += page) {
+			if (at < end && is_zero(at, page))
+				continue;
+			if (from < at)
+				madvise(from, (size_t)(at - from), MADV_DONTNEED);
+			from = at + page;
+		}
+		if (it == taken && it->size >= LARGE_PAGE)
+			madvise(it, asked_for(it->size), MADV_NOHUGEPAGE);
+	}
+	taken = NULL;
+}

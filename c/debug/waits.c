@@ -1,0 +1,288 @@
+/*
+ * waits.c - the debug library's look at waits that may never end.
+ *
+ * No thread watches the others.  A thread that waits for a mutex or a context, without a time limit, looks at its own
+ * wait before each of its sleeps (ww_debug_sleeps, called by ww_futex_wait), and sleeps only until its next look.  It
+ * looks whether it is in a deadlock that no class detects, and whether it has waited for so long that somebody may have
+ * forgotten to unlock the mutex, or to end a context.  A task has no thread while it waits: whoever comes to the queue
+ * behind it looks at its wait (ww_queue_grows).
+ */
+#define _GNU_SOURCE
+#include "parts.h"
+#ifdef WW_DEBUG
+#include <errno.h>
+#include <sys/syscall.h>
+#include <unistd.h>
+
+/*
+ * After how many seconds a wait is long enough to be reported; 0: never.  In the search of schedules none is, since a
+ * wait with a time would hide that a wake-up was lost.
+ */
+#ifndef WW_PATIENCE
+#define WW_PATIENCE 10
+#endif
+static unsigned patience = WW_PATIENCE;
+static unsigned check_interval = 1000; /* in milliseconds */
+static uint64_t endless_waits;
+
+/* The wait of this thread for a mutex; it has no seat while there is none. */
+static __thread struct {
+	ww_seat *seat;
+	struct timespec looks;	 /* when it next checks whether it is in a deadlock */
+	struct timespec is_long; /* from then on it has waited for long */
+	uint64_t seen;		 /* what its last check found */
+	struct ww_seats *seeks;	 /* or it waits for one of these seats, without a time */
+	struct seeking seeking;
+} mine;
+
+void ww_report_long_waits(unsigned int seconds) { WRITE_ONCE(patience, seconds); }
+
+void ww_debug_check_interval(unsigned int milliseconds) { WRITE_ONCE(check_interval, milliseconds); }
+
+static unsigned seconds_of_patience(void) { return WW_PATIENCE > 0 ? READ_ONCE(patience) : 0; }
+
+static struct timespec in_milliseconds(uint64_t count)
+{
+	uint64_t at = ww_now() + count * 1000000;
+
+	return (struct timespec){ (time_t)(at / 1000000000), (long)(at % 1000000000) };
+}
+
+static struct timespec when_long(void) { return in_milliseconds(1000ull * seconds_of_patience()); }
+
+void ww_wait_begins(ww_seat *s, const struct ww_mutex *m, const struct ww_how *how)
+{
+	struct watch *it = watch_of(s);
+	bool is_endless = !how->until && how->who != ENDS_TASK;
+
+	mine.seat = is_endless && how->who == THREAD ? s : NULL;
+	mine.seen = 0;
+	mine.looks = in_milliseconds(READ_ONCE(check_interval));
+	mine.is_long = when_long();
+	ww_watch_use(it);
+	ww_set_place(&it->waits);
+	WRITE_ONCE(it->endless, is_endless ? __atomic_add_fetch(&endless_waits, 1, __ATOMIC_RELAXED) : 0);
+	WRITE_ONCE(it->wants, m->number + 1);
+}
+
+void ww_wait_ends(ww_seat *s)
+{
+	mine.seat = NULL;
+	WRITE_ONCE(watch_of(s)->wants, 0);
+	ww_watch_unuse(watch_of(s));
+}
+
+/* ---- deadlocks ---- */
+
+/*
+ * The seat by which the holder of what this seat waits for waits itself, in any class of the list, which is locked; or
+ * NULL.
+ */
+static const ww_seat *next_wait(const struct ww_pool *of, const ww_seat *s)
+{
+	uint32_t wants = READ_ONCE(watch_of(s)->wants);
+	uint64_t holder = wants ? READ_ONCE(s->pool->debug->mutexes[wants - 1].thread) : 0;
+
+	return holder ? ww_seat_with(of, true, A_WAIT, holder) : NULL;
+}
+
+/* Whether its thread sleeps, and nobody has woken it. */
+static bool is_parked(const ww_seat *s)
+{
+	return __atomic_load_n(&s->token, __ATOMIC_SEQ_CST) >= ARMED && !READ_ONCE(watch_of(s)->is_polled);
+}
+
+/*
+ * Follows this wait to that of the thread that holds the mutex, and so on.  If this comes back to the first wait, and
+ * each of the threads sleeps without a time, it returns a number that identifies these waits, and how many there are;
+ * otherwise 0.
+ *
+ * If two checks give the same number, each thread was in its wait all the time between them, and holds what it held: so
+ * they sleep forever.  A thread that has got something, an error or what it waited for, was woken, and isn't parked.
+ */
+static uint64_t deadlock(const struct ww_pool *of, unsigned *count)
+{
+	uint64_t number, these = 0;
+	const ww_seat *s = mine.seat, *before = NULL;
+
+	for (*count = 1; s; ++*count) {
+		number = READ_ONCE(watch_of(s)->endless);
+		if (!number || (s != mine.seat && !is_parked(s)))
+			return 0;
+		number *= MIX;
+		these += (number ^ number >> 29) * MIX; /* so that no other waits have that sum */
+		s = next_wait(of, s);
+		if (s == mine.seat)
+			return these | 1;
+		if (s == before)
+			return 0; /* this one waits for them, and is none of them */
+		if (!(*count & (*count - 1)))
+			before = s;
+	}
+	return 0;
+}
+
+/* A line for each wait. Each of them may still end by a cancel. */
+static char *text_of_deadlock(const struct ww_pool *of, unsigned count)
+{
+	const ww_seat *s = mine.seat, *next;
+	char *words;
+	size_t size;
+	FILE *to = open_memstream(&words, &size);
+
+	for (; to && count && (next = next_wait(of, s)); count--, s = next) {
+		ww_print_wait(watch_of(s), "\n", to);
+		fprintf(to, " of class \"%s\", which thread %ld holds", name_of(s->pool->class_),
+			READ_ONCE(watch_of(next)->tid));
+		ww_print_reads(s->pool, READ_ONCE(watch_of(s)->wants) - 1, to);
+	}
+	return to && !fclose(to) ? words : NULL;
+}
+
+/*
+ * The second check reports a deadlock, since one of the threads may be about to be woken; and only one of them reports
+ * it.
+ */
+static void look_for_deadlock(void)
+{
+	const struct ww_pool *of = ww_lock_pools();
+	char *text = NULL;
+	unsigned count;
+	uint64_t seen = deadlock(of, &count);
+
+	if (seen && seen == mine.seen && ww_times(seen) == 1)
+		text = text_of_deadlock(of, count);
+	ww_unlock_pools();
+	mine.seen = seen;
+	if (text)
+		ww_warn(NOW, NULL, "a wait", NULL, "no class detects this deadlock of %u thread%s%s", count,
+			  count == 1 ? "" : "s", text);
+	free(text);
+}
+
+/* ---- waits that last ---- */
+
+/* Whether its thread isn't there any more. A task goes on in any. */
+static bool has_ended(const struct watch *s)
+{
+	return READ_ONCE(s->thread) && syscall(SYS_tgkill, getpid(), READ_ONCE(s->tid), 0) == -1 && errno == ESRCH;
+}
+
+/*
+ * Reports, in the thread that waits, that its wait for a mutex has lasted for long, and where what holds the mutex
+ * began: that belongs to a thread that does something else, or to one that forgot it, or has ended without it.
+ */
+static void look_for_long_wait(void)
+{
+	const struct ww_pool *p = mine.seat->pool;
+	uint32_t number = READ_ONCE(watch_of(mine.seat)->wants) - 1;
+	const struct watch *holder = holder_with(p, number);
+
+	if (holder && !mine.seen && seconds_of_patience() && ww_has_come(&mine.is_long))
+		ww_warn(ONCE, p->class_, "a wait", &holder->began,
+			  "it has lasted %u seconds; mutex %u is held by what %sbegan at", seconds_of_patience(), number,
+			  has_ended(holder) ? "a thread that has ended left; it " : "");
+}
+
+static uint64_t *handed(const struct ww_seats *of) { return &of->pool->debug->handed[of == &of->pool->tasks]; }
+
+/* The queue is locked. */
+void ww_seat_handed(const struct ww_seats *of, const ww_seat *s)
+{
+	if (s)
+		count(handed(of));
+}
+
+static struct seeking seeking_from_now(const struct ww_seats *of)
+{
+	return (struct seeking){ when_long(), READ_ONCE(*handed(of)) };
+}
+
+/* Nobody was handed a seat during a long wait, which is to be reported once. */
+static bool is_stuck(const struct ww_seats *of, struct seeking *it)
+{
+	uint64_t before = it->handed;
+
+	if (!ww_has_come(&it->is_long))
+		return false;
+	*it = seeking_from_now(of);
+	return it->handed == before && !__atomic_exchange_n(&of->pool->debug->is_leak_reported, true, __ATOMIC_RELAXED);
+}
+
+/* A context that is left without ww_acquire_fini keeps its seat; a lock without one comes after all contexts. */
+static void report_leak(const struct ww_seats *of)
+{
+	const struct ww_pool *p = of->pool;
+	const struct watch *first = NULL;
+
+	for (uint32_t k = 0; k < of->count; k++) {
+		const struct watch *s = watch_of(&of->seats[k]);
+
+		if (is_seat_used(s) && (!first || READ_ONCE(s->stamp) - 1 < READ_ONCE(first->stamp) - 1))
+			first = s;
+	}
+	ww_warn(ONCE, p->class_, "a wait for a context", first ? &first->began : NULL,
+		  "all %u contexts have been in use for %u seconds; "
+		  "one that isn't ended by ww_acquire_fini stays in use%s",
+		  open_seats(of), seconds_of_patience(),
+		  first ? "; the oldest began at" : "");
+}
+
+void ww_seek_begins(struct ww_seats *of, const struct timespec *until)
+{
+	const ww_seat *s;
+
+	if (until)
+		return;
+	if (seconds_of_patience()) {
+		mine.seeks = of;
+		mine.seeking = seeking_from_now(of);
+	}
+	s = ww_any_seat_with(ANYTHING, this_thread());
+	if (s)
+		ww_warn(ONCE, of->pool->class_, "a wait for a context", &watch_of(s)->began,
+			  "all are in use, and deadlocks through this wait are not detected; "
+			  "the thread has what began at");
+}
+
+void ww_seek_ends(void) { mine.seeks = NULL; }
+
+/*
+ * Of tasks no thread sleeps, so who comes to wait reports that those before it wait for long.  The wait of the first in
+ * a queue is theirs.
+ */
+void ww_queue_grows(struct ww_seats *of)
+{
+	struct ww_pool *p = of->pool;
+	bool is = false;
+
+	if (of != &p->tasks || !seconds_of_patience())
+		return;
+	pthread_mutex_lock(&p->queue);
+	if (of->first && !of->first->next_)
+		p->debug->tasks = seeking_from_now(of);
+	else if (of->first)
+		is = is_stuck(of, &p->debug->tasks);
+	pthread_mutex_unlock(&p->queue);
+	if (is)
+		report_leak(of);
+}
+
+const struct timespec *ww_debug_sleeps(const struct timespec *until)
+{
+	unsigned most = READ_ONCE(check_interval);
+
+	if (mine.seeks && is_stuck(mine.seeks, &mine.seeking))
+		report_leak(mine.seeks);
+	if (mine.seeks)
+		return &mine.seeking.is_long;
+	if (!mine.seat || !most)
+		return until;
+	if (ww_has_come(&mine.looks)) {
+		look_for_deadlock();
+		look_for_long_wait();
+		mine.looks = in_milliseconds(most);
+	}
+	return until ? until : &mine.looks; /* a nap at a guard ends at once */
+}
+#endif

@@ -1,0 +1,218 @@
+/* watch.c - what the debug library knows of seats and mutexes: who uses them, and since where; and what it shows. */
+#define _GNU_SOURCE
+#include "parts.h"
+#ifdef WW_DEBUG
+#include <sys/syscall.h>
+#include <unistd.h>
+
+int ww_debug_open(struct ww_pool *p)
+{
+	size_t seats = seats_of(p) * sizeof(struct watch), mutexes = p->numbers.locks * sizeof(struct holding);
+
+	p->debug = calloc(1, sizeof *p->debug + seats + mutexes);
+	if (!p->debug)
+		return -ENOMEM;
+	p->debug->mutexes = (struct holding *)(void *)&p->debug->seats[seats_of(p)];
+	return 0;
+}
+
+const struct ww_pool *ww_lock_pools(void)
+{
+	pthread_mutex_lock(&ww_opening);
+	return (struct ww_pool *)ww_all_open;
+}
+void ww_unlock_pools(void) { pthread_mutex_unlock(&ww_opening); }
+
+/* ---- who uses a seat ---- */
+
+/* For a lock with NULL that is where it began. */
+void ww_watch_use(struct watch *s)
+{
+	if (!READ_ONCE(s->stamp))
+		ww_set_place(&s->began);
+	WRITE_ONCE(s->thread, user_of(s));
+	WRITE_ONCE(s->tid, syscall(SYS_gettid));
+}
+
+void ww_watch_unuse(struct watch *s)
+{
+	if (!READ_ONCE(s->stamp) && !READ_ONCE(s->held))
+		WRITE_ONCE(s->thread, 0);
+}
+
+void ww_watch_poll(ww_seat *s)
+{
+	if (s)
+		WRITE_ONCE(watch_of(s)->is_polled, true);
+}
+
+void ww_watch_begin(struct ww_acquire_ctx *x)
+{
+	struct watch *s = watch_of(x->own);
+
+	x->stamp = __atomic_add_fetch(&x->own->pool->debug->stamps, 1, __ATOMIC_RELAXED);
+	WRITE_ONCE(s->context, READ_ONCE(s->is_polled) ? NULL : x); /* A task's may be moved, as Rust does. */
+	ww_set_place(&s->began);
+	WRITE_ONCE(s->held, 0);
+	WRITE_ONCE(s->stamp, x->stamp);
+	ww_watch_use(s);
+}
+
+void ww_watch_end(struct watch *s)
+{
+	s->is_injected = false;
+	WRITE_ONCE(s->is_polled, false);
+	WRITE_ONCE(s->refused, NULL);
+	WRITE_ONCE(s->context, NULL);
+	WRITE_ONCE(s->thread, 0);
+	WRITE_ONCE(s->stamp, 0);
+}
+
+void ww_watch_acquire(const struct ww_mutex *m, const ww_seat *by)
+{
+	struct watch *s = watch_of(by);
+
+	ww_watch_use(s);
+	WRITE_ONCE(s->held, READ_ONCE(s->held) + 1);
+	WRITE_ONCE(holding_of(m)->seat, place_among(by));
+	WRITE_ONCE(holding_of(m)->thread, user_of(s));
+}
+
+void ww_watch_release(const struct ww_mutex *m)
+{
+	struct watch *s = holder_with(m->pool, m->number);
+
+	WRITE_ONCE(holding_of(m)->thread, 0);
+	WRITE_ONCE(holding_of(m)->seat, 0);
+	WRITE_ONCE(s->held, READ_ONCE(s->held) - 1);
+	ww_watch_unuse(s);
+}
+
+/* ---- who has what ---- */
+
+static bool has(const struct watch *s, enum has what, uintptr_t it)
+{
+	if (what == CONTEXT_AT)
+		return (uintptr_t)READ_ONCE(s->context) == it;
+	if (what == REFUSED_AT)
+		return (uintptr_t)READ_ONCE(s->refused) == it && READ_ONCE(s->thread) == this_thread();
+	if (READ_ONCE(s->thread) != it)
+		return false;
+	return what == ANYTHING || (what == A_CONTEXT ? READ_ONCE(s->stamp) :
+				    what == A_MUTEX ? READ_ONCE(s->held) : READ_ONCE(s->wants));
+}
+
+const ww_seat *ww_seat_with(const struct ww_pool *p, bool further, enum has what, uintptr_t it)
+{
+	for (; p; p = further ? next_pool(p) : NULL)
+		for (uint32_t k = 0; k < seats_of(p) && !p->gone; k++)
+			if (has(&p->debug->seats[k], what, it))
+				return &p->seats[k];
+	return NULL;
+}
+
+const ww_seat *ww_any_seat_with(enum has what, uintptr_t it)
+{
+	const ww_seat *s = ww_seat_with(ww_lock_pools(), true, what, it);
+
+	ww_unlock_pools();
+	return s;
+}
+
+/* ---- what is in use ---- */
+
+static const struct ww_slot *slot_at(const struct ww_pool *p, uint32_t number)
+{
+	const struct ww_slot *slot = NULL;
+
+	for (unsigned k = 0; k < MANY_BITS && !slot; k++)
+		for (slot = __atomic_load_n(&p->slots[k], __ATOMIC_SEQ_CST); slot && slot->mutex.number != number;)
+			slot = slot->next;
+	return slot;
+}
+
+/* A mark may be from a read that has ended, as long as another one of its context hasn't. */
+void ww_print_reads(const struct ww_pool *p, uint32_t number, FILE *to)
+{
+	const struct ww_slot *slot = slot_at(p, number);
+	const char *before = "";
+
+	if (!slot || !holder_of(&slot->mutex) || !READ_ONCE(slot->reads))
+		return;
+	fprintf(to, "\nseat %u reads mutex", slot->seat);
+	for (uint32_t n = 0; n < p->numbers.locks; n++)
+		if (has_mark(slot, n)) {
+			fprintf(to, "%s %u", before, n);
+			before = ",";
+		}
+	fprintf(to, "; for that it holds mutex %u", number);
+}
+
+void ww_print_wait(const struct watch *s, const char *before, FILE *to)
+{
+	fprintf(to, "%sthread %ld waits at ", before, READ_ONCE(s->tid));
+	ww_print_place(&s->waits, to);
+	fprintf(to, " for mutex %u", READ_ONCE(s->wants) - 1);
+}
+
+static void print_seat(const struct watch *s, uint32_t k, FILE *to)
+{
+	unsigned long stamp = READ_ONCE(s->stamp);
+
+	fprintf(to, "\nseat %u: %s%.0lu began at ", k, stamp ? "context " : "a lock without a context", stamp);
+	ww_print_place(&s->began, to);
+	if (READ_ONCE(s->wants))
+		ww_print_wait(s, "; ", to);
+	else if (READ_ONCE(s->thread))
+		fprintf(to, "; thread %ld", READ_ONCE(s->tid));
+}
+
+static void print_mutex(const struct ww_pool *p, uint32_t number, FILE *to)
+{
+	const struct watch *holder = holder_with(p, number);
+
+	if (!holder)
+		return;
+	fprintf(to, "\nmutex %u is held by seat %u", number, (uint32_t)(holder - p->debug->seats));
+	ww_print_reads(p, number, to);
+}
+
+static uint32_t used_seats(const struct ww_pool *p)
+{
+	uint32_t used = 0;
+
+	for (uint32_t k = 0; k < seats_of(p); k++)
+		used += is_seat_used(&p->debug->seats[k]);
+	return used;
+}
+
+static void print_counts(struct ww_pool *p, FILE *to)
+{
+	fprintf(to, "class \"%s\": %u of %u mutexes and %u of %u contexts in use, waits for a context: %u",
+		name_of(p->class_), taken_numbers(&p->numbers), p->numbers.mutexes, used_seats(p), seats_of(p),
+		READ_ONCE(p->threads.seekers) + READ_ONCE(p->tasks.seekers));
+	pthread_mutex_lock(&p->queue);
+	if (is_crowded(p) && p->crowd.limiter.width != NO_LIMIT)
+		fprintf(to, "; a crowd, permits: %u, waits for one: %u", p->crowd.limiter.width, p->crowd.waiting);
+	pthread_mutex_unlock(&p->queue);
+}
+
+bool ww_is_any_used(const struct ww_pool *p) { return taken_numbers(&p->numbers) || used_seats(p); }
+
+char *ww_text_of(struct ww_pool *p)
+{
+	char *words;
+	size_t size;
+	FILE *to = open_memstream(&words, &size);
+
+	if (!to)
+		return NULL;
+	print_counts(p, to);
+	for (uint32_t k = 0; k < seats_of(p); k++)
+		if (is_seat_used(&p->debug->seats[k]))
+			print_seat(&p->debug->seats[k], k, to);
+	for (uint32_t n = 0; n < p->numbers.locks; n++)
+		print_mutex(p, n, to);
+	return fclose(to) ? NULL : words;
+}
+#endif

@@ -1,0 +1,141 @@
+/*
+ * number.c - mutexes by their numbers.  The library has a shared mutex for each number that was ever taken.  A
+ * call that isn't quick makes the call of ww_mutex.h on that mutex: so it waits, backs off and is listed like any
+ * other.  A quick call uses only the number.  Therefore, outside loops, that mutex doesn't say who holds it: its lock
+ * in the library does.
+ */
+#define _GNU_SOURCE
+#include "../lock/mutex.h" /* before the next ones: here no call reports its line */
+/* Here are the functions that may be called in place of those that ww_number.h compiles into its callers. */
+#define WW_NO_INLINE
+#include "../lock/used.h"
+
+/* ---- numbers ---- */
+
+/* The mutexes of a class, or NULL if there is no memory for them: it is allocated with the first number. */
+static struct ww_shared_mutex *mutexes_of(struct ww_pool *p)
+{
+	pthread_mutex_lock(&p->numbers.lock);
+	/* Released here, and acquired in mutex_at: a thread that sees the address sees that the memory is zeroed. */
+	if (!p->numbered)
+		__atomic_store_n(&p->numbered, calloc(p->numbers.locks, sizeof *p->numbered), __ATOMIC_RELEASE);
+	pthread_mutex_unlock(&p->numbers.lock);
+	return p->numbered;
+}
+
+/* The mutex of a number, which is kept when the number is put back; NULL if the number was never taken. */
+static struct ww_shared_mutex *mutex_at(const struct ww_pool *p, uint32_t number)
+{
+	struct ww_shared_mutex *all = number < p->numbers.locks ? __atomic_load_n(&p->numbered, __ATOMIC_ACQUIRE) : NULL;
+
+	return all && pool_at(&all[number].mutex_) ? &all[number] : NULL;
+}
+
+struct ww_shared_mutex *ww_number_at(uint32_t number, struct ww_class *c)
+{
+	const struct ww_pool *p = __atomic_load_n(&c->pool, __ATOMIC_ACQUIRE);
+
+	return p ? mutex_at(p, number) : NULL;
+}
+
+/* A thread that knew the number before may still wait for it.  Relaxed: nobody puts the number back before this. */
+int ww_number_take(uint32_t *number, struct ww_class *c)
+{
+	struct ww_mutex *m;
+	struct ww_pool *p;
+	int r = open_pool_of(c, &p);
+
+	if (!r && !mutexes_of(p))
+		r = -ENOMEM;
+	if (!r)
+		r = ww_take_number(&p->numbers, NULL, number);
+	if (r)
+		return r;
+	m = &p->numbered[*number].mutex_;
+	if (!pool_at(m)) {
+		m->number = *number;
+		__atomic_store_n(&m->waiters, IS_OF_NUMBER, __ATOMIC_RELAXED);
+		__atomic_store_n(&m->pool, p, __ATOMIC_RELEASE);
+	}
+	__atomic_fetch_add(&m->waiters, IS_TAKEN, __ATOMIC_RELAXED);
+	lies_at(&p->numbers, *number, m);
+	return 0;
+}
+
+/*
+ * A waiter counts itself first, and becomes the holder before it stops counting as a waiter.  Of several threads that
+ * put the number back only one does.  In a forked child nobody uses it any more, and it isn't given.
+ */
+static int put_number(uint32_t number, struct ww_class *c, bool leaves)
+{
+	struct ww_shared_mutex *m = ww_number_at(number, c);
+	uint32_t taken = m ? __atomic_load_n(&m->mutex_.waiters, __ATOMIC_SEQ_CST) : 0;
+	struct ww_pool *p = m ? pool_at(&m->mutex_) : NULL;
+	bool is_used;
+
+	if (p && p->gone)
+		return 0;
+	is_used = taken & IS_TAKEN && (taken != (IS_TAKEN | IS_OF_NUMBER) || ww_has_users(&p->numbers, number, m));
+	if (is_used && !leaves)
+		return -EBUSY;
+	if (taken & IS_TAKEN && __atomic_fetch_and(&m->mutex_.waiters, ~IS_TAKEN, __ATOMIC_SEQ_CST) & IS_TAKEN) {
+		(is_used ? ww_leave_number : ww_give_number)(&p->numbers, number);
+		return 0;
+	}
+	NOTE_MISUSE(c, "ww_number_put", "nobody has taken the number, or it was put back before");
+	return -EINVAL;
+}
+
+int ww_number_put(uint32_t number, struct ww_class *c) { return put_number(number, c, false); }
+
+void ww_number_leave(uint32_t number, struct ww_class *c) { (void)put_number(number, c, true); }
+
+/* ---- by a context ---- */
+
+/* The mutex of a number in the context's class, or NULL, which is reported. */
+static struct ww_mutex *mutex_asked(const char *call, uint32_t number, const struct ww_acquire_ctx *x)
+{
+	struct ww_shared_mutex *m = x && x->own ? mutex_at(x->own->pool, number) : NULL;
+
+	if (!m)
+		NOTE_MISUSE(NULL, call, x && x->own ? "the class has no mutex of this number" : "the context has ended");
+	return m ? &m->mutex_ : NULL;
+}
+
+/* The quick call notes the holder in the mutex: only a loop may do that. */
+int ww_number_lock(uint32_t number, struct ww_acquire_ctx *x)
+{
+	struct ww_mutex *m = mutex_asked("ww_number_lock", number, x);
+
+	return !m ? -EINVAL : LIKELY(is_loop(x)) ? ww_mutex_lock(m, x) : ww_mutex_lock_else_(m, x);
+}
+
+int ww_number_trylock(uint32_t number, struct ww_acquire_ctx *x)
+{
+	struct ww_mutex *m = mutex_asked("ww_number_trylock", number, x);
+
+	return m ? ww_mutex_trylock_else_(m, x) : 0;
+}
+
+int ww_number_unlock(uint32_t number, struct ww_acquire_ctx *x)
+{
+	struct ww_mutex *m = mutex_asked("ww_number_unlock", number, x);
+	int r;
+
+	if (!m || is_polled(x))
+		return m ? -EBUSY : -EINVAL;
+	r = is_loop(x) ? 0 : ww_has_(&x->own->handle, number); /* in a loop there is a list */
+	r = !r || is_orphaned_by_fork(x->own, r) ? ww_unlock_of(m, x) : -EINVAL;
+	if (r)
+		NOTE_MISUSE(x->own->pool->class_, "ww_number_unlock", "the context doesn't hold the mutex");
+	return r;
+}
+
+/* If r is an error, nothing was done yet. */
+int ww_number_unlock_further_(uint32_t number, struct ww_acquire_ctx *x, int r)
+{
+	if (r < 0)
+		return ww_number_unlock(number, x);
+	x->acquired--;
+	return ww_release_on(x->own, r);
+}

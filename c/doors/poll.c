@@ -1,0 +1,156 @@
+/*
+ * poll.c - contexts that wait without a thread.  They wait as threads do (wait.c, queue.c), with their own waker instead
+ * of one that wakes a thread.
+ */
+#define _GNU_SOURCE
+#define WW_NO_INLINE /* As mutex.c. */
+#include "poll.h"
+#include "../lock/mutex.h"
+#include <sys/syscall.h>
+#include <unistd.h>
+
+/* ---- lock calls ---- */
+
+int ww_may_poll(const char *call, struct ww_mutex *m, struct ww_acquire_ctx *x, unsigned what)
+{
+	int r;
+
+	if (x && phase_of(x) == IN_POLL && x->call.of == m && x->call.what == what)
+		return 0;
+	r = ww_admit(call, CALL_POLL, m, x, NULL);
+	if (r)
+		return r;
+	NOTE(SEAT_POLLED, .seat = x->own);
+	x->call = (struct ww_call){ m, what };
+	return 0;
+}
+
+int ww_poll_on(struct ww_mutex *m, struct ww_acquire_ctx *x, struct ww_how how)
+{
+	int r = WW_SLEEPS;
+
+	how.who = how.waker ? TASK : ENDS_TASK;
+	how.is_interruptible = true;
+	if (is_polled(x)) {
+		ww_disarm(x->own);
+	} else {
+		r = ww_lock_(&x->own->handle, m->number, false);
+		if (r > 0) {
+			x->polled = m;
+			x->state |= IS_POLLED;
+		}
+	}
+	r = ww_lock_on(m, x, x->own, r, &how);
+	if (r == -EINPROGRESS)
+		return r;
+	x->state &= ~(unsigned)IS_POLLED;
+	NOTE(LOCK_RETURNS, .mutex = m, .context = x, .r = r);
+	return r;
+}
+
+int ww_mutex_lock_poll(struct ww_mutex *m, struct ww_acquire_ctx *x, const struct ww_waker *waker)
+{
+	int r = ww_may_poll("ww_mutex_lock_poll", m, x, TO_LOCK);
+
+	return r ? r : ww_poll_on(m, x, (struct ww_how){ .waker = waker });
+}
+
+/* What the call released at once it visited: that where the context got -EDEADLK, or a slot by which another reads. */
+int ww_acquire_end_wait(struct ww_acquire_ctx *x)
+{
+	struct ww_mutex *m = x->polled, *of = x->call.of;
+	bool visits = x->call.what == TO_AWAIT || (x->call.what == TO_WRITE && m != of);
+	int r;
+
+	if (!x->own || !is_polled(x))
+		return x->own ? 0 : -EINVAL;
+	r = ww_poll_on(m, x, (struct ww_how){ .asks = of, .visits = visits });
+	if (!r)
+		(void)(visits ? unlock_by(m, x->own) : ww_unlock_of(m, x));
+	if (x->call.what == TO_WRITE && m != of)
+		(void)ww_unlock_of(of, x);
+	if (x->call.what == TO_READ && m == of && !x->own->slot->reads)
+		(void)ww_unlock_of(&x->own->slot->mutex, x);
+	return r == -ETIMEDOUT ? 0 : r;
+}
+
+/* ---- contexts ---- */
+
+/* Waits for a seat, or goes on with that.  Without a waker it ends the wait, or begins none. */
+static __attribute__((noinline)) int seek(struct ww_class *c, struct ww_seek *me, const struct ww_waker *waker, ww_seat **s)
+{
+	bool waits = me && me->of_, served;
+	struct ww_pool *p;
+	int r = !waits ? open_pool_of(c, &p) : me->of_->pool->gone ? -EINVAL : 0;
+
+	*s = r || waits ? NULL : ww_task_seat(p, me && me->is_within);
+	if (r || *s || (!waits && !waker))
+		return !r && !*s ? -ETIMEDOUT : r;
+	if (!waits)
+		*me = (struct ww_seek){ .of_ = of_tasks(p), .waker_ = *waker, .heeds_ = true };
+	served = !waits ? ww_queue_up(me) : waker ? ww_poll_seat(me, waker) : !ww_leave_queue(me);
+	if (!served && waker)
+		return -EINPROGRESS;
+	*s = served ? me->seat_ : NULL;
+	*me = (struct ww_seek){ 0 };
+	return !served ? -ETIMEDOUT : *s ? 0 : -EINTR;
+}
+
+void ww_seek_end(struct ww_seek *me)
+{
+	ww_seat *s;
+
+	if (me->of_ && !seek(NULL, me, NULL, &s))
+		give_seat(s);
+}
+
+/* Most contexts of Rust's tasks come without a seek, and find the seat that a task of this thread used last. */
+int ww_acquire_init_poll(struct ww_acquire_ctx *x, struct ww_class *c, struct ww_seek *me, const struct ww_waker *waker)
+{
+	struct ww_pool *p = LIKELY(!me) ? __atomic_load_n(&c->pool, __ATOMIC_ACQUIRE) : NULL;
+	ww_seat *s = LIKELY(p) ? claim_last(of_tasks(p), p) : NULL;
+	int r = LIKELY(s) ? 0 : seek(c, me, waker, &s);
+
+	if (r == -EINPROGRESS)
+		return r;
+	NOTE(SEAT_POLLED, .seat = s);
+	return ww_begin_by(x, s, r);
+}
+
+/* False if another thread has taken the waker, to call it.  In a forked child nobody does, nor has the lock. */
+bool ww_poll_take_back(struct ww_acquire_ctx *x, struct ww_seek *seek)
+{
+	struct ww_pool *p = seek && seek->of_ ? seek->of_->pool : NULL;
+	bool was_there;
+
+	if (!p)
+		return x->own && is_polled(x) && ww_disarm(x->own);
+	if (!p->gone)
+		pthread_mutex_lock(&p->queue);
+	was_there = seek->waker_.wake;
+	seek->waker_ = (struct ww_waker){ 0 };
+	if (!p->gone)
+		pthread_mutex_unlock(&p->queue);
+	return was_there;
+}
+
+/* ---- loops that watch a descriptor ---- */
+
+/*
+ * What a task wrote before is released with the list.  If the list isn't empty, the thread that filled it first writes
+ * to the descriptor.  It does so by syscall, since in write(2) pthread_cancel could end a thread during its unlock.
+ */
+void ww_event_wake(void *event, void *woken)
+{
+	struct ww_event *to = event;
+	struct ww_woken *it = woken, *first = __atomic_load_n(&to->first_, __ATOMIC_RELAXED);
+	const uint64_t one = 1;
+
+	do
+		it->next = first;
+	while (!__atomic_compare_exchange_n(&to->first_, &first, it, true, __ATOMIC_RELEASE, __ATOMIC_RELAXED));
+	if (!first)
+		syscall(SYS_write, to->descriptor, &one, sizeof one);
+}
+
+struct ww_woken *ww_event_take(struct ww_event *event) { return __atomic_exchange_n(&event->first_, NULL, __ATOMIC_ACQUIRE); }

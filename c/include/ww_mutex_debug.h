@@ -1,0 +1,96 @@
+/*
+ * ww_mutex_debug.h - what the debug library has besides; ww_mutex.h includes this where WW_DEBUG is defined
+ *
+ * Compile each file of the program with -DWW_DEBUG, and link -lww_debug instead of -lww: without
+ * the first the library says so, once.  Besides what a call returns, standard error then has:
+ *
+ * Misuse: with its line and a backtrace.  If the same comes again at that line, for the same class,
+ * a line says how often it has come: at the second, fourth, eighth time, and so on.
+ *
+ * States: what a context or the memory of a class has become that no call makes of it ends the
+ * program, and is written: by an internal error, or since the program overwrote memory.
+ *
+ * Warnings, about calls that are right but dangerous, once for each line and class: a thread
+ * begins a second context; it locks with NULL while it holds a mutex of the class; it waits
+ * for a context while it has a context or a mutex of any class; it begins a context, also for a
+ * task, and the last three that it began at that line ended after -EDEADLK; ww_class_free fails,
+ * and what is in use.  A context belongs to the thread that last acquired something with it, or
+ * began it.  A wait with a time limit gives no warning; a wait that a cancel can end may give one.
+ *
+ * Deadlocks that no class detects, through several classes or locks with NULL: a thread that
+ * sleeps checks for them at intervals.  Each is reported once, with all its threads, and what
+ * each waits for, and where.
+ *
+ * Long waits: a thread has waited for a mutex for ten seconds, once for each line and class,
+ * with the place where its holder began; or all contexts have been in use, once a class, with
+ * the place where the oldest began: of tasks the next one that comes to wait has it written.
+ * ww_report_long_waits sets another time.  Either may have been left by a return or a throw, without
+ * ww_acquire_fini.  If another context begins in the memory of such a context, that is
+ * reported as misuse.
+ *
+ * It also makes some lock calls of contexts that hold a mutex return -EDEADLK without need,
+ * so that the program's retries are tested.
+ */
+#ifndef WW_MUTEX_DEBUG_H
+#define WW_MUTEX_DEBUG_H
+#include "ww_mutex.h"
+#include <stdio.h>
+#ifdef __cplusplus
+extern "C" {
+#endif
+/*
+ * Writes what of a class is in use, which may be out of date by then: a line for each context
+ * and each lock with NULL, with where it began and what it waits for, and one for each mutex
+ * that is held.  tools/picture draws from that who waits for whom.
+ */
+void ww_class_print(struct ww_class *ww_class, FILE *to);
+/* How many calls were misuse, also those of which nothing was written. */
+unsigned long ww_debug_faults(void);
+/* How many warnings and deadlocks were reported. */
+unsigned long ww_debug_warnings(void);
+/*
+ * Sets the interval, in milliseconds, at which waits that begin from now on check for a
+ * deadlock; the second check that finds it reports it.  The default is 1,000; 0: no checks.
+ */
+void ww_debug_check_interval(unsigned int milliseconds);
+/*
+ * After how many seconds a wait without a time limit is long: 10, unless this sets another
+ * number; 0: never.  It holds for waits that begin from now on, of all classes.
+ */
+void ww_report_long_waits(unsigned int seconds);
+/* Says where the next call is made: in C or C++; and in another language, in which a backtrace tells nothing. */
+void ww_debug_at_(const char *file, int line);
+void ww_debug_line_(const char *file, int line);
+#ifdef __cplusplus
+}
+#endif
+
+/* As in the kernel: a context with deadlock_inject_countdown ~0u gets no -EDEADLK without need. */
+#define CONFIG_DEBUG_WW_MUTEX_SLOWPATH 1
+#ifndef WW_CLASS_H
+#define WW_HERE_ ww_debug_at_(__FILE__, __LINE__)
+#define ww_mutex_init(...) (WW_HERE_, ww_mutex_init(__VA_ARGS__))
+#define ww_mutex_destroy(...) (WW_HERE_, ww_mutex_destroy(__VA_ARGS__))
+#define ww_mutex_end_(...) (WW_HERE_, ww_mutex_end_(__VA_ARGS__))
+#define ww_acquire_init(...) (WW_HERE_, ww_acquire_init(__VA_ARGS__))
+#define ww_acquire_init_checked(...) (WW_HERE_, ww_acquire_init_checked(__VA_ARGS__))
+#define ww_acquire_init_until(...) (WW_HERE_, ww_acquire_init_until(__VA_ARGS__))
+#define ww_acquire_done(...) (WW_HERE_, ww_acquire_done(__VA_ARGS__))
+#define ww_acquire_end_try(...) (WW_HERE_, ww_acquire_end_try(__VA_ARGS__))
+#define ww_acquire_unlock_all(...) (WW_HERE_, ww_acquire_unlock_all(__VA_ARGS__))
+#define ww_acquire_fini(...) (WW_HERE_, ww_acquire_fini(__VA_ARGS__))
+#define ww_mutex_lock(lock, ctx) (WW_HERE_, WW_LOCK_(lock, ctx))
+#define ww_mutex_lock_interruptible(...) (WW_HERE_, ww_mutex_lock_interruptible(__VA_ARGS__))
+#define ww_mutex_lock_slow(...) (WW_HERE_, ww_mutex_lock_slow(__VA_ARGS__))
+#define ww_mutex_lock_slow_interruptible(...) (WW_HERE_, ww_mutex_lock_slow_interruptible(__VA_ARGS__))
+#define ww_mutex_lock_until(...) (WW_HERE_, ww_mutex_lock_until(__VA_ARGS__))
+#define ww_mutex_lock_slow_until(...) (WW_HERE_, ww_mutex_lock_slow_until(__VA_ARGS__))
+#define ww_mutex_lock_all(...) (WW_HERE_, ww_mutex_lock_all(__VA_ARGS__))
+#define ww_mutex_trylock(...) (WW_HERE_, ww_mutex_trylock(__VA_ARGS__))
+#define ww_mutex_trylock_checked(...) (WW_HERE_, ww_mutex_trylock_checked(__VA_ARGS__))
+#define ww_mutex_unlock(...) (WW_HERE_, ww_mutex_unlock(__VA_ARGS__))
+#define ww_class_free(...) (WW_HERE_, ww_class_free(__VA_ARGS__))
+#define ww_class_limit(...) (WW_HERE_, ww_class_limit(__VA_ARGS__))
+#define ww_class_crowd(...) (WW_HERE_, ww_class_crowd(__VA_ARGS__))
+#endif
+#endif

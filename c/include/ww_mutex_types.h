@@ -1,0 +1,79 @@
+/*
+ * ww_mutex_types.h - the structures of ww_mutex.h, which includes this
+ *
+ * The fields are the library's, except those that the head of ww_mutex.h names.  The structures belong to the binary interface
+ * (ww_version): their sizes and places don't change without its first number.
+ */
+#ifndef WW_MUTEX_TYPES_H
+#define WW_MUTEX_TYPES_H
+#include "ww_steps.h" /* the version, and WW_MUST_CHECK */
+#include <time.h>
+
+struct ww_pool; /* what an open class has */
+struct ww_seat;
+struct timespec; /* which <time.h> has not by -std=c99 */
+
+/* A class of mutexes: a context belongs to one, and locks the mutexes of that class alone. */
+struct ww_class {
+	struct ww_pool *pool;		/* once it is open */
+	uint32_t mutexes, contexts;	/* how many it has; 0: 65,536, and 1,024 besides threads' own */
+	int is_wait_die;
+	uint32_t permits;		/* how many threads begin contexts in a crowd; 0: as many as are measured to be best */
+	const char *name;
+};
+
+struct ww_acquire_ctx;
+
+struct ww_mutex_base {
+	void *address_;
+};
+
+struct ww_mutex {
+	__extension__ union {
+		struct ww_mutex_base base;
+		struct ww_acquire_ctx *ctx; /* NULL: no context holds it */
+	};
+	struct ww_pool *pool;		/* NULL: it has no number */
+	__extension__ union {
+		struct ww_class *class_; /* `pool` is NULL: its class; NULL: it isn't initialized */
+		void *alone;		/* odd: the address of the seat by which it is held without a context, plus one */
+		struct ww_mutex *older;	/* else: what its context acquired before it, if that is listed */
+	};
+	uint32_t number;
+	uint32_t waiters;
+};
+
+/* What a call of ww_poll.h asks for. */
+struct ww_call {
+	struct ww_mutex *of;
+	unsigned int what;
+};
+
+struct ww_acquire_ctx {
+	struct ww_pool *pool;		/* its class's, if its locks may be quick; no class's once it has ended, or if they have more to do */
+	struct ww_seat *own;		/* NULL once it has ended */
+	void *gives;			/* the same; or empty_, if an unlock has more to do */
+	unsigned int acquired;		/* how many mutexes it holds */
+	unsigned int state;		/* with its flags */
+	struct ww_mutex *contending_lock; /* at which the last -EDEADLK came */
+	struct ww_mutex *newest;	/* what it acquired last, if that is listed; otherwise any mutex, or NULL */
+	__extension__ union {		/* `state` says which one it is, or none: */
+		struct ww_mutex *prelocked; /* IS_PRELOCKED: acquired before the body of a loop asked for it */
+		struct ww_mutex *polled; /* IS_POLLED: for which a call of ww_poll.h waits */
+	};
+	unsigned int cancelled;
+	unsigned int deadlock_inject_interval; /* of the debug library */
+	__extension__ union {
+		unsigned int deadlock_inject_countdown; /* likewise */
+		uint64_t span;		/* its upper half: how many bytes the words of its class's mutexes have */
+	};
+	__extension__ union {
+		unsigned long stamp;	/* likewise */
+		uintptr_t words;	/* where the words of its class's mutexes lie, of which ww_mutex_lock fetches one ahead */
+	};
+	__extension__ union {		/* in a loop, and outside: */
+		void *empty_[2];	/* an empty handle: by it an unlock returns that it has more to do */
+		struct ww_call call;	/* IS_POLLED: which call waits */
+	};
+};
+#endif

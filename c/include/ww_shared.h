@@ -1,0 +1,138 @@
+/*
+ * ww_shared.h - shared mutexes: held by any number of readers, or by one writer
+ *
+ * A struct ww_shared_mutex is for an object that is read much more often than written.  A context reads it (lock_shared) or
+ * writes it (lock), in any order with its other mutexes of the class, of each kind, in ww_until_all_locked or without it:
+ *
+ *	ww_acquire_init(&ctx, &boxes);
+ *	ww_until_all_locked(&ctx) {
+ *		err = ww_shared_mutex_lock_shared(&box->lock, &ctx);
+ *		ww_retry_on_contention(&ctx);
+ *		if (!err && box->is_stale)
+ *			err = ww_shared_mutex_lock(&box->lock, &ctx);
+ *		ww_retry_on_contention(&ctx);
+ *	}
+ *	..
+ *	ww_acquire_unlock_all(&ctx);
+ *	ww_acquire_fini(&ctx);
+ *
+ * Reads end together: an object that a context reads stays protected until the context has ended all its reads.  Each call needs a
+ * context, since all waits are those of contexts, and so every deadlock among readers and writers ends by -EDEADLK.
+ *
+ * Return values are those of ww_mutex.h.  -EDEADLK of any of these calls, also of a context's first: release everything, then
+ * ww_shared_mutex_await, and begin again; a loop does so by itself.  The limits of the class count also, for each of its contexts
+ * that reads at a time, one mutex.
+ */
+#ifndef WW_SHARED_H
+#define WW_SHARED_H
+#include "ww_number.h"
+
+#ifdef __cplusplus
+extern "C" {
+#endif
+
+/* The fields are the library's. */
+struct ww_shared_mutex {
+	struct ww_mutex mutex_;	/* a writer's */
+	uint64_t readers_;	/* where those may be found that read it */
+};
+
+/* As WW_MUTEX_INIT. */
+#define WW_SHARED_MUTEX_INIT(of_class) { WW_MUTEX_INIT(of_class), 0 }
+/* As ww_mutex_init, and ww_mutex_init_checked. */
+void ww_shared_mutex_init(struct ww_shared_mutex *lock, struct ww_class *ww_class);
+WW_MUST_CHECK int ww_shared_mutex_init_checked(struct ww_shared_mutex *lock, struct ww_class *ww_class);
+/*
+ * As ww_mutex_destroy: -EBUSY also while a context reads it.  It has the mutex while it looks, so a trylock may be 0 meanwhile, and a
+ * lock call waits.
+ */
+int ww_shared_mutex_destroy(struct ww_shared_mutex *lock);
+
+/*
+ * Reads it: waits while somebody writes it, or waits to write it; but an older context goes ahead of a younger one that waits, as
+ * in any wait list.  It returns 0 also if the context reads or writes it already;
+ * but -EALREADY outside loops if the context writes it and it is a number's (ww_number_at).
+ * -ENOMEM, -ENOSPC: the context's first read found no memory, or no mutex of the class was left for it.
+ */
+WW_MUST_CHECK int ww_shared_mutex_lock_shared(struct ww_shared_mutex *lock, struct ww_acquire_ctx *ctx);
+/* The same, but at most until a time of the monotonic clock, if that isn't NULL: -ETIMEDOUT; or ww_acquire_cancel: -EINTR. */
+WW_MUST_CHECK int ww_shared_mutex_lock_shared_until(struct ww_shared_mutex *lock, struct ww_acquire_ctx *ctx,
+						    const struct timespec *monotonic);
+/* Returns 1 if the context reads it now, else 0. */
+WW_MUST_CHECK int ww_shared_mutex_trylock_shared(struct ww_shared_mutex *lock, struct ww_acquire_ctx *ctx);
+
+/*
+ * Writes it: waits until nobody else reads or writes it.  If the context reads it, that is an upgrade: nobody writes it in between.
+ * Of two contexts that upgrade it at the same time one gets -EDEADLK.  -EALREADY: the context writes it; in a loop
+ * this is 0 with WW_IGNORE_DUPLICATES.  After an error it holds what it held before.
+ */
+WW_MUST_CHECK int ww_shared_mutex_lock(struct ww_shared_mutex *lock, struct ww_acquire_ctx *ctx);
+/* The same with limits, likewise. */
+WW_MUST_CHECK int ww_shared_mutex_lock_until(struct ww_shared_mutex *lock, struct ww_acquire_ctx *ctx,
+					     const struct timespec *monotonic);
+/* Returns 1 if the context writes it now, else 0. */
+WW_MUST_CHECK int ww_shared_mutex_trylock(struct ww_shared_mutex *lock, struct ww_acquire_ctx *ctx);
+/*
+ * Of a context that writes it: from now on it reads it, and others may.  It can't fail, and nobody writes it in between; but a
+ * context that got -EDEADLK, or would get -ENOMEM or -ENOSPC for its first read, goes on writing it; so does one that reads nothing
+ * yet, while a task that waited for its former reads, or of one before it, hasn't polled again.
+ */
+void ww_shared_mutex_downgrade(struct ww_shared_mutex *lock, struct ww_acquire_ctx *ctx);
+
+/*
+ * Of a context that writes it: ends that; and else one of its reads.  Each lock call that returned 0, and trylock that returned 1,
+ * needs one, or in a loop ww_acquire_unlock_all for all.  -EINVAL: the context neither writes nor reads it.
+ */
+int ww_shared_mutex_unlock(struct ww_shared_mutex *lock, struct ww_acquire_ctx *ctx);
+/* Ends all reads of the context. */
+void ww_acquire_end_reads(struct ww_acquire_ctx *ctx);
+/*
+ * Without a loop, after -EDEADLK, with nothing held: waits for what the context collided with, which has to exist still, and holds
+ * nothing then.  It has the limits, and returns the errors, of ww_mutex_lock_slow_until.
+ */
+WW_MUST_CHECK int ww_shared_mutex_await(struct ww_acquire_ctx *ctx, const struct timespec *monotonic);
+/*
+ * Whether anybody reads or writes it, or waits for it, which may be out of date when it returns.  One that is free is taken for a
+ * moment, as by a destroy.  In a child of a fork nobody does.  To wait until nobody reads or writes it, call ww_shared_mutex_lock and
+ * then ww_shared_mutex_unlock.
+ */
+bool ww_shared_mutex_is_locked(const struct ww_shared_mutex *lock);
+/* Whether the context writes it; and whether it reads it, for the thread that uses the context. */
+bool ww_shared_mutex_is_written_by(const struct ww_shared_mutex *lock, const struct ww_acquire_ctx *ctx);
+bool ww_shared_mutex_is_read_by(const struct ww_shared_mutex *lock, const struct ww_acquire_ctx *ctx);
+/*
+ * For event loops and coroutines: the same as polls of ww_poll.h, as ww_mutex_lock_poll is one.  A further call goes on only if it
+ * is the same one.  Without a waker (NULL) a call ends the wait: it returns 0 if it then reads or writes; else what it has acquired
+ * on its way is released again, and what was read and written before still is.  After -EDEADLK release everything, and poll
+ * ww_shared_mutex_await_poll, which holds nothing once it returns 0; then begin again.
+ */
+struct ww_waker;
+WW_MUST_CHECK int ww_shared_mutex_lock_shared_poll(struct ww_shared_mutex *lock, struct ww_acquire_ctx *ctx,
+						   const struct ww_waker *waker);
+WW_MUST_CHECK int ww_shared_mutex_lock_poll(struct ww_shared_mutex *lock, struct ww_acquire_ctx *ctx, const struct ww_waker *waker);
+WW_MUST_CHECK int ww_shared_mutex_await_poll(struct ww_acquire_ctx *ctx, const struct ww_waker *waker);
+/* For C++, as ww_mutex_end_. */
+int ww_shared_mutex_end_(struct ww_shared_mutex *lock);
+
+#if defined(WW_DEBUG) && !defined(WW_CLASS_H)
+#define ww_shared_mutex_init(...) (WW_HERE_, ww_shared_mutex_init(__VA_ARGS__))
+#define ww_shared_mutex_destroy(...) (WW_HERE_, ww_shared_mutex_destroy(__VA_ARGS__))
+#define ww_shared_mutex_end_(...) (WW_HERE_, ww_shared_mutex_end_(__VA_ARGS__))
+#define ww_shared_mutex_lock_shared(...) (WW_HERE_, ww_shared_mutex_lock_shared(__VA_ARGS__))
+#define ww_shared_mutex_lock_shared_until(...) (WW_HERE_, ww_shared_mutex_lock_shared_until(__VA_ARGS__))
+#define ww_shared_mutex_trylock_shared(...) (WW_HERE_, ww_shared_mutex_trylock_shared(__VA_ARGS__))
+#define ww_shared_mutex_lock(...) (WW_HERE_, ww_shared_mutex_lock(__VA_ARGS__))
+#define ww_shared_mutex_lock_until(...) (WW_HERE_, ww_shared_mutex_lock_until(__VA_ARGS__))
+#define ww_shared_mutex_trylock(...) (WW_HERE_, ww_shared_mutex_trylock(__VA_ARGS__))
+#define ww_shared_mutex_downgrade(...) (WW_HERE_, ww_shared_mutex_downgrade(__VA_ARGS__))
+#define ww_shared_mutex_unlock(...) (WW_HERE_, ww_shared_mutex_unlock(__VA_ARGS__))
+#define ww_shared_mutex_await(...) (WW_HERE_, ww_shared_mutex_await(__VA_ARGS__))
+#define ww_shared_mutex_lock_shared_poll(...) (WW_HERE_, ww_shared_mutex_lock_shared_poll(__VA_ARGS__))
+#define ww_shared_mutex_lock_poll(...) (WW_HERE_, ww_shared_mutex_lock_poll(__VA_ARGS__))
+#define ww_shared_mutex_await_poll(...) (WW_HERE_, ww_shared_mutex_await_poll(__VA_ARGS__))
+#endif
+
+#ifdef __cplusplus
+}
+#endif
+#endif

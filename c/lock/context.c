@@ -1,0 +1,219 @@
+/*
+ * context.c - the contexts of ww_mutex.h: how they begin and end, how they are cancelled, and whether they hold a mutex.
+ * A context has a seat while it is active: what the proved library knows of a thread, by which its steps are made.
+ */
+#define _GNU_SOURCE
+#define WW_NO_INLINE /* As mutex.c. */
+#include "lock.h"
+
+/*
+ * Relaxed: a thread that cancels the context that was here before may read these, and nothing is ordered by what it
+ * reads.
+ */
+static inline void of_seat(struct ww_acquire_ctx *x, struct ww_pool *p, ww_seat *s)
+{
+	x->pool = p;
+	x->span = p->span;
+	x->words = p->words;
+	x->gives = s;
+	__atomic_store_n(&x->own, s, __ATOMIC_RELAXED);
+	__atomic_store_n(&x->cancelled, 0, __ATOMIC_RELAXED);
+	x->acquired = x->state = 0;
+	x->newest = NULL;
+}
+
+static inline void no_more(struct ww_acquire_ctx *x)
+{
+	x->pool = NO_POOL;
+	__atomic_store_n(&x->own, NULL, __ATOMIC_RELAXED);
+}
+
+/* If its seat rests, the context has that age, unless its first lock shows that it acquires by hand. */
+static inline int begin_core(struct ww_acquire_ctx *x, ww_seat *s)
+{
+	if (!s->ages)
+		return ww_begin_(&s->handle);
+	x->pool = NO_POOL;
+	return 0;
+}
+
+/* Leaves a context with which only a begin does anything. */
+COLD static int not_begun(struct ww_acquire_ctx *x, ww_seat *s, int r)
+{
+	if (s)
+		give_seat(s);
+	no_more(x);
+	x->gives = NULL;
+	x->acquired = x->state = 0;
+	return r;
+}
+
+int ww_begin_by(struct ww_acquire_ctx *x, ww_seat *s, int r)
+{
+	if (LIKELY(!r)) {
+		of_seat(x, s->pool, s);
+		r = begin_core(x, s);
+	}
+	if (UNLIKELY(r))
+		return not_begun(x, s, r);
+	NOTE(CONTEXT_BEGUN, .context = x);
+	return 0;
+}
+
+static int begin(struct ww_acquire_ctx *x, struct ww_class *c, const struct timespec *until, bool heeds)
+{
+	struct ww_pool *p;
+	ww_seat *s = NULL;
+	int r = is_time(until) ? open_pool_of(c, &p) : -EINVAL;
+
+	if (!r)
+		r = ww_await_seat_to_begin(p, until, heeds, &s);
+	return ww_begin_by(x, s, r);
+}
+
+static inline int begin_by_any(struct ww_acquire_ctx *x, struct ww_class *c, const struct timespec *until, bool heeds)
+{
+	struct ww_pool *p = __atomic_load_n(&c->pool, __ATOMIC_ACQUIRE);
+	ww_seat *s = LIKELY(p) ? seat_at_hand(p) : NULL;
+
+	if (!s && p)
+		s = ww_seat_to_begin(p);
+	return LIKELY(s) ? ww_begin_by(x, s, 0) : begin(x, c, until, heeds);
+}
+
+int ww_acquire_init_checked(struct ww_acquire_ctx *x, struct ww_class *c) { return begin_by_any(x, c, &ww_no_wait, false); }
+
+/* Most contexts of Rust begin here, without a time. */
+int ww_acquire_init_until(struct ww_acquire_ctx *x, struct ww_class *c, const struct timespec *until)
+{
+	return LIKELY(!until) ? begin_by_any(x, c, NULL, true) : begin(x, c, until, true);
+}
+
+/*
+ * A seat that nobody uses certainly begins a context, unless it has begun as many as it may.  Then there is none:
+ * no second lock is acquired by it, and ww_acquire_fini ends the program.
+ */
+static inline void begin_for_certain(struct ww_acquire_ctx *x, struct ww_pool *p, ww_seat *s)
+{
+	of_seat(x, p, s);
+	NOTE(CONTEXT_BEGUN, .context = x);
+	(void)!begin_core(x, s);
+}
+
+static __attribute__((noinline)) void init_else(struct ww_acquire_ctx *x, struct ww_class *c, struct ww_pool *p)
+{
+	ww_seat *s = LIKELY(p) ? ww_seat_to_begin(p) : NULL;
+	int r;
+
+	if (LIKELY(s))
+		begin_for_certain(x, p, s);
+	else if ((r = begin(x, c, NULL, false)))
+		end_of(c, "ww_acquire_init", r == -ENOSPC ? "it has begun as many contexts as it may" : reason_of(r));
+}
+
+void ww_acquire_init(struct ww_acquire_ctx *x, struct ww_class *c)
+{
+	struct ww_pool *p = __atomic_load_n(&c->pool, __ATOMIC_ACQUIRE);
+	ww_seat *s = LIKELY(p) ? seat_at_hand(p) : NULL;
+
+	if (LIKELY(s))
+		begin_for_certain(x, p, s);
+	else
+		init_else(x, c, p);
+}
+
+/*
+ * The proved library isn't called: as in the kernel, a lock after this is like any other; the debug library reports it.
+ */
+int ww_acquire_done_checked(struct ww_acquire_ctx *x)
+{
+	if (UNLIKELY(!x->own || x->state & (IS_DONE | IS_POLLED)))
+		return x->own && is_polled(x) ? -EBUSY : -EINVAL;
+	x->state |= IS_DONE;
+	return 0;
+}
+
+static const struct ww_class *class_of_context(const struct ww_acquire_ctx *x) { return x->own ? x->own->pool->class_ : NULL; }
+
+void ww_acquire_done(struct ww_acquire_ctx *x)
+{
+	if (UNLIKELY(ww_acquire_done_checked(x)))
+		end_of(class_of_context(x), "ww_acquire_done",
+		       phase_of(x) == IN_POLL ? WAITS_BY_POLL : "the context is done, or has ended");
+}
+
+int ww_acquire_fini_checked(struct ww_acquire_ctx *x)
+{
+	ww_seat *s = ww_debug_has_ended(x) ? NULL : x->own;
+	int r = s ? ww_end_(&s->handle) : -EINVAL;
+
+	if (r && !(s && is_orphaned_by_fork(s, r)))
+		return r;
+	s->ages = 0;
+	NOTE(CONTEXT_ENDS, .context = x);
+	no_more(x);
+	give_seat(s);
+	return 0;
+}
+
+/* Why it can't end.  What it holds may be what it reads by: see shared.c.  A copy still says that it has the seat. */
+static const char *why_unended(struct ww_acquire_ctx *x)
+{
+	if (phase_of(x) == HAS_ENDED)
+		return "the context has ended";
+	if (phase_of(x) == IN_POLL)
+		return WAITS_BY_POLL;
+	if (!x->acquired || ww_debug_has_ended(x))
+		return "the context has ended by a copy of it, or the class has begun as many as it may";
+	return holds_slot(x) && x->acquired == 1 ? "the context still reads a mutex" : "the context still holds a mutex";
+}
+
+COLD static void fini_else(struct ww_acquire_ctx *x)
+{
+	if (!ww_acquire_fini_checked(x))
+		return;
+	NOTE(CONTEXT_STAYS, .context = x);
+	end_of(class_of_context(x), "ww_acquire_fini", why_unended(x));
+}
+
+void ww_acquire_fini(struct ww_acquire_ctx *x)
+{
+	ww_seat *s = x->own;
+
+	/* A context that has released everything certainly ends. */
+	if (UNLIKELY(!s || s->handle.mode != WW_BARE_) || ww_debug_has_ended(x)) {
+		fini_else(x);
+		return;
+	}
+	NOTE(CONTEXT_ENDS, .context = x);
+	no_more(x);
+	leave_age(s);
+	give_seat(s);
+}
+
+/*
+ * The thread that waits does the rest, since only it knows when the wait is over.  Relaxed: the caller ensures that the
+ * context was begun before.
+ */
+int ww_acquire_cancel(struct ww_acquire_ctx *x)
+{
+	ww_seat *s = __atomic_load_n(&x->own, __ATOMIC_RELAXED);
+
+	if (!s)
+		return -EINVAL;
+	if (__atomic_exchange_n(&x->cancelled, 1, __ATOMIC_SEQ_CST))
+		return -EALREADY;
+	ww_unpark(s);
+	return 0;
+}
+
+/* ---- what they hold ---- */
+
+/* The mutex says by whose call it was acquired, unless it is a number's; and its lock says that this is still so. */
+bool ww_mutex_is_held_by(const struct ww_mutex *m, const struct ww_acquire_ctx *x)
+{
+	const ww_seat *s = x ? __atomic_load_n(&x->own, __ATOMIC_RELAXED) : seat_of(m);
+	bool says_so = s && (x ? is_of_number(m) || holder_of(m) == x : is_used_here(s));
+
+	return says_so && pool_at(m) == s->pool && owner_in(ww_look_from_outside(s->pool, m)) == place_among(s);
+}

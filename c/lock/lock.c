@@ -1,0 +1,149 @@
+/*
+ * lock.c - one lock by one seat: all that a lock call does after its first step, and an unlock.  A seat is what the proved
+ * library knows of a thread: the user of the seat makes steps by it, for a context or without one (then `x` is NULL here).
+ *
+ * Whoever waits counts itself at the mutex first (`waiters`), and has the mutex's lock before that count ends; so a thread
+ * that destroys the mutex sees the one or the other (ww_mutex_destroy).
+ */
+#define _GNU_SOURCE
+#include "lock.h"
+
+/* ---- how a lock call ends ---- */
+
+static uint32_t counts_for(const struct ww_how *how) { return how->who == THREAD ? 1 : A_TASK; }
+
+/* How many more or fewer wait for it; and for what the call asks, which nobody destroys meanwhile. */
+static void count_waiter(struct ww_mutex *m, const struct ww_how *how, uint32_t by)
+{
+	__atomic_fetch_add(&m->waiters, by, __ATOMIC_SEQ_CST);
+	if (how->asks && how->asks != m)
+		__atomic_fetch_add(&how->asks->waiters, by, __ATOMIC_SEQ_CST);
+}
+
+static void begin_wait(struct ww_mutex *m, struct ww_acquire_ctx *x, ww_seat *s, const struct ww_how *how)
+{
+	__atomic_store_n(&s->awaits, m->number + 1, __ATOMIC_RELAXED);
+	count(&s->waits);
+	if (x)
+		note_meeting(s);
+	DTRACE_PROBE2(ww, contention_begin, m, x);
+	NOTE(LOCK_WAITS, .seat = s, .mutex = m, .how = how);
+	count_waiter(m, how, counts_for(how));
+}
+
+static void end_wait(struct ww_mutex *m, struct ww_acquire_ctx *x, ww_seat *s, const struct ww_wait *wait, int r)
+{
+	(void)x, (void)r; /* without debugging */
+	__atomic_store_n(&s->awaits, 0, __ATOMIC_RELAXED);
+	DTRACE_PROBE3(ww, contention_end, m, x, r);
+	NOTE(LOCK_WAITED, .seat = s);
+	count_waiter(m, wait->how, -counts_for(wait->how));
+	if (wait->how->who == THREAD)
+		ww_learn_from(s, wait);
+	else
+		ww_note_task_wait(s);
+}
+
+/* What a lock call returns whose last step returned r. */
+static int lock_ends(struct ww_mutex *m, struct ww_acquire_ctx *x, ww_seat *s, int r, bool visits)
+{
+	if (r == 0 && visits)
+		__tsan_acquire(m);
+	else if (r == 0)
+		note_holder(m, x, s);
+	r = ww_debug_injects(m, x, r);
+	NOTE(LOCK_ENDS, .mutex = m, .context = x, .r = r);
+	if (r == -EDEADLK) {
+		count(&s->back_offs);
+		DTRACE_PROBE2(ww, back_off, m, x);
+		x->contending_lock = m;
+		x->state |= IS_TOLD;
+	}
+	if (r == -EINTR && !(x && __atomic_exchange_n(&x->cancelled, 0, __ATOMIC_SEQ_CST)) && !ww_ends_waits(s->pool))
+		r = -ETIMEDOUT;
+	return is_orphaned_by_fork(s, r) ? -EINVAL : r;
+}
+
+/*
+ * Goes on with a wait, after a step that returned r, and ends it, unless a task sleeps: -EINPROGRESS.  Once that has left its
+ * waker, another thread may use the context.
+ */
+static int wait_on(struct ww_mutex *m, struct ww_acquire_ctx *x, ww_seat *s, int r, const struct ww_wait *wait)
+{
+	if (r > 0)
+		r = ww_go_on(s, wait, r == WW_SLEEPS);
+	if (r == -EINPROGRESS)
+		return r;
+	if (r == -EINTR)
+		ww_make_cancel_pending(s);
+	r = lock_ends(m, x, s, r, wait->how->visits);
+	end_wait(m, x, s, wait, r);
+	return r;
+}
+
+COLD int ww_lock_on(struct ww_mutex *m, struct ww_acquire_ctx *x, ww_seat *s, int r, const struct ww_how *how)
+{
+	struct ww_wait wait;
+
+	if (r <= 0 && (r != -EBUSY || how->who == NOBODY))
+		return lock_ends(m, x, s, r, how->visits);
+	wait = ww_wait_of(s, x, how);
+	if (r != WW_SLEEPS)
+		begin_wait(m, x, s, how);
+	if (r == -EBUSY)
+		r = ww_try_awake(s, m->number, &wait);
+	return wait_on(m, x, s, r, &wait);
+}
+
+int ww_lock_by(struct ww_mutex *m, struct ww_acquire_ctx *x, const struct ww_how *how)
+{
+	return ww_lock_on(m, x, x->own, ww_try_(&x->own->handle, m->number), how);
+}
+
+/* ---- unlocks ---- */
+
+/* In a forked child nobody else uses the mutex, so it counts as released. */
+COLD int ww_release_on(ww_seat *s, int r)
+{
+	note_meeting(s);
+	if (r > 0)
+		r = ww_go_on(s, NULL, false);
+	return is_orphaned_by_fork(s, r) ? 0 : r;
+}
+
+/* In a loop a mutex that isn't in the context's list is a copy of one. */
+int ww_unlock_of(struct ww_mutex *m, struct ww_acquire_ctx *x)
+{
+	return is_loop(x) && !unlist(x, m) ? -EINVAL : unlock_unlisted(m, x);
+}
+
+/* ---- who has a lock ---- */
+
+/* Amid a poll the lock's word does. In a forked child a seat that was let go has nothing. */
+bool ww_owns(ww_seat *s, uint32_t number)
+{
+	int32_t r = ww_has_(&s->handle, number);
+
+	if (r == -EBUSY && !s->pool->gone)
+		r = owner_in(ww_look_(&s->handle, number)) != place_among(s);
+	return !r;
+}
+
+/*
+ * The look is that of the spare seat, which no context has: so it can be made even if all contexts are in use.  An
+ * unlock's last access to the mutex comes before the step that releases its lock; so if it is free, all former holders
+ * are through with it, and what they wrote is seen here.  In a forked child the spare seat may have been in use, which
+ * nobody uses there.
+ */
+int32_t ww_look_from_outside(struct ww_pool *p, const struct ww_mutex *m)
+{
+	int32_t seen;
+
+	if (!p->gone)
+		pthread_mutex_lock(&p->spare);
+	seen = ww_look_(&spare_of(p)->handle, m->number);
+	if (!p->gone)
+		pthread_mutex_unlock(&p->spare);
+	__tsan_acquire((void *)(uintptr_t)m);
+	return seen;
+}

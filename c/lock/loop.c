@@ -1,0 +1,224 @@
+/*
+ * loop.c - contexts that back off by themselves, in ww_until_all_locked and ww_mutex_lock_all.
+ *
+ * What a context has to do, in a loop (ww_until_all_locked) and after it, is one of six states.  M is the mutex at which
+ * the context got -EDEADLK last.  OWES: the context has waited for M, and holds it, but the body of the loop hasn't asked
+ * for M since the back-off; so the first lock call of M that the body makes only takes note of that.
+ *
+ *	state		call				returns			then
+ *	EASE		a lock				0			EASE
+ *							-EDEADLK		TOLD
+ *							-EALREADY (0 with WW_IGNORE_DUPLICATES), -EINTR, -ETIMEDOUT	EASE
+ *			a slow lock			-EINVAL			EASE
+ *	OWES		a lock of M			0, a trylock 1		EASE
+ *			a lock of another		0			OWES
+ *							-EDEADLK		TOLD, OWES
+ *			unlock of M, and a lock of M	0			EASE
+ *			ww_acquire_unlock_all					EASE
+ *	TOLD		a lock of what is held		-EALREADY, as above	TOLD
+ *			any other lock			-EINVAL, a trylock 0	TOLD
+ *			back off						FIRST
+ *			its last unlock						TOLD, holding nothing
+ *	TOLD, OWES	a lock of what is owed		0, a trylock 1		TOLD
+ *			else as TOLD, and after each other lock still OWES
+ *	TOLD, holding nothing: as FIRST, but a lock of another doesn't wait for M
+ *	FIRST		a lock of M			0			EASE
+ *			a lock of another		0, having waited for M	OWES
+ *							-EDEADLK, likewise	TOLD, OWES
+ *			a slow lock of M		0			EASE
+ *			a slow lock of another		-EINVAL			FIRST
+ *			a trylock			1			EASE
+ *							0			FIRST
+ *			ww_acquire_unlock_all					EASE, holding nothing
+ *			any of these			-EINTR, -ETIMEDOUT	FIRST, or OWES if that came at the other one
+ *	EASE, holding nothing: after FIRST a slow lock of M returns 0, having waited for M
+ *	any		ww_mutex_lock_all		-EINVAL			as it was
+ *
+ * HAS_TO_BACK_OFF is TOLD, WAITS_FIRST is FIRST, and IS_PRELOCKED that it OWES `prelocked`.  tests/lock/loop.c tests
+ * all of this.
+ */
+#define _GNU_SOURCE
+#include "loop.h"
+
+/* In each phase of a loop but LOOP_EASE, lock calls take the long way (ww_lock_in_loop). */
+COLD void ww_become(struct ww_acquire_ctx *x, unsigned int not, unsigned int now)
+{
+	x->state = (x->state & ~not) | now;
+	x->pool = is_loop(x) && x->state & (TRIES | IS_PRELOCKED) ? NO_POOL : x->own->pool;
+	NOTE(CONTEXT_CHANGED, .context = x);
+}
+
+void ww_acquire_flags(struct ww_acquire_ctx *x, unsigned int flags)
+{
+	enum phase phase = phase_of(x);
+
+	if (phase == IN_POLL)
+		NOTE_MISUSE(NULL, "ww_acquire_flags", WAITS_BY_POLL);
+	if (phase == IN_POLL || phase == HAS_ENDED)
+		return;
+	x->state = (x->state & ~(unsigned)FLAGS) | (flags & FLAGS);
+	if (flags & WW_MAY_BE_OLDER && !is_loop(x))
+		let_be_older(x);
+}
+
+/* ---- the list of what it acquired, the newest first ---- */
+
+/* Whether the context holds a mutex for which the body hasn't asked yet, since it waited for that after a back-off. */
+static bool owes(const struct ww_acquire_ctx *x)
+{
+	const struct ww_mutex *m = x->state & IS_PRELOCKED ? x->newest : NULL;
+
+	while (m && m != x->prelocked)
+		m = m->older;
+	return m;
+}
+
+size_t ww_acquire_mark(const struct ww_acquire_ctx *x) { return x->acquired - owes(x); }
+
+void ww_acquire_unlock_to(struct ww_acquire_ctx *x, size_t mark)
+{
+	if (!is_loop(x))
+		return; /* nothing says what came since the mark */
+	if (!mark)
+		ww_acquire_unlock_all(x);
+	else
+		for (size_t left = mark + owes(x); x->acquired > left;)
+			if (ww_unlock_of(x->newest, x))
+				end("ww_acquire_unlock_to", "nobody holds the mutex");
+}
+
+/* What comes next in the list is read before the unlock: after that another thread may free the mutex's memory. */
+static inline void release_newest_first(struct ww_acquire_ctx *x)
+{
+	struct ww_mutex *m;
+
+	while ((m = x->newest)) {
+		x->newest = m->older;
+		if (UNLIKELY(unlock_unlisted(m, x)))
+			end("ww_acquire_unlock_all", "nobody holds the mutex");
+	}
+}
+
+/*
+ * Outside ww_until_all_locked nothing lists what a context holds, since an unlock takes nothing out of a list there.  So all
+ * its reads end first, by its reader slot; and then the proved library is asked, for each number of the class whose lock
+ * somebody has, whether the context's seat has that.
+ */
+COLD static void release_by_numbers(struct ww_acquire_ctx *x)
+{
+	const uint64_t *owners = words_of(x->own);
+
+	if (is_polled(x))
+		end_of(x->own->pool->class_, "ww_acquire_unlock_all", WAITS_BY_POLL);
+	if (holds_slot(x))
+		(void)ww_unlock_of(&x->own->slot->mutex, x);
+	for (uint32_t n = 0; x->acquired && n < x->own->pool->numbers.locks; n++)
+		if (__atomic_load_n(&owners[2 * (size_t)n], __ATOMIC_RELAXED) && !ww_has_(&x->own->handle, n))
+			(void)ww_unlock_of(mutex_with(&x->own->pool->numbers, n), x);
+}
+
+/*
+ * In a loop the context doesn't wait for the contended mutex any more, since that may have been destroyed; and it owes none.
+ * One that has ended in a loop holds nothing.
+ */
+void ww_acquire_unlock_all(struct ww_acquire_ctx *x)
+{
+	if (LIKELY(is_loop(x))) {
+		release_newest_first(x);
+		if (UNLIKELY(x->state & (WAITS_FIRST | IS_PRELOCKED)) && x->own) {
+			ww_become(x, WAITS_FIRST | IS_PRELOCKED, 0);
+			NOTE(WAIT_TAKEN_BACK, .context = x);
+		}
+	} else if (x->own) {
+		release_by_numbers(x);
+	}
+}
+
+/* ---- its locks ---- */
+
+/*
+ * Only here does a lock call succeed without a step by which the proved library took the lock.  A mutex that was owed is the
+ * newest of what the context acquired now, and owed no more.
+ */
+bool ww_accept_held(struct ww_acquire_ctx *x, struct ww_mutex *m, bool may_repeat)
+{
+	if (!is_loop(x) || !ww_owns(x->own, m->number))
+		return false;
+	if (!owes_it(x, m))
+		return may_repeat;
+	(void)unlist(x, m);
+	enlist(x, m);
+	ww_become(x, IS_PRELOCKED, 0);
+	return true;
+}
+
+int ww_result_in_loop(struct ww_mutex *m, struct ww_acquire_ctx *x, int r)
+{
+	if (r == 0) /* What was owed may have been released meanwhile. */
+		ww_become(x, owes_it(x, m) ? TRIES | IS_PRELOCKED : TRIES, 0);
+	if (r == -EDEADLK)
+		ww_become(x, 0, HAS_TO_BACK_OFF);
+	return r == -EALREADY && ww_accept_held(x, m, x->state & WW_IGNORE_DUPLICATES) ? 0 : r;
+}
+
+/*
+ * Before anything else, waits for the mutex at which the context got -EDEADLK.  If that is a reader slot (shared.c), it is
+ * released at once, since the body of the loop never asks for one.
+ */
+static int wait_first(struct ww_acquire_ctx *x, struct ww_how how)
+{
+	struct ww_mutex *m = x->contending_lock;
+	int r;
+
+	how.visits = is_slot(m);
+	r = ww_lock_by(m, x, &how);
+	if (!r) {
+		x->prelocked = m;
+		ww_become(x, TRIES, how.visits ? 0 : IS_PRELOCKED);
+		if (how.visits)
+			(void)unlock_by(m, x->own);
+	}
+	return r;
+}
+
+int ww_lock_in_loop(struct ww_mutex *m, struct ww_acquire_ctx *x, const struct ww_how *how)
+{
+	if (x->state & WAITS_FIRST) {
+		int r = wait_first(x, *how);
+
+		if (r || ww_accept_held(x, m, false))
+			return r;
+	}
+	return ww_result_in_loop(m, x, ww_lock_by(m, x, how));
+}
+
+/* ---- loops ---- */
+
+COLD static void begin_loop_else(struct ww_acquire_ctx *x)
+{
+	if (!x->own || x->acquired || is_polled(x))
+		end("ww_until_all_locked", x->own && is_polled(x) ? WAITS_BY_POLL : "the context holds a mutex, or has ended");
+	let_be_older(x);
+	ww_become(x, TRIES | IS_PRELOCKED, 0);
+}
+
+struct ww_acquire_ctx *ww_tries_begin_(struct ww_acquire_ctx *x)
+{
+	x->newest = NULL;
+	begin_loop(x);
+	if (UNLIKELY(!x->own || x->acquired | x->state))
+		begin_loop_else(x);
+	else
+		let_be_older(x);
+	return x;
+}
+
+COLD void ww_back_off_(struct ww_acquire_ctx *x)
+{
+	if (!ww_is_contended(x))
+		return;
+	release_newest_first(x);
+	ww_become(x, HAS_TO_BACK_OFF | IS_PRELOCKED, WAITS_FIRST);
+}
+
+bool ww_is_contended(const struct ww_acquire_ctx *x) { return x->state & HAS_TO_BACK_OFF; }

@@ -1,0 +1,15 @@
+/* used.h - who still uses a mutex that goes: see used.c.  It isn't installed. */
+#ifndef WW_USED_H
+#define WW_USED_H
+#include "lock.h"
+#include "ww_shared.h"
+
+/*
+ * Whether somebody has the mutex of this number, a struct ww_shared_mutex or a slot's, waits for it or reads it.  NULL:
+ * its memory is gone.
+ */
+WW_HIDDEN bool ww_has_users(struct ww_numbers *n, uint32_t number, const void *m);
+/* Nobody begins anything by the number any more, and it is given once nobody uses it. */
+WW_HIDDEN void ww_leave_number(struct ww_numbers *n, uint32_t number);
+
+#endif

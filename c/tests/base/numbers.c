@@ -1,0 +1,424 @@
+/*
+ * Numbers of mutexes, and classes that come and go, by several threads and in forked children.
+ *
+ * No two mutexes have one number, and none is lost; a class that many threads first use at the same time is opened
+ * once; and a fork at any moment leaves a child that works.
+ */
+#include "../mutex_test.h"
+#include "../../lock/context.h"
+#include "ww_number.h"
+#include <sys/wait.h>
+
+/* So many numbers are enough for all threads, and with so few each takes what others put back. */
+enum { THREADS = 4, ENOUGH = 8, FEW = 5, MANY = 65536 };
+
+static DEFINE_WW_CLASS(few);
+static struct ww_class opened;
+static struct ww_pool *seen[THREADS];
+static pthread_barrier_t begins, ends;
+static bool own[MANY], over;
+static unsigned rounds = 25000, openings = 200, numbers;
+
+static struct ww_numbers bare;
+static uint64_t used[MANY / 64];
+
+/* Few, so that what one thread looks for others take away and put back meanwhile; or enough for all. */
+static void *takes_and_gives(void *arg)
+{
+	unsigned x = 5 + (unsigned)(size_t)arg;
+
+	for (unsigned k = 0; k < 5 * rounds; k++) {
+		unsigned count = 1 + next(&x) % 2, taken = 0;
+		uint32_t n[2];
+
+		while (taken < count && !ww_take_number(&bare, NULL, &n[taken]))
+			MUST(!__atomic_exchange_n(&own[n[taken++]], true, __ATOMIC_SEQ_CST));
+		MUST(taken == count || bare.mutexes == FEW);
+		for (unsigned j = 0; j < taken; j++) {
+			MUST(__atomic_exchange_n(&own[n[j]], false, __ATOMIC_SEQ_CST));
+			ww_give_number(&bare, n[j]);
+		}
+	}
+	return NULL;
+}
+
+static void bare_by_threads(uint32_t of)
+{
+	uint32_t n, count = 0;
+
+	memset(&bare, 0, sizeof bare);
+	bare.lock = (pthread_mutex_t)PTHREAD_MUTEX_INITIALIZER;
+	bare.mutexes = of;
+	bare.lines = 4 * ENOUGH;
+	memset(used, 0, sizeof used);
+	bare.used = used;
+	in_threads(THREADS, takes_and_gives);
+	while (!ww_take_number(&bare, NULL, &n)) {
+		MUST(!own[n]);
+		own[n] = true;
+		count++;
+	}
+	MUST(count == of && bare.taken == of);
+	memset(own, 0, sizeof own);
+}
+
+static void *takes_a_share(void *arg)
+{
+	uint32_t n;
+
+	(void)arg;
+	for (uint32_t k = 0; k < MANY / THREADS; k++)
+		MUST(!ww_take_number(&bare, NULL, &n) && !__atomic_exchange_n(&own[n], true, __ATOMIC_RELAXED));
+	return NULL;
+}
+
+/* Numbers that nobody had. */
+static void fresh_by_threads(void)
+{
+	uint32_t n;
+
+	for (unsigned k = 0; k < 20; k++) {
+		memset(&bare, 0, sizeof bare);
+		memset(own, 0, sizeof own);
+		bare.lock = (pthread_mutex_t)PTHREAD_MUTEX_INITIALIZER;
+		bare.mutexes = MANY;
+		bare.lines = MANY / 4;
+		memset(used, 0, sizeof used);
+		bare.used = used;
+		in_threads(THREADS, takes_a_share);
+		MUST(ww_take_number(&bare, NULL, &n) == -ENOSPC);
+	}
+	memset(own, 0, sizeof own);
+}
+
+static void *takes_and_puts(void *arg)
+{
+	unsigned x = 7 + (unsigned)(size_t)arg;
+	struct ww_mutex m[2];
+
+	for (unsigned k = 0; k < rounds; k++) {
+		unsigned count = 1 + next(&x) % 2;
+
+		for (unsigned j = 0; j < count; j++) {
+			if (ww_mutex_init_checked(&m[j], &few)) {
+				MUST(numbers == FEW);
+				count = j;
+				break;
+			}
+			MUST(!__atomic_exchange_n(&own[m[j].number], true, __ATOMIC_SEQ_CST));
+		}
+		for (unsigned j = 0; j < count; j++) {
+			MUST(__atomic_exchange_n(&own[m[j].number], false, __ATOMIC_SEQ_CST));
+			MUST(!ww_mutex_destroy(&m[j]));
+		}
+	}
+	return NULL;
+}
+
+static void by_threads(void)
+{
+	struct ww_mutex m[ENOUGH + 1];
+
+	MUST(!ww_class_limit(&few, numbers, 1));
+	in_threads(THREADS, takes_and_puts);
+	for (unsigned k = 0; k < numbers; k++) {
+		ww_mutex_init(&m[k], &few);
+		MUST(!own[m[k].number]);
+		own[m[k].number] = true;
+	}
+	MUST(ww_mutex_init_checked(&m[numbers], &few) == -ENOSPC && ww_class_free(&few) == -EBUSY);
+	for (unsigned k = 0; k < numbers; k++) {
+		own[m[k].number] = false;
+		MUST(!ww_mutex_destroy(&m[k]));
+	}
+	MUST(!ww_class_free(&few));
+}
+
+static void as_many_as_may_be(void)
+{
+	static const uint32_t sizes[] = { 0, MANY };
+	struct ww_mutex *m = calloc(MANY + (size_t)1, sizeof *m);
+
+	MUST(m);
+	for (unsigned k = 0; k < sizeof sizes / sizeof *sizes; k++) {
+		uint32_t most = sizes[k] ? sizes[k] : MANY;
+
+		MUST(!ww_class_limit(&few, sizes[k], 1));
+		for (uint32_t n = 0; n < most; n++)
+			ww_mutex_init(&m[n], &few);
+		MUST(ww_mutex_init_checked(&m[most], &few) == -ENOSPC);
+		for (uint32_t n = 0; n < most; n += most - 1) {
+			MUST(!ww_mutex_lock(&m[n], NULL));
+			ww_mutex_unlock(&m[n]);
+		}
+		for (uint32_t n = 0; n < most; n++)
+			MUST(!ww_mutex_destroy(&m[n]));
+		MUST(!ww_class_free(&few));
+	}
+	MUST(ww_class_limit(&few, WW_MAX_LOCKS + 1, 1) == -EINVAL);
+	free(m);
+}
+
+static uintptr_t line_at(const void *words) { return (uintptr_t)words / 64; }
+
+/*
+ * The words of four numbers share a line: of so many mutexes none does so with another, and each has a number of its own;
+ * and for so many at most lock calls fetch another line than that of their words.
+ */
+static void have_lines(uint32_t count, uint32_t alone, uint32_t wrong)
+{
+	struct ww_mutex *m = calloc(count + (size_t)1, sizeof *m);
+	struct ww_acquire_ctx x;
+	unsigned char *in, *lines;
+	uint32_t locks, elsewhere = 0;
+
+	MUST(m && !ww_class_limit(&few, count, 1));
+	ww_acquire_init(&x, &few);
+	locks = few.pool->numbers.locks;
+	in = calloc(locks, 1);
+	lines = calloc(locks / 4, 1);
+	MUST(in && lines);
+	for (uint32_t n = 0; n < count; n++) {
+		uint32_t number;
+
+		ww_mutex_init(&m[n], &few);
+		number = m[n].number;
+		MUST(number < locks && !in[number]);
+		in[number] = 1;
+		MUST(!lines[number / 4] || n >= alone);
+		lines[number / 4] = 1;
+		elsewhere += line_at(words_of(x.own) + 2 * (size_t)number) != (x.words + ww_likely_(&m[n], x.span)) / 64;
+	}
+	MUST(elsewhere <= wrong);
+	MUST(ww_mutex_init_checked(&m[count], &few) == -ENOSPC);
+	for (uint32_t n = 0; n < count; n++)
+		MUST(!ww_mutex_destroy(&m[n]));
+	ww_acquire_fini(&x);
+	MUST(!ww_class_free(&few));
+	free(m);
+	free(in);
+	free(lines);
+}
+
+/* The number that is taken after so many: the first ones each have a line, which others share then; and there are no gaps. */
+static uint32_t lowest_after(uint32_t taken)
+{
+	const uint32_t apart = 1024;
+
+	if (taken < apart)
+		return 4 * taken;
+	return taken < 4 * apart ? (taken - apart) / 3 * 4 + 1 + (taken - apart) % 3 : taken;
+}
+
+/* Those of ww_number.h are the lowest ones that are free, whatever numbers mutexes have by their addresses. */
+static void are_low(uint32_t count)
+{
+	uint32_t *n = calloc(count, sizeof *n);
+	struct ww_mutex m;
+
+	MUST(n && !ww_class_limit(&few, count, 1));
+	for (unsigned times = 0; times < 3; times++) {
+		for (uint32_t k = 0; k < count; k++)
+			MUST(!ww_number_take(&n[k], &few) && n[k] == lowest_after(k));
+		for (uint32_t k = 0; k < count; k++)
+			MUST(!ww_number_put(n[(k + times * count / 3) % count], &few));
+	}
+	ww_mutex_init(&m, &few);
+	for (uint32_t k = 1; k < count; k++)
+		MUST(!ww_number_take(&n[k], &few) && n[k] < 4 * count);
+	for (uint32_t k = 1; k < count; k++)
+		MUST(!ww_number_put(n[k], &few));
+	MUST(!ww_mutex_destroy(&m) && !ww_class_free(&few));
+	free(n);
+}
+
+/* By the word that a list of many fetches ahead. */
+static bool looks_free(const struct ww_mutex *m) { return !words_of(m->pool->seats)[2 * (size_t)m->number]; }
+
+/* A few of a million: the first and the last ones, and where a second one begins to share a line. */
+static void a_million(void)
+{
+	enum { MILLION = 1 << 20 };
+	static const uint32_t some[] = { 0, 1, MILLION / 4 - 1, MILLION / 4, MILLION / 4 + 1, MILLION / 2, MILLION - 2, MILLION - 1 };
+	enum { SOME = sizeof some / sizeof *some };
+	struct ww_mutex *m = calloc(MILLION, sizeof *m);
+	struct ww_mutex *list[SOME];
+	struct ww_acquire_ctx one, other;
+
+	MUST(m && !ww_class_limit(&few, MILLION, 2));
+	for (uint32_t n = 0; n < MILLION; n++)
+		ww_mutex_init(&m[n], &few);
+	for (uint32_t k = 0; k < SOME; k++)
+		list[k] = &m[some[k]];
+	for (uint32_t out = 0; out < SOME; out++) {
+		ww_acquire_init(&one, &few);
+		ww_acquire_init(&other, &few);
+		for (uint32_t k = 0; k < SOME; k++)
+			if (k != out)
+				MUST(!ww_mutex_lock(&m[some[k]], &one));
+		for (uint32_t k = 0; k < SOME; k++)
+			MUST(looks_free(list[k]) == (k == out) && ww_mutex_trylock(list[k], &other) == (k == out));
+		for (uint32_t k = 0; k < SOME; k++)
+			ww_mutex_unlock(list[k]);
+		MUST(!ww_mutex_lock_all(&one, list, out) && one.acquired == out);
+		for (uint32_t k = 0; k < out; k++)
+			ww_mutex_unlock(list[k]);
+		ww_acquire_fini(&one);
+		ww_acquire_fini(&other);
+	}
+	for (uint32_t n = 0; n < MILLION; n++)
+		MUST(!ww_mutex_destroy(&m[n]));
+	MUST(!ww_class_free(&few));
+	free(m);
+}
+
+static void *uses_first(void *arg)
+{
+	size_t me = (size_t)arg;
+
+	for (unsigned k = 0; k < openings; k++) {
+		struct ww_acquire_ctx x;
+
+		pthread_barrier_wait(&begins);
+		ww_acquire_init(&x, &opened);
+		seen[me] = x.pool;
+		ww_acquire_fini(&x);
+		pthread_barrier_wait(&ends);
+	}
+	return NULL;
+}
+
+static void opened_by_all(void)
+{
+	pthread_t threads[THREADS];
+
+	for (size_t k = 0; k < THREADS; k++)
+		threads[k] = begin_thread(uses_first, (void *)k);
+	for (unsigned k = 0; k < openings; k++) {
+		MUST(!ww_class_limit(&opened, 64, 16));
+		pthread_barrier_wait(&begins);
+		pthread_barrier_wait(&ends);
+		for (unsigned j = 0; j < THREADS; j++)
+			MUST(seen[j] == opened.pool);
+		MUST(!ww_class_free(&opened));
+	}
+	for (unsigned k = 0; k < THREADS; k++)
+		end_thread(threads[k]);
+}
+
+static void *opens_and_frees(void *arg)
+{
+	struct ww_class it;
+
+	(void)arg;
+	while (!__atomic_load_n(&over, __ATOMIC_RELAXED)) {
+		ww_class_init(&it, 0, "it");
+		MUST(!ww_class_limit(&it, 4, 2) && !ww_class_open(&it) && !ww_class_free(&it));
+	}
+	return NULL;
+}
+
+/* The child of a fork does this, and ends well. */
+static void in_a_child(void (*what)(void))
+{
+	pid_t child = fork();
+	int status = 0;
+
+	MUST(child >= 0);
+	if (!child) {
+		alarm(200);
+		what();
+		_exit(0);
+	}
+	MUST(waitpid(child, &status, 0) == child);
+	if (status)
+		fprintf(stderr, "a child ended by signal %d with status %d\n", WTERMSIG(status), WEXITSTATUS(status));
+	MUST(!status);
+}
+
+/* The child of a fork that comes while other threads open classes opens one, too. */
+static void opens_its_own(void)
+{
+	struct ww_class it;
+
+	ww_class_init(&it, 1, "it");
+	MUST(!ww_class_open(&it) && !ww_class_free(&it));
+}
+
+/*
+ * The address sanitizer holds none of its own locks over a fork before gcc 14 and clang 18, and a child that allocates may wait for
+ * one for ever: so under it no other thread runs.
+ */
+#ifdef __SANITIZE_ADDRESS__
+static const bool is_fork_alone = true;
+#else
+static const bool is_fork_alone = false;
+#endif
+
+static void forks_beside_opening(void)
+{
+	pthread_t threads[2];
+
+	for (unsigned k = 0; k < 2 && !is_fork_alone; k++)
+		threads[k] = begin_thread(opens_and_frees, NULL);
+	for (unsigned k = 0; k < 100; k++)
+		in_a_child(opens_its_own);
+	__atomic_store_n(&over, true, __ATOMIC_RELAXED);
+	for (unsigned k = 0; k < 2 && !is_fork_alone; k++)
+		end_thread(threads[k]);
+}
+
+static void gets_no_number(void)
+{
+	struct ww_mutex m;
+
+	MUST(ww_mutex_init_checked(&m, &few) == -EINVAL);
+}
+static void gets_a_number(void)
+{
+	struct ww_mutex m;
+
+	MUST(!ww_mutex_init_checked(&m, &few) && !ww_mutex_destroy(&m) && ww_class_free(&few) == -EBUSY);
+}
+
+/* A number that was put back before the fork is given in the child, unless a mutex was held then. */
+static void forks_with_a_free_number(void)
+{
+	struct ww_mutex m[2];
+
+	for (unsigned k = 0; k < 2; k++)
+		ww_mutex_init(&m[k], &few);
+	MUST(!ww_mutex_destroy(&m[0]) && !ww_mutex_lock(&m[1], NULL));
+	in_a_child(gets_no_number);
+	ww_mutex_unlock(&m[1]);
+	in_a_child(gets_a_number);
+	MUST(!ww_mutex_destroy(&m[1]) && !ww_class_free(&few));
+}
+
+int main(int count, char **words)
+{
+	if (count > 1)
+		rounds = (unsigned)atoi(words[1]);
+	pthread_barrier_init(&begins, NULL, THREADS + 1);
+	pthread_barrier_init(&ends, NULL, THREADS + 1);
+	fresh_by_threads();
+	bare_by_threads(FEW);
+	bare_by_threads(ENOUGH);
+	for (numbers = ENOUGH; numbers; numbers = numbers == ENOUGH ? FEW : 0)
+		by_threads();
+	as_many_as_may_be();
+	have_lines(1, 1, 0);
+	have_lines(64, 64, 16);
+	have_lines(1024, 1024, 16);
+	have_lines(1027, 1024, 16);
+	have_lines(16384, 1024, 1600);
+	are_low(1);
+	are_low(1027);
+	are_low(5000);
+	a_million();
+	opened_by_all();
+	forks_beside_opening();
+	forks_with_a_free_number();
+	puts("numbers: each is one mutex's, and none is lost");
+	return 0;
+}

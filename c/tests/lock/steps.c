@@ -1,0 +1,309 @@
+/*
+ * What a call does between its steps, as ww_steps.h demands of its callers.
+ *
+ * After WW_AGAIN, when its seat may be inside a guard, it makes the next step and nothing else; and where somebody can
+ * be due it asks whom to wake, until nobody is.  The steps, the library's locks and its system calls come by wrappers
+ * (ld --wrap).
+ */
+#include "../mutex_test.h"
+#include "../../lock/wait.h"
+#include "ww_shared.h"
+#include <stdarg.h>
+
+static DEFINE_WW_CLASS(wound_wait);
+static DEFINE_WD_CLASS(wait_die);
+static struct ww_class *c;
+static struct ww_mutex m;
+
+/* The call of this thread that was on its way last: its seat, what its last step answered, and whether it then asked to the end. */
+static __thread struct {
+	const ww_handle *seat;
+	int32_t answer;
+	bool asked;
+	unsigned seen; /* a bit for each answer */
+} at;
+static __thread struct ww_acquire_ctx *cancelled_amid; /* before the first step, and behind each that answers WW_AGAIN, as by another thread */
+static void (*before_a_step)(void); /* as another thread would, once */
+static __thread unsigned shut_out, slept; /* so many tries to go inside a guard are in vain; and how often it slept behind one */
+static __thread unsigned looks; /* at locks */
+static __thread void (*asleep)(void); /* in place of its next sleep */
+
+static bool has_to_ask(int32_t answer) { return answer <= 0 || answer == WW_SLEEPS; }
+static void does_anything_else(void) { MUST(at.answer != WW_AGAIN); }
+
+int32_t __real_ww_go_on_(ww_handle *seat);
+int32_t __wrap_ww_go_on_(ww_handle *seat);
+int32_t __wrap_ww_go_on_(ww_handle *seat)
+{
+	int32_t r;
+
+	MUST(!at.seat || at.asked == has_to_ask(at.answer));
+	if (cancelled_amid && has_to_ask(at.answer))
+		ww_acquire_cancel(cancelled_amid);
+	if (before_a_step) {
+		void (*what)(void) = before_a_step;
+
+		before_a_step = NULL;
+		what();
+	}
+	r = shut_out ? WW_AWAITS : __real_ww_go_on_(seat);
+	shut_out -= !!shut_out;
+	if (r == WW_AGAIN && cancelled_amid)
+		ww_acquire_cancel(cancelled_amid);
+	at.seat = seat;
+	at.answer = r;
+	at.asked = false;
+	at.seen |= r > 0 ? 1u << r : 1;
+	return r;
+}
+
+int32_t __real_ww_next_wake_(ww_handle *seat);
+int32_t __wrap_ww_next_wake_(ww_handle *seat);
+int32_t __wrap_ww_next_wake_(ww_handle *seat)
+{
+	int32_t r;
+
+	does_anything_else();
+	r = __real_ww_next_wake_(seat);
+	if (seat == at.seat) {
+		MUST(has_to_ask(at.answer) && !at.asked);
+		at.asked = r < 0;
+	}
+	return r;
+}
+
+int32_t __real_ww_cancel_(ww_handle *seat, uint16_t victim);
+int32_t __wrap_ww_cancel_(ww_handle *seat, uint16_t victim);
+int32_t __wrap_ww_cancel_(ww_handle *seat, uint16_t victim)
+{
+	does_anything_else();
+	return __real_ww_cancel_(seat, victim);
+}
+
+int32_t __real_ww_look_(ww_handle *seat, uint32_t lock);
+int32_t __wrap_ww_look_(ww_handle *seat, uint32_t lock);
+int32_t __wrap_ww_look_(ww_handle *seat, uint32_t lock)
+{
+	looks++;
+	return __real_ww_look_(seat, lock);
+}
+
+int __real_pthread_mutex_lock(pthread_mutex_t *mutex);
+int __wrap_pthread_mutex_lock(pthread_mutex_t *mutex);
+int __wrap_pthread_mutex_lock(pthread_mutex_t *mutex)
+{
+	does_anything_else();
+	return __real_pthread_mutex_lock(mutex);
+}
+
+long __real_syscall(long number, ...);
+long __wrap_syscall(long number, ...);
+long __wrap_syscall(long number, ...)
+{
+	long words[6];
+	va_list list;
+
+	va_start(list, number);
+	for (unsigned k = 0; k < 6; k++)
+		words[k] = va_arg(list, long);
+	va_end(list);
+	does_anything_else();
+	slept += at.answer == WW_AWAITS;
+	if (asleep) {
+		void (*what)(void) = asleep;
+
+		asleep = NULL;
+		what();
+		return 0;
+	}
+	return __real_syscall(number, words[0], words[1], words[2], words[3], words[4], words[5]);
+}
+
+/* An older context of this thread holds the mutex, so each of these waits until it is cancelled, or until its time. */
+static void waits_in_vain(void)
+{
+	struct ww_acquire_ctx older, x;
+
+	ww_acquire_init(&older, c);
+	ww_acquire_init(&x, c);
+	MUST(!ww_mutex_lock(&m, &older));
+	at.seen = 0;
+	/* Where processors are short its time may come before it sleeps. */
+	for (long ms = 20; !(at.seen & 1u << WW_SLEEPS); ms *= 2) {
+		struct timespec soon = in_ms(ms);
+
+		MUST(ms < 100000 && ww_mutex_lock_until(&m, &x, &soon) == -ETIMEDOUT && at.asked);
+	}
+	cancelled_amid = &x;
+	for (unsigned k = 0; k < 3; k++)
+		MUST(ww_mutex_lock_interruptible(&m, &x) == -EINTR && at.asked);
+	cancelled_amid = NULL;
+	ww_mutex_unlock(&m);
+	ww_acquire_fini(&x);
+	ww_acquire_fini(&older);
+}
+
+/* It doesn't stay awake for long, and doesn't only let others run: the one inside may be of a lower priority. */
+static void is_shut_out(void)
+{
+	struct ww_acquire_ctx older, x;
+	struct timespec soon = in_ms(1);
+
+	ww_acquire_init(&older, c);
+	ww_acquire_init(&x, c);
+	MUST(!ww_mutex_lock(&m, &older));
+	shut_out = 1000;
+	slept = 0;
+	MUST(ww_mutex_lock_until(&m, &x, &soon) == -ETIMEDOUT && !shut_out && slept > 200);
+	ww_mutex_unlock(&m);
+	ww_acquire_fini(&x);
+	ww_acquire_fini(&older);
+}
+
+static uint32_t number;
+static struct ww_acquire_ctx holder;
+
+static void is_released_just_then(void) { MUST(!ww_number_unlock(number, &holder) && ww_number_put(number, c) == -EBUSY); }
+
+/* A thread that waits for a number, and hasn't seen yet that it is free, gets it: it isn't put back meanwhile. */
+static void is_awaited(void)
+{
+	struct ww_acquire_ctx x;
+
+	ww_acquire_init(&holder, c);
+	ww_acquire_init(&x, c);
+	MUST(!ww_number_take(&number, c) && !ww_number_lock(number, &holder));
+	before_a_step = is_released_just_then;
+	MUST(!ww_number_lock(number, &x) && !before_a_step);
+	MUST(ww_number_put(number, c) == -EBUSY && !ww_number_unlock(number, &x) && !ww_number_put(number, c));
+	ww_acquire_fini(&x);
+	ww_acquire_fini(&holder);
+}
+
+/* As many threads have seats of their own as there are processors, and so many more. */
+static void are_more(uint32_t threads) { ww_threads = c->pool->processors + threads; }
+
+static uint32_t more;
+
+/* The mutex is released, and who waits for it hasn't gone on yet. */
+static void has_no_owner(void)
+{
+	struct ww_acquire_ctx y;
+
+	ww_acquire_init(&y, c);
+	ww_mutex_unlock(&m);
+	are_more(more);
+	looks = 0;
+	MUST(!ww_mutex_lock(&m, &y) && (more ? looks == 1 : looks > 1));
+	ww_mutex_unlock(&m);
+	ww_acquire_fini(&y);
+}
+
+/*
+ * Where threads are short of processors a call takes a mutex that nobody owns, though another thread waits for that, and doesn't look
+ * at it any longer; and it stays awake for less long.
+ */
+static void by_processors(void)
+{
+	struct ww_acquire_ctx older, x;
+	const struct ww_how how = { .who = THREAD };
+	struct ww_wait wait;
+	uint32_t threads = ww_threads;
+
+	for (more = 0; more < 2; more++) {
+		ww_acquire_init(&older, c);
+		ww_acquire_init(&x, c);
+		MUST(!ww_mutex_lock(&m, &older));
+		asleep = has_no_owner;
+		MUST(!ww_mutex_lock(&m, &x) && !asleep);
+		ww_mutex_unlock(&m);
+		ww_mine.usual = 1000000;
+		wait = ww_wait_of(x.own, NULL, &how);
+		MUST(wait.awake == wait.from + (more ? 20000 : 100000));
+		ww_mine.usual = 100;
+		wait = ww_wait_of(x.own, NULL, &how);
+		MUST(wait.awake == wait.from + 5000 + 16 * 100);
+		ww_acquire_fini(&x);
+		ww_acquire_fini(&older);
+	}
+	ww_threads = threads;
+}
+
+/* ---- by several threads, where a step is made in vain inside a guard ---- */
+
+enum { WAITERS = 2, ROUNDS = 1000, LOCKS = 50 };
+static unsigned waiting;
+
+static bool are_waiting(void) { return __atomic_load_n(&waiting, __ATOMIC_SEQ_CST); }
+
+static void *waits(void *arg)
+{
+	for (unsigned k = 0; k < ROUNDS; k++) {
+		struct ww_acquire_ctx x;
+
+		ww_acquire_init(&x, c);
+		cancelled_amid = &x;
+		for (unsigned j = 0; j < LOCKS; j++) {
+			int r = ww_mutex_lock_interruptible(&m, &x);
+
+			MUST(!r || r == -EINTR);
+			if (!r)
+				ww_mutex_unlock(&m);
+		}
+		cancelled_amid = NULL;
+		ww_acquire_fini(&x);
+	}
+	__atomic_fetch_sub(&waiting, 1, __ATOMIC_SEQ_CST);
+	return arg;
+}
+
+static void *tries(void *arg)
+{
+	while (are_waiting()) {
+		struct ww_acquire_ctx x;
+
+		ww_acquire_init(&x, c);
+		for (unsigned k = 0; k < LOCKS; k++)
+			if (ww_mutex_trylock(&m, &x))
+				ww_mutex_unlock(&m);
+		ww_acquire_fini(&x);
+	}
+	return arg;
+}
+
+/* It has the lock that a cancel takes for most of the time. */
+static void *asks(void *arg)
+{
+	MUST(!ww_number_take(&number, c));
+	while (are_waiting())
+		MUST(!ww_mutex_is_locked(&ww_number_at(number, c)->mutex_));
+	MUST(!ww_number_put(number, c));
+	return arg;
+}
+
+static void in_a_storm(void)
+{
+	pthread_t threads[WAITERS + 2];
+
+	waiting = WAITERS;
+	for (unsigned k = 0; k < WAITERS + 2; k++)
+		threads[k] = begin_thread(k < WAITERS ? waits : k == WAITERS ? tries : asks, NULL);
+	for (unsigned k = 0; k < WAITERS + 2; k++)
+		end_thread(threads[k]);
+}
+
+int main(void)
+{
+	for (unsigned kind = 0; kind < 2; kind++) {
+		c = kind ? &wait_die : &wound_wait;
+		ww_mutex_init(&m, c);
+		waits_in_vain();
+		is_shut_out();
+		is_awaited();
+		by_processors();
+		in_a_storm();
+		MUST(!ww_mutex_destroy(&m) && !ww_class_free(c));
+	}
+	puts("steps: behind WW_AGAIN the next step, short sleeps before a guard, and nobody is asked for in vain");
+	return 0;
+}

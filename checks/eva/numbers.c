@@ -1,0 +1,69 @@
+/*
+ * numbers.c - the numbers of a class with so many mutexes, for mutexes at any address, whatever was taken before.
+ *
+ * defines: MUTEXES=0 MUTEXES=1 MUTEXES=17 MUTEXES=1024 MUTEXES=1025 MUTEXES=5000 MUTEXES=65537 MUTEXES=16777216
+ */
+#include <__fc_builtin.h>
+#define ww_likely_ in_128_bits
+#include "base/numbers.h"
+#undef ww_likely_
+
+/* As in ww_mutex_inline.h, whose product has 128 bits: the lower half of `span` is 0. */
+uint64_t ww_likely_(const void *lock, uint64_t span)
+{
+	(void)lock;
+	return (uint64_t)Frama_C_unsigned_int_interval(0, UINT32_MAX) * (span >> 32) >> 32;
+}
+
+/* Of a line's four numbers one is free, as line_from says: Eva doesn't know that of what is read twice. */
+#undef __builtin_ctz
+#define __builtin_ctz(bits) ((void)(bits), Frama_C_interval(0, 3))
+/* Only numbers that there are were left, so are these that are taken out of the word from number k on. */
+#define __builtin_ctzll(bits) \
+	({ \
+		uint32_t at = Frama_C_unsigned_int_interval(0, 63); \
+		if (k + at >= n->locks) \
+			at = 0; \
+		at; \
+	})
+#undef __atomic_exchange_n
+#define __atomic_exchange_n(p, v, order) take_out(p)
+#define __atomic_fetch_or(p, v, order) ((void)(*(p) |= (v)))
+static uint64_t take_out(uint64_t *p)
+{
+	uint64_t was = *p;
+
+	*p = 0;
+	return was;
+}
+#include "base/numbers.c"
+
+static bool is_used_or_not(struct ww_numbers *n, uint32_t number, const void *m)
+{
+	(void)n, (void)number, (void)m;
+	return Frama_C_interval(0, 1);
+}
+
+void main(void)
+{
+	static struct ww_numbers n;
+	static struct ww_mutex m;
+	static uint32_t number; /* that it is written where 0 is returned isn't asked here */
+
+	if (!ww_open_numbers(&n, MUTEXES) || !n.used || !n.left || !n.lies_at)
+		return;
+	while (Frama_C_interval(0, 1)) {
+		n.used[Frama_C_unsigned_int_interval(0, n.locks / 64)] = Frama_C_unsigned_long_interval(0, UINT64_MAX);
+		n.taken = Frama_C_unsigned_int_interval(0, UINT32_MAX);
+		n.of_slots = Frama_C_unsigned_int_interval(0, 4095);
+		if (!ww_take_number(&n, Frama_C_interval(0, 1) ? &m : NULL, &number)) {
+			lies_at(&n, number, &m);
+			if (Frama_C_interval(0, 1))
+				ww_give_number(&n, number);
+		}
+		ww_give_number(&n, Frama_C_unsigned_int_interval(0, n.locks - 1));
+		if (Frama_C_interval(0, 1))
+			ww_leave_used(&n, Frama_C_unsigned_int_interval(0, n.locks - 1), is_used_or_not);
+	}
+	ww_close_numbers(&n);
+}

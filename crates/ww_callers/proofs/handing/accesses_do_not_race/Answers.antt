@@ -1,5 +1,0 @@
-use Rattle.ww_callers.proofs.Data as kept
-use Rattle.ww_callers.proofs.handing.accesses_do_not_race.Goals as goal
-
-pub returns : goal.returns
-returns c = kept.accesses_do_not_race
