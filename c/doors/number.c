@@ -64,22 +64,21 @@ int ww_number_take(uint32_t *number, struct ww_class *c)
 
 /*
  * A waiter counts itself first, and becomes the holder before it stops counting as a waiter.  Of several threads that
- * put the number back only one does.  In a forked child nobody uses it any more, and it isn't given.
+ * put the number back only one does.  A context that backed off may come to it still (wait_first): it is seen here, behind the
+ * exchange, or sees that the number isn't taken.  In a forked child nobody uses it any more, and it isn't given.
  */
 static int put_number(uint32_t number, struct ww_class *c, bool leaves)
 {
 	struct ww_shared_mutex *m = ww_number_at(number, c);
 	uint32_t taken = m ? __atomic_load_n(&m->mutex_.waiters, __ATOMIC_SEQ_CST) : 0;
 	struct ww_pool *p = m ? pool_at(&m->mutex_) : NULL;
-	bool is_used;
 
 	if (p && p->gone)
 		return 0;
-	is_used = taken & IS_TAKEN && (taken != (IS_TAKEN | IS_OF_NUMBER) || ww_has_users(&p->numbers, number, m));
-	if (is_used && !leaves)
+	if (!leaves && taken & IS_TAKEN && (taken != (IS_TAKEN | IS_OF_NUMBER) || ww_has_users(&p->numbers, number, m)))
 		return -EBUSY;
 	if (taken & IS_TAKEN && __atomic_fetch_and(&m->mutex_.waiters, ~IS_TAKEN, __ATOMIC_SEQ_CST) & IS_TAKEN) {
-		(is_used ? ww_leave_number : ww_give_number)(&p->numbers, number);
+		(ww_has_users(&p->numbers, number, m) ? ww_leave_number : ww_give_number)(&p->numbers, number);
 		return 0;
 	}
 	NOTE_MISUSE(c, "ww_number_put", "nobody has taken the number, or it was put back before");

@@ -45,6 +45,7 @@
 #define _GNU_SOURCE
 #include "poll.h"
 #include "../lock/used.h"
+#include "../lock/loop.h"
 #include "../lock/mutex.h"
 #include <sys/mman.h>
 
@@ -341,7 +342,21 @@ ALWAYS_INLINE int read_by(struct ww_shared_mutex *m, struct ww_acquire_ctx *x, s
 
 int ww_shared_mutex_lock_shared(struct ww_shared_mutex *m, struct ww_acquire_ctx *x) { return read_by(m, x, BY_WAITING); }
 
-int ww_shared_mutex_trylock_shared(struct ww_shared_mutex *m, struct ww_acquire_ctx *x) { return !read_by(m, x, BY_TRYING); }
+/* What a trylock returns: after it failed the loop is as it was before, though the trylock may have acquired something on its way. */
+static int ended_try(struct ww_acquire_ctx *x, unsigned int tries, int r)
+{
+	if (r && tries)
+		ww_become(x, 0, tries);
+	return !r;
+}
+static inline unsigned int tries_of(const struct ww_acquire_ctx *x) { return x && x->own ? x->state & TRIES : 0; }
+
+int ww_shared_mutex_trylock_shared(struct ww_shared_mutex *m, struct ww_acquire_ctx *x)
+{
+	unsigned int tries = tries_of(x);
+
+	return ended_try(x, tries, read_by(m, x, BY_TRYING));
+}
 
 int ww_shared_mutex_lock_shared_until(struct ww_shared_mutex *m, struct ww_acquire_ctx *x, const struct timespec *until)
 {
@@ -402,13 +417,13 @@ COLD static int await_readers(struct ww_shared_mutex *m, struct ww_acquire_ctx *
 
 /*
  * Acquires the mutex, and then waits for those who read it.  A poll that waits for one of them has the mutex, and goes
- * on at that slot.  What the context writes already, in a loop that may ask twice, it writes on.  Who got no further
- * than the mutex releases it, unless it waits by a poll.
+ * on at that slot.  In a loop that may ask twice the context may hold the mutex already, maybe by a call that waits for no
+ * reader (ww_number_lock).  Who got no further than the mutex releases it, unless it had it before or waits by a poll.
  */
 ALWAYS_INLINE int write_by(struct ww_shared_mutex *m, struct ww_acquire_ctx *x, struct ww_how how)
 {
 	int r = may_go_on("ww_shared_mutex_lock", m, x, how, TO_WRITE);
-	bool writes;
+	bool held = false;
 
 	how.asks = &m->mutex_;
 	if (UNLIKELY(r))
@@ -416,21 +431,26 @@ ALWAYS_INLINE int write_by(struct ww_shared_mutex *m, struct ww_acquire_ctx *x, 
 	if (how.who == TASK && is_polled(x) && x->polled != &m->mutex_) {
 		r = await_slot((struct ww_slot *)(void *)x->polled, m->mutex_.number, x, how);
 	} else {
-		writes = UNLIKELY(x->state & WW_IGNORE_DUPLICATES) && holds_it(x, &m->mutex_);
+		held = UNLIKELY(x->state & WW_IGNORE_DUPLICATES) && holds_it(x, &m->mutex_);
 		r = !IS_DEBUG && LIKELY(lock_at_once(&m->mutex_, x)) ? 0 : acquire(&m->mutex_, x, how);
-		if (r || writes)
+		if (r)
 			return r;
 	}
 	if (!r && UNLIKELY(__atomic_load_n(&m->readers_, __ATOMIC_SEQ_CST)))
 		r = await_readers(m, x, how);
-	if (UNLIKELY(r) && r != -EINPROGRESS)
+	if (UNLIKELY(r) && r != -EINPROGRESS && !held)
 		(void)ww_unlock_of(&m->mutex_, x);
 	return r;
 }
 
 int ww_shared_mutex_lock(struct ww_shared_mutex *m, struct ww_acquire_ctx *x) { return write_by(m, x, BY_WAITING); }
 
-int ww_shared_mutex_trylock(struct ww_shared_mutex *m, struct ww_acquire_ctx *x) { return !write_by(m, x, BY_TRYING); }
+int ww_shared_mutex_trylock(struct ww_shared_mutex *m, struct ww_acquire_ctx *x)
+{
+	unsigned int tries = tries_of(x);
+
+	return ended_try(x, tries, write_by(m, x, BY_TRYING));
+}
 
 int ww_shared_mutex_lock_until(struct ww_shared_mutex *m, struct ww_acquire_ctx *x, const struct timespec *until)
 {
@@ -442,6 +462,19 @@ int ww_shared_mutex_lock_poll(struct ww_shared_mutex *m, struct ww_acquire_ctx *
 	return write_by(m, x, (struct ww_how){ .who = TASK, .waker = waker });
 }
 
+/* In the list the slot comes no later than this mutex, which it protects from now on: so ww_acquire_unlock_to ends no read too many. */
+static void list_behind(struct ww_acquire_ctx *x, struct ww_mutex *slot, struct ww_mutex *m)
+{
+	struct ww_mutex *it = x->newest;
+
+	while (it && it != m && it != slot)
+		it = it->older;
+	if (it == slot && unlist(x, slot)) {
+		__atomic_store_n(&slot->older, m->older, __ATOMIC_RELAXED);
+		__atomic_store_n(&m->older, slot, __ATOMIC_RELAXED);
+	}
+}
+
 void ww_shared_mutex_downgrade(struct ww_shared_mutex *m, struct ww_acquire_ctx *x)
 {
 	bool waits = x && phase_of(x) == IN_POLL;
@@ -451,6 +484,8 @@ void ww_shared_mutex_downgrade(struct ww_shared_mutex *m, struct ww_acquire_ctx 
 	if (!holds_slot(x) && take_slot(x, (struct ww_how){ 0 }, true))
 		return;
 	read_held(m, x->own->slot);
+	if (is_loop(x))
+		list_behind(x, &x->own->slot->mutex, &m->mutex_);
 	(void)ww_unlock_of(&m->mutex_, x);
 }
 

@@ -176,7 +176,7 @@ public:
 
 // As a mutex, but contexts may read what it protects concurrently (context::lock_shared), or one of them writes it. Only
 // contexts lock it. One that a context reads still when it is destroyed, which the debug library reports, leaves the class when that
-// context ends its reads.
+// context ends its reads, and nobody may lock it any more.
 class WW_SAFETY_(capability("mutex")) shared_mutex {
 	struct ww_shared_mutex it_;
 
@@ -469,7 +469,7 @@ public:
 
 	// The same for mutexes that are found while others are held: next(restart) returns the next mutex, or nullptr at the end.
 	// It may read what is protected by mutexes that it returned since restart was last true, and return one of these again.
-	// After a back-off restart is true, and the contended mutex is held, so its memory must still exist.
+	// After a back-off restart is true. The next lock first waits for the contended mutex, so that must still exist.
 	template <class Next> [[nodiscard]] int lock_walk(Next &&next WW_AND_FROM_)
 	{
 		return acquire([&] {

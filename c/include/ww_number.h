@@ -16,13 +16,14 @@ extern "C" {
 
 /*
  * Takes a mutex that nobody else has.  Its number may be up to four times as great as the class has mutexes, and up to 67 in
- * any class.  -ENOSPC, -ENOMEM and -EINVAL as ww_mutex_init_checked: the first one allocates memory for all.
+ * any class.  -ENOSPC, -ENOMEM and -EINVAL as ww_mutex_init_checked: the first one allocates memory for all.  -ENOSPC may also
+ * come for a moment if all free numbers are of ww_number_leave, while another thread looks which of these are free.
  */
 WW_MUST_CHECK int ww_number_take(uint32_t *number, struct ww_class *ww_class);
 /*
  * Frees a number that was taken.  -EBUSY: somebody holds it or waits for it, or a context that has read it (ww_shared.h) hasn't
  * ended its reads, and nothing has changed; -EINVAL: it isn't taken.
- * Once this returns 0, no other thread accesses the mutex any more.
+ * Once this returns 0, no other thread accesses the mutex any more; a context that backed off at it doesn't wait for it.
  */
 int ww_number_put(uint32_t number, struct ww_class *ww_class);
 
@@ -36,7 +37,8 @@ void ww_number_leave(uint32_t number, struct ww_class *ww_class);
  *	ww_shared_mutex_trylock_shared(ww_number_at(number, &boxes), &ctx)
  * and by its member mutex_ for those of ww_mutex.h, also without a context (NULL).  Who writes what others read in this way calls
  * ww_shared_mutex_lock, since ww_number_lock waits for no reader.  What a context locked is unlocked by its number, or by
- * ww_shared_mutex_unlock; and a context that moves makes no ww_mutex_lock and no ww_mutex_trylock, which leave its address there.
+ * ww_shared_mutex_unlock.  A context that moves does so outside loops and tries, and makes no ww_mutex_lock and no
+ * ww_mutex_trylock, which leave its address there.
  * The mutex stays where it is until the class is freed.  NULL: nobody has taken the number.
  */
 struct ww_shared_mutex;

@@ -20,8 +20,8 @@
  * context, since all waits are those of contexts, and so every deadlock among readers and writers ends by -EDEADLK.
  *
  * Return values are those of ww_mutex.h.  -EDEADLK of any of these calls, also of a context's first: release everything, then
- * ww_shared_mutex_await, and begin again; a loop does so by itself.  The limits of the class count also, for each of its contexts
- * that reads at a time, one mutex.
+ * ww_shared_mutex_await, and begin again; a loop does so by itself.  Of the mutexes of the class each reader slot takes one: as
+ * many as contexts that may read at a time, and for each thread's own context that has ever read one more.
  */
 #ifndef WW_SHARED_H
 #define WW_SHARED_H

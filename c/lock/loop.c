@@ -162,8 +162,8 @@ int ww_result_in_loop(struct ww_mutex *m, struct ww_acquire_ctx *x, int r)
 }
 
 /*
- * Before anything else, waits for the mutex at which the context got -EDEADLK.  If that is a reader slot (shared.c), it is
- * released at once, since the body of the loop never asks for one.
+ * Before anything else, waits for the mutex at which the context got -EDEADLK.  If the body of the loop can't ask for it, it is
+ * released at once: a reader slot (shared.c), or a mutex whose number was put back meanwhile, and which may be a slot's by now.
  */
 static int wait_first(struct ww_acquire_ctx *x, struct ww_how how)
 {
@@ -173,10 +173,14 @@ static int wait_first(struct ww_acquire_ctx *x, struct ww_how how)
 	how.visits = is_slot(m);
 	r = ww_lock_by(m, x, &how);
 	if (!r) {
+		bool is_gone = is_of_number(m) && !(__atomic_load_n(&m->waiters, __ATOMIC_SEQ_CST) & IS_TAKEN);
+
 		x->prelocked = m;
-		ww_become(x, TRIES, how.visits ? 0 : IS_PRELOCKED);
+		ww_become(x, TRIES, how.visits || is_gone ? 0 : IS_PRELOCKED);
 		if (how.visits)
 			(void)unlock_by(m, x->own);
+		else if (is_gone)
+			(void)ww_unlock_of(m, x);
 	}
 	return r;
 }

@@ -305,14 +305,14 @@ TABLE = {
     "number": {"ww_number_at_first": "store rlx", "begin_list": "load rlx"},
     "is_large": {"ww_open_numbers": "store rlx", "find_number": "store rlx", "begin_list": "load rlx"},
     # It lies in the place of that, and others see that it is even.
-    "older": {"WW_HOLDS_": "store rlx", "enlist": "store rlx"},
+    "older": {"WW_HOLDS_": "store rlx", "enlist": "store rlx", "list_behind": "store rlx, store rlx"},
     "link": {"unlist": "store rlx"},
     "user": {"note_user": "store rlx", "is_used_here": "load rlx"},
     # A waiter says first that it holds the mutex, and then that it waits no more; who destroys looks the other way round.
     # Of one that is known by its number also that this is taken, which nobody asks for before.
     "waiters": {
         "ww_end_mutex": "load sc", "ww_has_users": "load sc", "count_waiter": "fetch_add sc, fetch_add sc",
-        "lock_by_any": "fetch_add sc, fetch_sub sc", "put_number": "load sc, fetch_and sc",
+        "lock_by_any": "fetch_add sc, fetch_sub sc", "put_number": "load sc, fetch_and sc", "wait_first": "load sc",
         "ww_number_take": "store rlx, fetch_add rlx",
         "is_slot": "load rlx", # which it always is
         "is_of_number": "load rlx", # likewise
@@ -501,6 +501,7 @@ PLAIN = {
     "p->numbered": "by: free_pool",
     # By whoever holds the mutex, which its lock orders, or makes or destroys it.
     "m->older": "by: ",
+    "it->older": "by: ",
     # In that place, too: read where it has no number, before whoever gives it one, under the lock of opening, or by itself.
     "m->class_": "by: ww_mutex_destroy ww_end_mutex",
     # By nobody, so by __atomic_* alone; but for number, which is given before `pool` is stored.

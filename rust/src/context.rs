@@ -151,22 +151,25 @@ impl Context {
         Ok(())
     }
 
-    /// The library's wait for a context ends at a time, but not by a canceller: with one, it is made of short waits.
+    /// The library's wait for a context ends at a time, but not by a canceller: with one, it is made of waits, each twice as long as
+    /// the one before. Each begins at the end of the queue, so one has to last until all those before have had their turn.
     #[cold]
     fn begin_late(&self, mut answer: c_int, wait: impl Fn(Option<&ffi::timespec>) -> c_int) -> Result<(), Error> {
         let limits = self.rare().map(|rare| rare.limits.borrow());
         let limits = limits.as_deref();
+        let deadline = limits.and_then(|limits| limits.until.as_ref());
         let mut pause = Duration::from_micros(20);
         if answer == -ffi::EAGAIN && limits.is_none_or(|limits| limits.canceller.is_none()) {
-            answer = wait(limits.and_then(|limits| limits.until.as_ref()).map(|(_, until)| until));
+            answer = wait(deadline.map(|(_, until)| until));
         }
         while answer == -ffi::EAGAIN {
             limits.map_or(Ok(()), Limits::check)?;
-            answer = match wait(Some(&clock::monotonic(Instant::now() + pause))) {
+            let end = Instant::now() + pause;
+            answer = match wait(Some(&clock::monotonic(deadline.map_or(end, |(at, _)| end.min(*at))))) {
                 timed_out if timed_out == -ffi::ETIMEDOUT => -ffi::EAGAIN,
                 other => other,
             };
-            pause = (2 * pause).min(Duration::from_millis(1));
+            pause *= 2;
         }
         match -answer {
             0 => Ok(()),

@@ -73,6 +73,7 @@ fn of_lock(answer: c_int) -> Result<(), Error> {
     match -answer {
         0 => Ok(()),
         ffi::EDEADLK => Err(Error::Deadlock),
+        ffi::EALREADY => Err(Error::Duplicate),
         ffi::ETIMEDOUT => Err(Error::TimedOut),
         _ => Err(error::of_making(answer)),
     }

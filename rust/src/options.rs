@@ -45,7 +45,8 @@ impl<'c, C: Class> Options<'c, C> {
         self
     }
 
-    /// It waits until this canceller ends the wait.
+    /// It waits until this canceller ends the wait. If all contexts of the class are in use, the wait for one of them may go on
+    /// after a cancel for as long as it has lasted by then.
     pub const fn cancelled_by(mut self, canceller: &'c Canceller) -> Self {
         self.canceller = Some(canceller);
         self

@@ -1,5 +1,6 @@
 //! What ends a wait: times and cancels, also where all contexts of the class are in use.
 
+use std::sync::atomic::{AtomicBool, Ordering::Relaxed};
 use std::sync::mpsc::channel;
 use std::sync::Barrier;
 use std::thread;
@@ -143,6 +144,31 @@ fn a_canceller_calls_off_the_wait_for_a_context() {
         assert_eq!(waiting.join().unwrap(), Err(Error::Cancelled));
     });
     drop(context);
+}
+
+/// Others that come and go leave it its turn.
+#[test]
+fn who_can_be_cancelled_gets_a_context_too() {
+    class!(struct Boxes: WoundWait, contexts = 1);
+    let (canceller, is_over) = (Canceller::new(), AtomicBool::new(false));
+    thread::scope(|scope| {
+        for _ in 0..4 {
+            scope.spawn(|| {
+                while !is_over.load(Relaxed) {
+                    Boxes::run(|_| {
+                        thread::sleep(Duration::from_millis(5));
+                        Ok(())
+                    })
+                    .unwrap();
+                }
+            });
+        }
+        thread::sleep(SOON);
+        let late = Duration::from_secs(20);
+        let told = Boxes::options().cancelled_by(&canceller).timeout(late).run(|_| Ok(()));
+        is_over.store(true, Relaxed);
+        assert_eq!(told, Ok(()));
+    });
 }
 
 /// All waits of a class end, of contexts and for them, with and without limits, also those that begin later.

@@ -160,6 +160,49 @@ fn what_came_first_may_have_gone() {
     .unwrap();
 }
 
+/// The number by which a context reads is that of a mutex that is gone, and for which another one waits first; and it waits itself
+/// first for a number that the mutex which it then reads has by now.
+#[test]
+#[cfg_attr(feature = "debug-library", ignore = "that makes up Deadlocks")]
+fn what_came_first_may_be_what_is_read() {
+    class!(struct Boxes: WaitDie, contexts = 8);
+    let flag = Arc::new(Flag::default());
+    let (first, second, other) = (Mutex::new(0), Mutex::new(0), Mutex::new(0));
+    let shared: SharedMutex<Boxes, u64> = SharedMutex::new(1);
+    Boxes::run(|tx| tx.write(&shared).map(|mut it| *it = 1)).unwrap(); // so that it has its number
+    let (mut oldest, mut reader, mut youngest) =
+        (Context::<Boxes>::new(), Context::<Boxes>::new(), Context::<Boxes>::new());
+    let tx = block_on(oldest.attempt()).unwrap();
+    let (has_first, has_second) = (block_on(tx.lock(&first)).unwrap(), block_on(tx.lock(&second)).unwrap());
+    block_on(reader.attempt()).unwrap();
+    let told = block_on(async {
+        let tx = youngest.attempt().await?;
+        let _other = tx.lock(&other).await?;
+        tx.lock(&first).await.map(|_| ())
+    });
+    assert!(told == Err(Error::Deadlock) && youngest.settle(told).is_continue());
+    drop(has_first);
+    drop(first);
+    let told = block_on(async {
+        let tx = reader.attempt().await?;
+        assert_eq!(*tx.read(&shared).await?, 1);
+        tx.lock(&second).await.map(|_| ())
+    });
+    assert!(told == Err(Error::Deadlock) && reader.settle(told).is_continue());
+    drop(has_second);
+    drop((oldest, second));
+    block_on(youngest.attempt()).unwrap();
+    let new = SharedMutex::new(2);
+    let tx = block_on(reader.attempt()).unwrap();
+    let mut read = pin!(tx.read(&new));
+    let told = poll(read.as_mut(), &flag);
+    drop(youngest);
+    match told {
+        Poll::Pending => assert_eq!(block_on(read).as_deref().copied(), Ok(2)),
+        Poll::Ready(told) => assert_eq!(told.as_deref().copied(), Ok(2)),
+    }
+}
+
 /// A read that is dropped amid its wait, also once it has its turn, is none: another context writes it, and so may its own.
 #[test]
 #[cfg_attr(feature = "debug-library", ignore = "that makes up Deadlocks")]

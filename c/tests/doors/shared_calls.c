@@ -402,6 +402,81 @@ static void reads_are_listed(void)
 	end_both();
 }
 
+/* What was written before a mark is read behind it, whether the context's reads began before that or not. */
+static void a_downgrade_keeps_its_place(bool reads_more)
+{
+	size_t mark;
+
+	begin_both();
+	ww_until_all_locked(&y) {
+		MUST(!writes(&m, &y) && (mark = ww_acquire_mark(&y)) == 1 && (!reads_more || !reads(&n, &y)) && !ww_mutex_lock(&plain, &y));
+	}
+	ww_shared_mutex_downgrade(&m, &y);
+	MUST(y.acquired == 2);
+	ww_acquire_unlock_to(&y, mark);
+	MUST(y.acquired == 1 && ww_shared_mutex_is_read_by(&m, &y) && !can_write(&m, &x) && ww_mutex_trylock(&plain, &x));
+	ww_mutex_unlock(&plain);
+	ww_acquire_unlock_all(&y);
+	MUST(can_write(&m, &x));
+	end_both();
+}
+
+/* By ww_number_lock it waits for no reader. */
+static void who_has_it_waits_for_its_readers(void)
+{
+	struct ww_shared_mutex *it;
+	uint32_t number;
+
+	MUST(!ww_number_take(&number, c));
+	it = shared_at(number);
+	begin_both();
+	MUST(!reads(it, &x));
+	ww_acquire_flags(&y, WW_IGNORE_DUPLICATES);
+	ww_until_all_locked(&y) {
+		MUST(!ww_number_lock(number, &y) && ww_shared_mutex_lock_until(it, &y, &past) == -ETIMEDOUT && y.acquired == 1);
+		ww_acquire_end_reads(&x);
+		MUST(!ww_shared_mutex_lock_until(it, &y, &past) && y.acquired == 1);
+	}
+	ww_acquire_unlock_all(&y);
+	end_both();
+	MUST(!ww_number_put(number, c));
+}
+
+/* By Wait-Die; it acquires the mutex, and then finds the reader. */
+static void a_vain_trylock_takes_no_wait_back(void)
+{
+	begin_both();
+	MUST(!ww_mutex_lock(&plain, &x) && !reads(&m, &x));
+	ww_acquire_begin_tries(&y);
+	MUST(!writes(&n, &y) && ww_mutex_lock(&plain, &y) == -EDEADLK && ww_acquire_end_try(&y));
+	MUST(!can_write(&m, &y) && ww_shared_mutex_lock_until(&n, &y, &past) == -ETIMEDOUT && !y.acquired);
+	ww_mutex_unlock(&plain);
+	MUST(!ww_shared_mutex_lock_until(&n, &y, &past) && y.acquired == 2 && !ww_acquire_end_try(&y));
+	ww_acquire_end_reads(&x);
+	end_both();
+}
+
+/* By Wait-Die. A number that was put back meanwhile may be that of a slot. */
+static void nobody_waits_first_for_what_is_gone(void)
+{
+	bool again = false;
+	uint32_t number;
+
+	MUST(!ww_number_take(&number, c));
+	begin_both();
+	MUST(!ww_number_lock(number, &x));
+	ww_until_all_locked(&y) {
+		MUST(!ww_mutex_lock(&plain, &y) && y.acquired == 1);
+		if (again)
+			break;
+		MUST(ww_number_lock(number, &y) == -EDEADLK && !ww_number_unlock(number, &x) && !ww_number_put(number, c));
+		again = true;
+		ww_retry_on_contention(&y);
+	}
+	ww_acquire_unlock_all(&y);
+	end_both();
+}
+
 /* ---- whose a read is ---- */
 
 /* One that was never locked has no number yet, and one of another class may have the same. */
@@ -1166,6 +1241,7 @@ static void of(struct ww_class *class)
 	others_are_not_read();
 	numbers_stay_while_read();
 	if (!c->is_wait_die) {
+		who_has_it_waits_for_its_readers();
 		mutexes_stay_while_tasks_come_to_read();
 		moved_writers_leave_no_name();
 	}
@@ -1184,8 +1260,12 @@ static void of(struct ww_class *class)
 		a_downgrade_waits_for_no_task();
 		a_loop_goes_on_after_a_writer();
 		a_loop_goes_on_after_a_reader();
+		a_vain_trylock_takes_no_wait_back();
+		nobody_waits_first_for_what_is_gone();
 	}
 	reads_are_listed();
+	a_downgrade_keeps_its_place(false);
+	a_downgrade_keeps_its_place(true);
 	numbers_are_read();
 	a_child_waits_for_nobody();
 #ifdef WW_DEBUG

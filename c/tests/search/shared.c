@@ -12,6 +12,8 @@
  *	> <	behind a transaction: what it writes it only reads from here on; that has its mutex asked for by a second context first
  *	-	what it reads ends		w	waits until somebody waits for a
  *	d	destroys a, and makes it anew, where nobody has it; D: somebody has, or waits for it
+ *	p	destroys a, unless somebody has it or waits for it
+ *	v	in the first try of a loop by a number: writes b, and backs off at a; then 2 has happened
  *	1-9 ~1	something has happened; waits for that, which orders	_1	waits for it, which doesn't
  *	These stand in a transaction, too, where that has what comes before; and what happens, behind > as well, which comes then before
  *	its reads end.
@@ -36,6 +38,7 @@ struct ww_class *const il_class = &c;
 static struct it {
 	struct ww_shared_mutex lock, *at; /* the library's, where it goes by a number */
 	uint32_t number;
+	bool is_gone;
 	long data;		/* plain */
 	uint32_t writers, readers;
 } *its;
@@ -108,6 +111,7 @@ struct user {
 	bool reads[BOTH], writes[BOTH];
 	long was[BOTH];
 	char got[MOST + 1];
+	unsigned tries;
 };
 
 static struct it *it_of(char letter) { return &its[tolower(letter) - 'a']; }
@@ -293,6 +297,22 @@ static void comes_anew(bool is_had)
 	make(its);
 }
 
+static void goes(struct it *it)
+{
+	int r = destroy(it);
+
+	MUST(!r || r == -EBUSY);
+	it->is_gone = !r;
+}
+
+/* By Wait-Die, where an older context has the second one until then. */
+static int backs_off(struct user *u)
+{
+	MUST(!lock(u, 'B', 0) && lock(u, 'A', 0) == -EDEADLK);
+	il_set(&happened[2]);
+	return -EDEADLK;
+}
+
 /* All locks of the text up to its end. */
 static int lock_each(struct user *u, const char *at, bool is_loop)
 {
@@ -309,6 +329,11 @@ static int lock_each(struct user *u, const char *at, bool is_loop)
 		}
 		if (*at == '-') {
 			end_reads(u);
+			continue;
+		}
+		if (*at == 'v') {
+			if (!u->tries++)
+				return backs_off(u);
 			continue;
 		}
 		if (tolower(*at) == 'd') {
@@ -433,6 +458,8 @@ void il_thread(const char *at)
 			at = transaction(at);
 		else if (tolower(*at) == 'd')
 			comes_anew(*at == 'D');
+		else if (*at == 'p')
+			goes(its);
 		else
 			MUST(happens(&at));
 	}
@@ -445,9 +472,10 @@ void il_check(const struct il_program *p)
 			MUST(polled[t][k].calls == polled[t][k].is_due);
 	for (unsigned k = 0; k < BOTH; k++) {
 		MUST(its[k].data == writes[k]);
-		MUST(!destroy(&its[k]));
+		MUST(its[k].is_gone || !destroy(&its[k]));
 	}
-	MUST(!taken_numbers(&c.pool->numbers) && !ww_class_free(&c));
+	/* Whose number was put back as a context came to it, is left. */
+	MUST((its[0].is_gone || !taken_numbers(&c.pool->numbers)) && !ww_class_free(&c));
 }
 
 const struct il_program il_programs[] = {
@@ -533,6 +561,8 @@ const struct il_program il_programs[] = {
 	{ "number-destroy-read-on", { "[abDB]", "[b]" }, CONTEXTS(4) | NUMBERED, 2 },
 	{ "number-destroy-writer", { "(A1~2)", "~1D2" }, CONTEXTS(4) | NUMBERED, WHOLE },
 	{ "number-destroy-waiter", { "(A1~2)", "(~1a~3)", "~1w2D3" }, CONTEXTS(4) | NUMBERED, 1 },
+	{ "number-vanishes", { "(A1~2)p", "~1(vBb)" }, CONTEXTS(4) | NUMBERED | WAIT_DIE, WHOLE },
+	{ "number-vanishes-read", { "(A1~2)p(b)", "~1(vb)" }, CONTEXTS(4) | NUMBERED | WAIT_DIE, 2 },
 	{ "number-again", { "[a-bd]1[a]", "~1[A]" }, CONTEXTS(4) | NUMBERED, WHOLE },
 	{ "number-again-stale", { "(a)1(b)~2(a)", "~1d2(A)" }, CONTEXTS(4) | NUMBERED, WHOLE },
 	{ "moves", { "[ya]", "[zA]" }, CONTEXTS(4) | MOVES, 2 },

@@ -269,6 +269,27 @@ def gives_numbers_back():
         assert mutex.locked()
 
 
+def waits_for_nothing_that_is_gone():
+    """A mutex at which a context got Deadlock goes, and its number may be that by which this or another one reads."""
+    for own in (True, False):
+        buffers = made(ww.WAIT_DIE)
+        gone, a, shared = ww.Mutex(buffers), ww.Mutex(buffers), ww.SharedMutex(buffers)
+        with buffers.context() as older, buffers.context() as younger:
+            older.lock(gone)
+            younger.lock(a)
+            assert is_raised(ww.Deadlock, younger.lock, gone)
+            older.unlock_all()
+            del gone
+            gc.collect()
+            younger.unlock_all()
+            if not own:
+                older.read(shared)
+                older.unlock(shared)
+            younger.lock(a)
+            (younger if own else older).read(shared)
+            assert shared in (younger if own else older)
+
+
 def loses_no_number():
     """A SharedMutex that goes while a context that has read it reads something: its number comes again once the reads have ended, and
     in the end the class is freed."""
@@ -809,6 +830,7 @@ is_typed()
 refuses_others()
 begins_once()
 gives_numbers_back()
+waits_for_nothing_that_is_gone()
 loses_no_number()
 frees_cycles()
 collects_blocks()

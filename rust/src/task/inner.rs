@@ -298,7 +298,14 @@ impl Inside {
         // If the clone panics, the call is as it was, but for its waker.
         let lent = lent.unwrap_or_else(|| Lent::lend(waker.clone()));
         // SAFETY: the context has begun; what is on its way is this call, or nothing.
-        let answer = unsafe { asked.poll(class, self.raw(), &raw const lent.0) };
+        let mut answer = unsafe { asked.poll(class, self.raw(), &raw const lent.0) };
+        if let Some(first) = self.rare().prelocked.take_if(|_| answer == -ffi::EALREADY) {
+            // SAFETY: as in `poll_once`; the call has ended.
+            unsafe {
+                ffi::unlock(first.index(), self.raw());
+                answer = asked.poll(class, self.raw(), &raw const lent.0);
+            }
+        }
         if answer == -ffi::EINPROGRESS {
             self.rare().call = Call::Waits(Some(lent));
             return Poll::Pending;
