@@ -299,7 +299,8 @@ impl Inside {
         let lent = lent.unwrap_or_else(|| Lent::lend(waker.clone()));
         // SAFETY: the context has begun; what is on its way is this call, or nothing.
         let mut answer = unsafe { asked.poll(class, self.raw(), &raw const lent.0) };
-        if let Some(first) = self.rare().prelocked.take_if(|_| answer == -ffi::EALREADY) {
+        let is_shared = !matches!(asked, Asked::Lock(_));
+        if let Some(first) = self.rare().prelocked.take_if(|_| is_shared && answer == -ffi::EALREADY) {
             // SAFETY: as in `poll_once`; the call has ended.
             unsafe {
                 ffi::unlock(first.index(), self.raw());
