@@ -462,7 +462,7 @@ int ww_shared_mutex_lock_poll(struct ww_shared_mutex *m, struct ww_acquire_ctx *
 	return write_by(m, x, (struct ww_how){ .who = TASK, .waker = waker });
 }
 
-/* In the list the slot comes no later than this mutex, which it protects from now on: so ww_acquire_unlock_to ends no read too many. */
+/* The slot takes the mutex's place in the list, unless it is older: so ww_acquire_unlock_to doesn't end a read from before the mark. */
 static void list_behind(struct ww_acquire_ctx *x, struct ww_mutex *slot, struct ww_mutex *m)
 {
 	struct ww_mutex *it = x->newest;
