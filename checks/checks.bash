@@ -12,6 +12,14 @@ fail() {
     exit 1
 }
 
+# pass_over WHAT WHY: ends a check that can't look at something, since a program that it needs isn't here. The gate counts
+# such a check as incomplete, and with CI=true as failed.
+pass_over() {
+    say "passed over $1, since $2"
+    [ "${CI-}" != true ] || exit 1
+    exit 77
+}
+
 # The program that a check is given, as its only word, into `program`. The check was called in the folder before this.
 find_program() {
     [ $# = 1 ] || fail "usage: checks/$name PROGRAM"

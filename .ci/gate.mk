@@ -1,0 +1,84 @@
+# The gate's checks, each a target, as .ci/run makes them: make -f .ci/gate.mk -s -k -jN gate. What a check needs
+# stands behind its name. All others begin at once, and sub-makes share the processors by make's own job server. .ci/check
+# runs one: the first number is the most minutes that it may take.
+#
+# target        | what it makes
+# quick         | what takes seconds, and everything else waits for
+# sources       | what is asked of the crates' sources without a proof, each only if something that it reads differs from BASE
+# proofs        | each proof and edit, and what is asked of what was proved; only with PROOFS=yes
+# library       | the library for C, made of the assembly that is kept, which `proofs` compares with what was proved
+# program       | the program, made likewise
+# gate          | all of these
+#
+# environment   | what it says
+# PROOFS        | yes: there is no base whose proofs are those of this tree, so everything is proved (checks/same_proofs)
+# BASE          | a commit of which the whole gate was green, or nothing
+# WHOLE         | --whole: nothing is left out, and nothing counts that was proved earlier on this machine
+SHELL := /bin/bash
+PROOFS ?= yes
+BASE ?=
+WHOLE ?=
+OF_MAKE := c/out/gate
+ARCHIVE := $(OF_MAKE)/archive/libww_c.a
+PROGRAM := out/ww_run
+# A check; and a make, which shares the processors with this one: any other would warn of a job server that it doesn't reach.
+check = @env -u MAKEFLAGS -u MFLAGS .ci/check $@ $(1)
+made = +@.ci/check $@ $(1)
+# What a check of the sources reads besides what a proof reads.
+asked = $(if $(filter yes,$(PROOFS)),$(1),$(foreach it,$(1),$(if $(filter yes,$(shell checks/same_proofs '$(BASE)' $(READS_$(it)) >/dev/null || echo yes)),$(it))))
+
+QUICK := base budget c_names documents layers limits names packages prototypes unused
+SOURCES := format refuse_abuses scene try_cases try_using
+PROVED := prove generated_ww_c generated_ww_run by_rattle growths_of_tests passes
+OF_C := c_tests c_threads c_compilers c_pages c_installed kills simulated kernel instructions rust aarch64 dist make wp
+OF_PROGRAM := soak refuse_growths tools run large parks program_fails
+.PHONY: gate quick sources proofs library program list made_library made_program $(QUICK) $(SOURCES) $(PROVED) $(OF_C) $(OF_PROGRAM)
+
+# The longest come first.
+gate: quick proofs library sources program
+quick: $(QUICK)
+library: $(OF_C)
+program: $(OF_PROGRAM)
+proofs: $(if $(filter yes,$(PROOFS)),$(PROVED))
+READS_format := checks/check_format
+READS_refuse_abuses := checks/refuse_abuses checks/abuses.blocks
+READS_scene := checks/check_scene checks/scenes.py checks/endless.py
+READS_try_cases := checks/try_cases program/cases program/examples
+READS_try_using := checks/try_using docs/RATTLE.md
+sources: $(call asked,$(SOURCES))
+list:
+	@printf '%s\n' $(QUICK) $(call asked,$(SOURCES)) $(if $(filter yes,$(PROOFS)),$(PROVED)) made_library made_program $(OF_C) $(OF_PROGRAM)
+
+$(QUICK):                       ; $(call check,5) checks/check_$@
+
+format scene: | quick           ; $(call check,10) checks/check_$@
+refuse_abuses: | quick          ; $(call check,20) checks/$@
+try_cases try_using: | quick    ; $(call check,20) checks/$@
+
+prove: | quick                  ; $(call check,170) checks/prove $(WHOLE)
+generated_ww_c: | prove         ; $(call check,30) bash -c 'checks/link_proved ww_c out/gate/proving && checks/check_generated ww_c crates/ww_c/out/generated'
+generated_ww_run: | prove       ; $(call check,30) bash -c 'checks/link_proved ww_run out/gate/proving && checks/check_generated ww_run crates/ww_run/out/generated'
+by_rattle: | prove              ; $(call check,10) bash -c 'for it in crates/ww_run/out/ww_run{,.by-rattle}; do [ ! -e $$it ] || checks/check_program $$it || exit 1; done'
+growths_of_tests: | prove       ; $(call check,20) checks/refuse_library_growths
+passes: | prove                 ; $(call check,10) checks/check_instructions --passes
+
+made_library: | quick           ; $(call made,10) bash -c '$(MAKE) -s -C c OUT=out/gate all && mkdir -p $(dir $(ARCHIVE)) && ar rcsD $(ARCHIVE) $(OF_MAKE)/core.o'
+c_tests: | made_library         ; $(call made,60) $(MAKE) -s -k -C c OUT=out/gate check
+c_threads: | made_library       ; $(call made,60) $(MAKE) -s -k -C c OUT=out/gate check-thread
+c_compilers c_pages: | quick    ; $(call check,30) checks/check_$@
+c_installed: | made_library     ; $(call check,20) checks/check_$@
+kills: | quick                  ; $(call check,90) c/tests/search/kills $(if $(WHOLE),,$(BASE:%=--changed %))
+simulated: | quick              ; $(call check,30) checks/check_simulated
+kernel: | made_library          ; $(call check,30) checks/check_kernel $(ARCHIVE)
+instructions: | made_library    ; $(call check,30) checks/check_instructions $(ARCHIVE)
+rust: | made_library            ; $(call check,60) checks/check_rust $(ARCHIVE)
+aarch64: | quick                ; $(call check,60) checks/check_aarch64 $(WHOLE)
+dist: | quick                   ; $(call check,30) checks/check_dist $(WHOLE)
+make: | quick                   ; $(call check,30) checks/check_make
+wp: | quick                     ; $(call check,60) checks/check_wp
+
+made_program: | quick           ; $(call made,10) $(MAKE) -s $(PROGRAM)
+soak refuse_growths large parks program_fails tools run: | made_program
+soak large parks tools run:     ; $(call check,30) checks/check_$@ $(PROGRAM)
+refuse_growths:                 ; $(call check,30) checks/$@ $(PROGRAM)
+program_fails:                  ; $(call check,10) checks/check_program $(PROGRAM)
