@@ -1,4 +1,4 @@
-# The gate's checks, each a target, as .ci/run makes them: make -f .ci/gate.mk -s -k -jN gate. What a check needs
+# The gate's checks, each a target, as .ci/run makes them: make -f .ci/gate.mk -s -k -jN all. What a check needs
 # stands behind its name. All others begin at once, and sub-makes share the processors by make's own job server. .ci/check
 # runs one: the first number is the most minutes that it may take.
 #
@@ -8,7 +8,7 @@
 # proofs        | each proof and edit, and what is asked of what was proved; only with PROOFS=yes
 # library       | the library for C, made of the assembly that is kept, which `proofs` compares with what was proved
 # program       | the program, made likewise
-# gate          | all of these
+# all           | all of these
 #
 # environment   | what it says
 # PROOFS        | yes: there is no base whose proofs are those of this tree, so everything is proved (checks/same_proofs)
@@ -27,15 +27,15 @@ made = +@.ci/check $@ $(1)
 # What a check of the sources reads besides what a proof reads.
 asked = $(if $(filter yes,$(PROOFS)),$(1),$(foreach it,$(1),$(if $(filter yes,$(shell checks/same_proofs '$(BASE)' $(READS_$(it)) >/dev/null || echo yes)),$(it))))
 
-QUICK := base budget c_names documents layers limits names packages prototypes unused
+QUICK := budget c_names documents gate layers limits names packages prototypes unused
 SOURCES := format refuse_abuses scene try_cases try_using
 PROVED := prove generated_ww_c generated_ww_run by_rattle growths_of_tests passes
 OF_C := c_tests c_threads c_compilers c_pages c_installed kills simulated kernel instructions rust aarch64 dist make wp
 OF_PROGRAM := soak refuse_growths tools run large parks program_fails
-.PHONY: gate quick sources proofs library program list made_library made_program $(QUICK) $(SOURCES) $(PROVED) $(OF_C) $(OF_PROGRAM)
+.PHONY: all quick sources proofs library program list made_library made_program $(QUICK) $(SOURCES) $(PROVED) $(OF_C) $(OF_PROGRAM)
 
 # The longest come first.
-gate: quick proofs library sources program
+all: quick proofs library sources program
 quick: $(QUICK)
 library: $(OF_C)
 program: $(OF_PROGRAM)
