@@ -2,8 +2,8 @@
 # a C compiler alone (gcc or clang). The program stands at out/ww_run, where ./run finds it, and the library in c/out.
 #
 # make check: what was made gives what is stored for each input of program/, with its exit status, and passes
-# each test and example in C and C++ that needs no sanitizer.  make install: the program, the library, the pages, below
-# PREFIX (and DESTDIR).  make clean: what was made goes.
+# each test and example in C and C++ that needs no sanitizer, or with FEW=--few some of them.  make install: the
+# program, the library, the pages, below PREFIX (and DESTDIR).  make clean: what was made goes.
 #
 # ./build proves these again, and writes the assembly anew; it needs the Rattle toolchain. CC, CXX, CPPFLAGS, CFLAGS, CXXFLAGS and
 # LDFLAGS are those of whoever builds. For another processor than this one: CROSS=aarch64-linux-gnu-, and what runs its
@@ -44,7 +44,7 @@ $(PROGRAM): $(ASSEMBLY) program/program.c c/include/ww_steps.h
 	@tools/is_of_sources $@ || true
 
 check: all
-	+@checks/check_made $(PROGRAM) '$(CROSS)' $(RUN)
+	+@checks/check_made $(FEW) $(PROGRAM) '$(CROSS)' $(RUN)
 
 # As programs of another processor are run.
 check-program: $(PROGRAM)

@@ -2,15 +2,18 @@
 # about, and `one T=loop` runs the test loop, as T=loop_sanitized does under the sanitizers. `soon` is for each change;
 # `check` runs all, under the sanitizers of addresses and undefined behaviour too, `check-thread` under that of threads,
 # and `check-plain` what needs neither them nor Python.
+#
+# Each run of a test is a target, OUT/NAME.ran, which is made anew whenever it is asked for: so `make -j` runs as many at once
+# as it may, and with -k a test that fails hides no other. What a run says is kept in OUT/NAME.ran.log, and printed if it fails.
 
 # A test stands in the folder of the layer that it guards; those of tests/debug are linked with the debug library.
 GUARDS = base admit lock doors whole
 vpath %.c $(GUARDS:%=tests/%)
 vpath %.cpp $(GUARDS:%=tests/%)
 named = $(notdir $(basename $(wildcard $(1))))
-# These have a heap of their own or ask what is resident, or end in a way of their own: no sanitizer.
-ALONE = refuse refuse_class resident exit memory heap blocks
-TESTS = $(filter-out $(ALONE) closed copies race,$(call named,$(GUARDS:%=tests/%/*.c)))
+# These have a heap of their own or ask what is resident, end in a way of their own, or load the library twice: no sanitizer.
+ALONE = refuse refuse_class resident exit memory heap blocks copies
+TESTS = $(filter-out $(ALONE) closed race,$(call named,$(GUARDS:%=tests/%/*.c)))
 DEBUG_TESTS = $(filter-out ignored,$(call named,tests/debug/*.c))
 EXAMPLES = $(basename $(wildcard examples/*.c))
 IN_CXX = $(call named,$(GUARDS:%=tests/%/*.cpp)) $(patsubst %.cpp,%_cpp,$(wildcard examples/*.cpp))
@@ -48,7 +51,27 @@ WORDS_many_shaken = 100 5
 WORDS_torture_shaken = 400
 WORDS_moves_shaken = 100
 WORDS_drawn_calls_debug = 3
-runs = $(foreach it,$(1),echo $(it) && timeout 900 $(RUN) $(OUT)/$(it) $(WORDS_$(it)) &&) true
+WORDS_crowd_threads = 1000
+WORDS_copies = $(abspath $(OUT)/closable.so $(OUT)/libww.so)
+WORDS_closed = $(abspath $(OUT))/closable.so 1500
+
+# What is asked of a run besides that it ends with 0. A program that isn't compiled for the debug library is told so once, and nothing
+# of who acquired a mutex by its calls. Each line that is wrong is told, and no other. The thread sanitizer finds that race.c is wrong.
+ASKS_closed = && $(LIMITED) $(OUT)/closed $(abspath $(OUT))/libww.so 1500
+ASKS_many_unseen = >/dev/null && test "$$(grep -v '\[0x\|\[link' $(LOG) | grep -c .)" = 1 && grep -q 'compiled with -DWW_DEBUG' $(LOG)
+ASKS_line = && sed -n 's/^.*line.cpp:\([0-9]*\): .*/\1/p' $(LOG) | uniq >$@.told && \
+	grep -n 'wrong$$' tests/debug/line.cpp | sed 's/:.*//' | cmp - $@.told
+ASKS_race_threads = ; test $$? -eq 66 && grep -q 'data race .* in work' $(LOG)
+
+# The only limit of time: one that a busy machine doesn't reach, and WW_TEST_PATIENCE times as much. It ends what a test began, too.
+LIMITED = timeout -k 9 $$((1800 * $${WW_TEST_PATIENCE:-1}))
+LOG = $(OUT)/$(@:$(OUT)/%=%).log
+# Runs this; what a search says of programs that are as they should be isn't worth printing.
+NAME = $(@:$(OUT)/%.ran=%)
+told = @mkdir -p $(dir $(LOG)); { $(1); } >$(LOG) 2>&1 || { echo "FAILED ($$?): $(NAME)"; grep -vE ' ok. (bound|whole)' $(LOG) | tail -n 60; exit 1; } >&2; echo $(NAME)
+runs = $(1:%=$(OUT)/%.ran)
+# What this command is needed for is passed over where it isn't here, with a word; but CI passes nothing over.
+without = $(if $(shell command -v $(1)),,@echo "passed over: $(2), since $(1) isn't here"; test "$$CI" != true)
 
 # By these flags, of what is needed but headers.
 NEEDED = $(filter-out %.h %.hpp,$^) $(LDFLAGS) $(WRAPS_$(*F):%=-Wl,--wrap=%) -pthread -o $@
@@ -61,22 +84,17 @@ define compiled_cxx
 	$(CXX) $(AS_CXX) $(1) $(NEEDED)
 endef
 TESTED = $(wildcard tests/*.h) $(WITHIN)
-SANITIZERS = -g -fsanitize=address,undefined -fno-sanitize-recover=all
-THREAD_FLAGS = -g -fsanitize=thread
-SHAKEN_FLAGS = -include tests/shake.h
-SANITIZED_OBJECTS = $(SOURCES:%.c=$(OUT)/%_sanitized.o)
-THREADED_OBJECTS = $(SOURCES:%.c=$(OUT)/%_threads.o)
-SHAKEN_OBJECTS = $(SOURCES:%.c=$(OUT)/%_shaken.o)
-
-$(OUT)/%_sanitized.o: %.c $(WITHIN)
-	@mkdir -p $(@D)
-	$(CC) $(AS_C) $(SANITIZERS) -c $< -o $@
-$(OUT)/%_threads.o: %.c $(WITHIN)
-	@mkdir -p $(@D)
-	$(CC) $(AS_C) $(THREAD_FLAGS) -c $< -o $@
-$(OUT)/%_shaken.o: %.c tests/shake.h $(WITHIN)
-	@mkdir -p $(@D)
-	$(CC) $(AS_C) $(SHAKEN_FLAGS) -c $< -o $@
+FLAGS_sanitized = -g -fsanitize=address,undefined -fno-sanitize-recover=all
+FLAGS_debug_sanitized = $(FLAGS_sanitized) -DWW_DEBUG
+FLAGS_threads = -g -fsanitize=thread
+FLAGS_shaken = -include tests/shake.h
+define objects
+$(OUT)/%_$(1).o: %.c tests/shake.h $(WITHIN)
+	@mkdir -p $$(@D)
+	$$(CC) $$(AS_C) $(FLAGS_$(1)) -c $$< -o $$@
+endef
+$(foreach it,sanitized debug_sanitized threads shaken,$(eval $(call objects,$(it))))
+made_for = $(SOURCES:%.c=$(OUT)/%_$(1).o) $(OUT)/ww_proved.o
 
 $(OUT)/%: tests/debug/%.c $(TESTED) $(OUT)/libww_debug.a
 	$(call compiled,$(DEBUG_FLAGS))
@@ -84,24 +102,24 @@ $(OUT)/%: %.c $(TESTED) $(OUT)/libww.a
 	$(call compiled)
 $(OUT)/%_debug: %.c $(TESTED) $(OUT)/libww_debug.a
 	$(call compiled,$(DEBUG_FLAGS))
-$(OUT)/%_sanitized: tests/debug/%.c $(TESTED) $(DEBUGGED) $(OUT)/ww_proved.o
-	$(call compiled,-DWW_DEBUG $(SANITIZERS))
-$(OUT)/%_sanitized: %.c $(TESTED) $(SANITIZED_OBJECTS) $(OUT)/ww_proved.o
-	$(call compiled,$(SANITIZERS))
-$(OUT)/%_threads: %.c $(TESTED) $(THREADED_OBJECTS) $(OUT)/ww_proved.o
-	$(call compiled,$(THREAD_FLAGS))
-$(OUT)/%_shaken: %.c $(TESTED) tests/shake.c $(SHAKEN_OBJECTS) $(OUT)/ww_proved.o
-	$(call compiled,$(SHAKEN_FLAGS))
+$(OUT)/%_sanitized: tests/debug/%.c $(TESTED) $(DEBUGGED:%.c=$(OUT)/%_debug_sanitized.o) $(OUT)/ww_proved.o
+	$(call compiled,$(FLAGS_debug_sanitized))
+$(OUT)/%_sanitized: %.c $(TESTED) $(call made_for,sanitized)
+	$(call compiled,$(FLAGS_sanitized))
+$(OUT)/%_threads: %.c $(TESTED) $(call made_for,threads)
+	$(call compiled,$(FLAGS_threads))
+$(OUT)/%_shaken: %.c $(TESTED) tests/shake.c $(call made_for,shaken)
+	$(call compiled,$(FLAGS_shaken))
 $(OUT)/%: tests/debug/%.cpp include/ww_mutex.hpp $(TESTED) $(OUT)/libww_debug.a
 	$(call compiled_cxx,-DWW_DEBUG)
 $(OUT)/%: %.cpp include/ww_mutex.hpp $(TESTED) $(OUT)/libww.a
 	$(call compiled_cxx)
 $(OUT)/%_cpp: %.cpp include/ww_mutex.hpp $(TESTED) $(OUT)/libww.a
 	$(call compiled_cxx)
-$(OUT)/%_sanitized: %.cpp include/ww_mutex.hpp $(TESTED) $(SANITIZED_OBJECTS) $(OUT)/ww_proved.o
-	$(call compiled_cxx,$(SANITIZERS))
-$(OUT)/%_threads: %.cpp include/ww_mutex.hpp $(TESTED) $(THREADED_OBJECTS) $(OUT)/ww_proved.o
-	$(call compiled_cxx,$(THREAD_FLAGS))
+$(OUT)/%_sanitized: %.cpp include/ww_mutex.hpp $(TESTED) $(call made_for,sanitized)
+	$(call compiled_cxx,$(FLAGS_sanitized))
+$(OUT)/%_threads: %.cpp include/ww_mutex.hpp $(TESTED) $(call made_for,threads)
+	$(call compiled_cxx,$(FLAGS_threads))
 
 # As code of the kernel.
 $(OUT)/examples/port $(OUT)/examples/port_threads: AS_C += -Iinclude/ww_kernel
@@ -135,155 +153,68 @@ tests:
 		esac; done; \
 	done
 
+# The thread sanitizer doesn't know what orders the accesses of abuse.c and wide.c, which call the proved library by themselves.
+export TSAN_OPTIONS = suppressions=tests/library.supp
 one: $(OUT)/$(T)
-	$(SUPPRESSED) $(RUN) $(OUT)/$(T) $(WORDS_$(T))
+	$(RUN) $(OUT)/$(T) $(WORDS_$(T))
 
-# All that needs no sanitizer and no Python: as programs of another processor too. ../checks/check_made makes and counts
-# them, without those in C++ where its compiler isn't here.
-HERE = $(patsubst %,$(OUT)/%,$(filter-out $(if $(shell command -v $(CXX)),,$(IN_CXX)),$(PLAIN)))
-check check-plain: all check-heap check-ignored run-plain
-check-plain: check-copies check-interleave
-check-plain: BOUND = -b 1
+# All that needs no sanitizer and no Python, as programs of another processor too: without those in C++ where its compiler isn't here.
+HERE = $(filter-out $(if $(shell command -v $(CXX)),,$(IN_CXX)),$(PLAIN))
+SANITIZED = $(patsubst %,%_sanitized,$(TESTS) $(DEBUG_TESTS) examples/paths examples/mesh)
+THREADED = $(patsubst %,%_threads,$(filter-out abuse wide,$(TESTS)) hpp $(filter-out examples/port examples/asleep,$(EXAMPLES)) examples/mesh race)
+# Storms whose atomic accesses come behind drawn pauses (tests/shake.h); and what the debug library tells of each wrong argument, of
+# mutexes by their numbers, of tasks and of readers, and of drawn calls.
+SHAKEN = $(patsubst %,%_shaken,any seats torture pool many moves shared_storm)
+TOLD = $(patsubst %,%_debug,number_calls poll_calls shared_calls wrong_arguments drawn_calls) many_unseen line
+# A model of who waits for a context, which reaches no state in which one is forgotten; and Python's objects and tasks.
+IN_PYTHON = $(patsubst %,%.py,tests/admit/seats_model tests/whole/mutexes tests/whole/tasks examples/objects examples/trips)
 # In half a minute: the tests of calls and of the tables at the heads of sources, and the search without a preemption.
 SOON = limiter permits calls ends ages loop steps number_calls poll_calls shared_calls shared_slots drivers wrong_arguments misuse
+
+RUNS = $(call runs,$(PLAIN) $(SANITIZED) $(THREADED) $(SHAKEN) $(TOLD) closed)
+$(RUNS): $(OUT)/%.ran: $(OUT)/%
+	$(call told,$(LIMITED) $(RUN) $< $(WORDS_$*) $(ASKS_$*))
+$(call runs,$(IN_PYTHON)): $(OUT)/%.ran: % $(OUT)/libww.so $(OUT)/libww_debug.so
+	$(call told,$(LIMITED) python3 $< $(OUT)/libww.so)
+# Over a heap of its own.
+ifeq ($(CROSS),)
+$(OUT)/heap.ran: $(OUT)/heap.so
+$(OUT)/heap.ran: override RUN = env LD_PRELOAD=$(abspath $(OUT))/heap.so
+endif
+
+check: check-interleave check-interleave-debug check-python check-tables check-picture check-objects
+check: $(call runs,$(SANITIZED) $(SHAKEN) $(TOLD) closed)
+check check-plain: all $(call runs,$(HERE))
+	$(call without,$(CXX),the tests in C++)
 soon: BOUND = -b 0
-soon: check-tables check-interleave $(SOON:%=$(OUT)/%)
-	@$(call runs,$(SOON))
-run-plain: $(PLAIN:%=$(OUT)/%)
-	@$(call runs,$(PLAIN))
-plain: $(HERE)
+soon: check-tables check-interleave $(call runs,$(SOON))
+check-thread: $(call runs,$(THREADED))
 list-plain:
 	@printf '%s\n' $(HERE)
-# Over a heap of its own.
-check-heap: $(if $(CROSS),,$(OUT)/heap $(OUT)/heap.so)
-	$(if $(CROSS),,timeout 120 env LD_PRELOAD=$(abspath $(OUT))/heap.so $(OUT)/heap)
-check-copies: $(OUT)/copies
-	timeout 600 $(RUN) $(OUT)/copies $(abspath $(OUT))/closable.so $(abspath $(OUT))/libww.so
-check: check-closed
-check-closed: check-copies $(OUT)/closed
-	for it in closable libww; do timeout 600 $(OUT)/closed $(abspath $(OUT))/$$it.so 1500 || exit 1; done
-
-check: check-sanitized
-SANITIZED = $(patsubst %,%_sanitized,$(TESTS) $(DEBUG_TESTS) examples/paths examples/mesh)
-check-sanitized: $(SANITIZED:%=$(OUT)/%)
-	@$(call runs,$(SANITIZED))
-
-# A model of who waits for a context, which reaches no state in which one is forgotten; and Python's objects and tasks.
-PYTHON = if ! command -v python3 >/dev/null; then echo 'python3 is not here, so it did nothing'; else
-check: check-python
-check-python: $(OUT)/libww.so $(OUT)/libww_debug.so
-	$(PYTHON) for it in tests/admit/seats_model.py tests/whole/mutexes.py tests/whole/tasks.py examples/objects.py examples/trips.py; do \
-		timeout 600 python3 $$it $< || exit 1; done; fi
+check-python: $(if $(shell command -v python3),$(call runs,$(IN_PYTHON)))
+	$(call without,python3,what is written in Python)
 
 # The memory orders of the sources, and what threads share, are those of tables, and enough for what they order; each
 # mutant can still be made; each source needs only what comes before it; and the steps are told as they are proved.
-check: check-tables
 check-tables:
-	$(PYTHON) for it in tests/memory_order.py 'tests/search/kills -a' ../checks/check_layers ../checks/check_prototypes; do \
-		[ ! -e $${it% *} ] || timeout 600 python3 $$it || exit 1; done; fi
-
-# Under the thread sanitizer, which has to find that race.c is wrong. It doesn't know what orders the accesses of abuse.c
-# and wide.c, which call the proved library by themselves.
-SUPPRESSED = TSAN_OPTIONS=suppressions=tests/library.supp
-THREADED = $(patsubst %,%_threads,$(filter-out abuse wide,$(TESTS)) hpp $(filter-out examples/port examples/asleep,$(EXAMPLES)) examples/mesh)
-check-thread: $(THREADED:%=$(OUT)/%) $(OUT)/race_threads
-	@export $(SUPPRESSED); $(call runs,$(THREADED))
-	$(SUPPRESSED) timeout 900 $(OUT)/race_threads >$(OUT)/race.log 2>&1; \
-		test $$? -eq 66 && grep -q 'data race .* in work' $(OUT)/race.log
+	$(or $(call without,python3,the tables),$(call told,for it in tests/memory_order.py 'tests/search/kills -a' \
+		$(wildcard ../checks/check_layers ../checks/check_prototypes); do $(LIMITED) python3 $$it || exit 1; done))
 
 # What the debug library tells of who waits, as a picture.
-check: check-picture
 check-picture: $(OUT)/misuse
-	if ! [ -e ../tools/picture ]; then echo 'tools/picture is not here, so it drew nothing'; \
-	else timeout 900 $(OUT)/misuse waits | ../tools/picture --text | cmp - tests/debug/waits.text && \
-		../tools/picture --text <tests/debug/deadlock.said | cmp - tests/debug/deadlock.text; fi
-
-# What the debug library tells of each wrong argument, of mutexes by their numbers, of tasks and of readers, and of drawn calls.
-check: check-told
-TOLD = number_calls_debug poll_calls_debug shared_calls_debug wrong_arguments_debug drawn_calls_debug
-check-told: $(TOLD:%=$(OUT)/%)
-	@{ $(call runs,$(TOLD)); } 2>$(OUT)/told.log || { tail -n 5 $(OUT)/told.log; false; }
-
-# That says once that the program isn't compiled for it, and of who acquired a mutex by such calls nothing.
-check: check-unseen
-check-unseen: $(OUT)/many_unseen
-	timeout 600 $(OUT)/many_unseen $(WORDS_many_unseen) 2>$(OUT)/many_unseen.log
-	test "$$(grep -v '\[0x\|\[link' $(OUT)/many_unseen.log | grep -c .)" = 1 && grep -q 'compiled with -DWW_DEBUG' $(OUT)/many_unseen.log
-
-# Each line that is wrong is told, and no other.
-check: check-line
-check-line: $(OUT)/line
-	timeout 600 $(OUT)/line 2>$(OUT)/line.log
-	sed -n 's/^.*line.cpp:\([0-9]*\): .*/\1/p' $(OUT)/line.log | uniq >$(OUT)/line.told
-	grep -n 'wrong$$' tests/debug/line.cpp | sed 's/:.*//' | cmp - $(OUT)/line.told
-
-# Where clang is here: it sees that each access has its lock, and that one hasn't.
-ANALYSIS = clang++ $(AS_CXX) -Wthread-safety -Werror -fsyntax-only tests/whole/hpp.cpp examples/objects.cpp examples/limits.cpp
-check: check-analysis
-check-analysis:
-	if ! command -v clang++ >/dev/null; then echo 'clang is not here, so it analysed nothing'; \
-	else $(ANALYSIS) && ! $(ANALYSIS) -DUNGUARDED 2>$(OUT)/analysis.log && \
-		grep -q "writing variable 'sum' requires holding mutex" $(OUT)/analysis.log; fi
+	$(if $(wildcard ../tools/picture),$(call told,$(LIMITED) $(OUT)/misuse waits 2>/dev/null | ../tools/picture --text | cmp - tests/debug/waits.text && \
+		../tools/picture --text <tests/debug/deadlock.said | cmp - tests/debug/deadlock.text))
 
 # The compiler has left in what only fetches ahead. The libraries wait by futexes, and by no call at which a thread ends that
 # pthread_cancel told to. And where SystemTap's header is here, the probes are there.
 ENDS_THREADS = nanosleep|clock_nanosleep|usleep|sleep|pause|poll|ppoll|select|pselect|sem_wait|sem_timedwait|pthread_cond_wait|pthread_cond_timedwait
 PROBES = contention_begin contention_end back_off context_wait permit_wait
-check: check-objects
 check-objects: $(OBJECTS) $(DEBUG_OBJECTS) $(OUT)/libww.so
 	$(OBJCOPY:%objcopy=%objdump) -d $(OUT)/lock/list.o | grep -qE 'prefetch|prfm'
 	! nm -u $(filter %.o,$^) | grep -E '^ *[Uw] ($(ENDS_THREADS))$$'
-	if ! echo '#include <sys/sdt.h>' | $(CC) $(AS_C) -E -x c - >/dev/null 2>&1; then \
-		echo 'sys/sdt.h is not here, so the library has no probe'; \
-	else for it in $(PROBES); do readelf -n $(OUT)/libww.so | grep -q "Name: $$it$$" || { echo "no probe: $$it"; exit 1; }; done; fi
-
-# Both libraries with the debug library's part, by each compiler; and the header in a program of an older C.
-check: check-warnings check-standards check-loops
-check-warnings:
-	for it in $(CC) clang; do \
-		if command -v $$it >/dev/null; then for source in $(DEBUGGED); do \
-			$$it $(AS_C) $(DEBUG_FLAGS) -Wconversion -Werror -c $$source -o $(OUT)/warned.o || exit 1; \
-		done && $$it -std=c99 $(WARNINGS) -Werror -fsyntax-only -x c include/ww_mutex.h || exit 1; fi; \
-	done
-
-# Of a lock whose return value nothing looks at the compiler warns, if it was asked to, except of one without a context.
-check-ignored:
-	for it in $(CC) clang; do \
-		if command -v $$it >/dev/null; then for word in WW_CHECK_LOCKS WW_DEBUG WW_NO_INLINE; do \
-			test $$(LC_ALL=C $$it $(AS_C) -D$$word -c tests/debug/ignored.c -o $(OUT)/ignored.o 2>&1 | grep -c 'ignoring return value') = \
-				$$([ $$word = WW_NO_INLINE ] && echo 0 || echo 1) || exit 1; \
-		done; fi; \
-	done
-
-# Several loops in a function: no compiler warns, however much it optimizes, and in C++ they run as in C.
-LOOPS = tests/lock/loops.c $(OUT)/libww.a -pthread
-check-loops: $(OUT)/libww.a
-	for level in 0 1 2 3; do \
-		for it in $(CC) clang; do \
-			if command -v $$it >/dev/null; then $$it $(AS_C) -O$$level -Werror $(LOOPS) -o $(OUT)/loops_warned && $(OUT)/loops_warned || exit 1; fi; \
-		done; \
-		for it in $(CXX) clang++; do \
-			if command -v $$it >/dev/null; then $$it $(AS_CXX) -O$$level -Werror -x c++ $(LOOPS:%.a=-x none %.a) -o $(OUT)/loops_warned && \
-				$(OUT)/loops_warned || exit 1; fi; \
-		done; \
-	done
-
-# No warning by C++17 and the next one, nor of what programs may ask for besides; and what is older is told at once.
-STRICT = -Wshadow -Wold-style-cast -Wzero-as-null-pointer-constant
-check-standards:
-	for it in $(CXX) clang++; do \
-		if command -v $$it >/dev/null; then \
-			for standard in 17 20; do $$it $(AS_CXX) $(STRICT) -std=c++$$standard -Werror -fsyntax-only tests/whole/hpp.cpp || exit 1; done; \
-			! $$it -std=c++14 -fsyntax-only -x c++ include/ww_mutex.hpp 2>$(OUT)/standard.log && \
-			grep -q "error: .*ww_mutex.hpp needs C++17" $(OUT)/standard.log || exit 1; fi; \
-	done
-
-# ---- storms whose atomic accesses come behind drawn pauses: tests/shake.h ----
-
-SHAKEN = $(patsubst %,%_shaken,any seats torture pool many moves shared_storm)
-check: check-shaken
-check-shaken: $(SHAKEN:%=$(OUT)/%)
-	@$(call runs,$(SHAKEN))
+	@if echo '#include <sys/sdt.h>' | $(CC) $(AS_C) -E -x c - >/dev/null 2>&1; then \
+		for it in $(PROBES); do readelf -n $(OUT)/libww.so | grep -q "Name: $$it$$" || { echo "no probe: $$it"; exit 1; }; done; \
+	else echo "passed over: the library's probes, since sys/sdt.h isn't here"; test "$$CI" != true; fi
 
 # ---- every schedule of small programs: tests/search ----
 
@@ -350,19 +281,22 @@ $(SEARCH)/interleave $(SEARCH)/interleave_shared $(SEARCH)/interleave_debug: $(S
 check-mutants:
 	python3 tests/search/kills
 
-# A busy machine may give it little of its time, so that is counted of the processor.
-check: check-interleave check-interleave-debug
-check-interleave: $(if $(SEARCHES),$(SEARCH)/interleave $(SEARCH)/interleave_shared)
-	$(if $(SEARCHES),ulimit -t 900 && for it in $^; do $$it $(BOUND) >$(OUT)/searched.log && tail -n 1 $(OUT)/searched.log || \
-		{ grep -vE ' ok. (bound|whole)' $(OUT)/searched.log | head -n 40; exit 1; }; done,echo 'the search of schedules takes gcc on x86_64, so nothing was searched')
-# What it tells of right calls is of no interest here.
-check-interleave-debug: $(if $(SEARCHES),$(SEARCH)/interleave_debug)
-	$(if $(SEARCHES),ulimit -t 900 && $< -b 1 2>/dev/null)
+# Each search goes in four parts, which make may run side by side. Of its time that of the processor is counted. What the debug library
+# tells of right calls is of no interest here.
+searches = $(foreach it,$(1),$(patsubst %,$(SEARCH)/$(it).%.ran,1 2 3 4))
+ALL_SEARCHES = $(call searches,interleave interleave_shared interleave_debug)
+.SECONDEXPANSION:
+$(ALL_SEARCHES): $$(basename $$(basename $$@))
+	$(call told,ulimit -t 900 && $< $(BOUND) -p $(patsubst .%,%,$(suffix $(basename $@)))/4 $(STRAY))
+	@tail -n 1 $(LOG)
+check-interleave: $(if $(SEARCHES),$(call searches,interleave interleave_shared))
+	@$(if $(SEARCHES)$(CROSS),true,echo 'passed over: the search of schedules, since gcc on x86_64 is not here'; test "$$CI" != true)
+check-interleave-debug: BOUND = -b 1
+check-interleave-debug: STRAY = 2>/dev/null
+check-interleave-debug: $(if $(SEARCHES),$(call searches,interleave_debug))
 # As a failure says: make -C c replay-interleave_shared IT='-f FLAGS -s SCHEDULE PROGRAM'
 replay-%: $(SEARCH)/%
 	$< $(IT)
 
-.PHONY: check check-analysis check-closed check-copies check-heap check-ignored check-interleave \
-	check-interleave-debug check-line check-loops check-mutants check-objects check-picture check-plain \
-	check-python check-sanitized check-shaken check-standards check-tables check-thread check-told check-unseen \
-	check-warnings list-plain one plain run-plain soon tests
+.PHONY: check check-interleave check-interleave-debug check-mutants check-objects check-picture check-plain check-python \
+	check-tables check-thread list-plain one soon tests $(RUNS) $(call runs,$(IN_PYTHON)) $(ALL_SEARCHES)

@@ -141,7 +141,6 @@ static void is_refused(void (*by)(unsigned what), unsigned what)
 	MUST(!pipe(ends));
 	child = fork();
 	if (!child) {
-		alarm(20);
 		dup2(ends[1], 2);
 		by(what);
 		_exit(0);

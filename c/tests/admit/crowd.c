@@ -3,7 +3,7 @@
  *
  * Contexts that need one another to begin all begin, though there are fewer permits; sums over hot mutexes are exact
  * while a crowd's limiter tries one width after the other, and each thread gets about as far as the others; as they are
- * where threads sleep under their mutexes.  A cancel of the class ends them all.
+ * where threads sleep under their mutexes.  A cancel of the class ends them all.  crowd [TRANSACTIONS of each thread, at least]
  */
 #include "../crowd.h"
 
@@ -50,7 +50,7 @@ static void *begins_together(void *arg)
 
 static unsigned long made[THREADS];
 static bool stops;
-static unsigned hold_for, least, mutexes, to_do;
+static unsigned hold_for, least, mutexes, quick = QUICK, to_do;
 
 /* Once in a while a context that waits for no permit, or not for long. */
 static void begin(struct ww_acquire_ctx *x, unsigned drawn)
@@ -115,7 +115,8 @@ static void begins_crowd(void)
 	MUST(is_crowded(c->pool));
 }
 
-static void storms(unsigned count, unsigned times, unsigned sleeps)
+/* No thread makes more than `most`, while each makes so many. */
+static void storms(unsigned count, unsigned times, unsigned most, unsigned sleeps)
 {
 	unsigned long done = 0, counted = 0;
 
@@ -129,7 +130,7 @@ static void storms(unsigned count, unsigned times, unsigned sleeps)
 	in_many(works);
 	for (unsigned k = 0; k < THREADS; k++) {
 		done += made[k];
-		MUST(made[k] < (unsigned long)FAIR * times);
+		MUST(made[k] < most);
 	}
 	for (unsigned k = 0; k < WARM; k++)
 		counted += sum[k];
@@ -194,17 +195,18 @@ static void all(struct ww_class *of)
 	in_many(begins_together);
 	MUST(permit_waits(c));
 	set_crowded(c->pool, false);
-	storms(HOT, QUICK, 0);
-	storms(WARM, SLOW, 1000);
+	storms(HOT, quick, FAIR * QUICK, 0);
+	storms(WARM, SLOW, FAIR * SLOW, 1000);
 	a_cancel_ends_all();
 	for (unsigned k = 0; k < WARM; k++)
 		MUST(!ww_mutex_destroy(&hot[k]));
 	MUST(!ww_class_free(c));
 }
 
-int main(void)
+int main(int count, char **words)
 {
-	alarm(500);
+	if (count > 1)
+		quick = (unsigned)atoi(words[1]);
 	all(&wound_wait);
 	all(&wait_die);
 	puts("crowd: all get on");

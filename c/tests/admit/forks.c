@@ -32,7 +32,6 @@ static void in_parent(void)
 }
 static void in_child(void)
 {
-	alarm(200);
 	if (locks)
 		ww_mutex_unlock(&m);
 	if (frees)
@@ -198,7 +197,6 @@ static void queue_is_locked(void)
 	child = fork();
 	MUST(child >= 0);
 	if (!child) {
-		alarm(20);
 		MUST(ww_class_cancel(&c) == -EINVAL && ww_mutex_lock_poll(&m, &tasks[0], &waker) == -EINVAL);
 		ww_acquire_fini(&tasks[1]);
 		MUST(ww_acquire_init_poll(&z, &c, NULL, NULL) == -EINVAL);
@@ -223,7 +221,6 @@ static void in_program(void (*what)(void))
 
 	MUST(child >= 0);
 	if (!child) {
-		alarm(200);
 		MUST(!ww_mutex_lock(&m, NULL));
 		ww_mutex_unlock(&m);
 		what();
@@ -281,7 +278,6 @@ static void uses_all(void)
 /* In the background: its parent has ended. */
 static void is_daemon(int says)
 {
-	alarm(200);
 	MUST(!pthread_barrier_init(&there, NULL, 1));
 	for (unsigned k = 0; k < seats_of(c.pool); k++)
 		MUST(!(c.pool->seats[k].busy & BUSY) && !c.pool->seats[k].ages);
@@ -329,7 +325,6 @@ static void is_refused(struct ww_acquire_ctx *ends)
 	int status;
 	pid_t child;
 
-	alarm(200);
 	MUST(ww_acquire_init_checked(&x, &c) == -EINVAL);
 	if (ends)
 		ww_acquire_fini(ends);
@@ -395,7 +390,6 @@ static void *reads_and_writes(void *arg)
 
 static void child_of_readers(struct ww_acquire_ctx *x, unsigned way)
 {
-	alarm(200);
 	for (unsigned k = 0; k < AMONG_THREADS; k++) {
 		int r = way % 2 ? ww_shared_mutex_lock(&shared[k], x) : ww_shared_mutex_lock_shared(&shared[k], x);
 
@@ -449,7 +443,7 @@ static void among_readers(void)
 int main(void)
 {
 	MUST(!pthread_atfork(before, in_parent, in_child));
-	signal(SIGALRM, hangs);
+	signal(SIGTERM, hangs); /* by which the limit of time ends it */
 	in_program(handlers_lock);
 	in_program(handlers_free);
 	in_program(handlers_do_both);

@@ -855,7 +855,6 @@ static void none_in_a_child(void)
 		usleep(100);
 	child = fork();
 	if (!child) {
-		alarm(200);
 		at = ww_now();
 		for (unsigned k = 0; k < 200; k++) {
 			ww_mine.counted = at;
@@ -878,7 +877,6 @@ static void none_in_a_child(void)
 
 int main(void)
 {
-	alarm(300);
 	each_is_taken();
 	none_is_passed();
 	looks_in_turn();

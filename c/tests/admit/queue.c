@@ -275,7 +275,6 @@ static void ten_are_own(void)
 
 int main(void)
 {
-	alarm(300);
 	MUST(!sem_init(&stopped, 0, 0) && !sem_init(&goes_on, 0, 0) && !sem_init(&may_end, 0, 0));
 	nobody_is_passed();
 	no_task_passes(false);

@@ -205,7 +205,6 @@ static void fork_amid(pthread_mutex_t *m)
 		return;
 	ends_in_child = NULL;
 	if (!fork()) {
-		alarm(200);
 		MUST(!polled.of_ || ww_poll_take_back(x, &polled));
 		ww_acquire_fini(x);
 		_exit(0);
@@ -350,7 +349,6 @@ static void freed_and_forked(void)
 	sem_post(&goes_on);
 	sem_wait(&stopped);
 	if (!fork()) {
-		alarm(200);
 		_exit(!goes_well_in_child());
 	}
 	sem_post(&goes_on);

@@ -326,7 +326,6 @@ static void in_a_child(void (*what)(void))
 
 	MUST(child >= 0);
 	if (!child) {
-		alarm(200);
 		what();
 		_exit(0);
 	}

@@ -322,7 +322,6 @@ static void in_a_child(void (*what)(void))
 	pid_t child = fork();
 
 	if (!child) {
-		alarm(200);
 		what();
 		exit(0);
 	}

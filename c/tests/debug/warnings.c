@@ -516,7 +516,6 @@ static void no_deadlock(void)
 /* The limits of c and d, and what runs. */
 static void in_child(uint32_t contexts, uint32_t others, void (*what)(void))
 {
-	alarm(300);
 	MUST(!ww_class_limit(&c, 8, contexts) && !ww_class_limit(&d, 8, others));
 	MUST(!ww_class_crowd(&c, WW_NO_CROWD) && !ww_class_crowd(&d, WW_NO_CROWD)); /* which would come by how long waits take */
 	ww_mutex_init(&a, &c);

@@ -601,7 +601,6 @@ static void in_a_child(void)
 	if (!child) {
 		struct ww_seek its = { 0 };
 
-		alarm(200);
 		MUST(ww_mutex_lock_poll(&m[0], &y, &w) == -EINVAL && ww_mutex_lock_poll(&m[1], &y, &w) == -EINVAL);
 		MUST(ww_mutex_lock_poll(mutex_at(number), &y, &w) == -EINVAL && ww_mutex_lock_poll(&m[0], &z, &w) == -EINVAL);
 		MUST(ww_poll_take_back(&none, &seek) && ww_acquire_init_poll(&none, c, &seek, &w) == -EINVAL);

@@ -354,7 +354,6 @@ int main(int count, char **words)
 
 	if (count > 1)
 		rounds = (unsigned)atoi(words[1]);
-	alarm(500);
 	CPU_ZERO(&one); /* so tasks have two contexts */
 	CPU_SET((size_t)sched_getcpu(), &one);
 	MUST(!sched_getaffinity(0, sizeof usable, &usable) && !sched_setaffinity(0, sizeof one, &one) && !ww_class_open(&wound_wait));

@@ -1143,7 +1143,6 @@ static int ends_in_a_child(void (*does)(void))
 	MUST(child >= 0);
 	if (!child) {
 		close(2); /* a message may be due */
-		alarm(30);
 		does();
 		_exit(0);
 	}

@@ -424,7 +424,6 @@ static void in_child(void)
 {
 	struct ww_mutex *list[] = { &a };
 
-	alarm(200);
 	MUST(ww_mutex_lock(&a, &x) == -EINVAL && ww_mutex_lock(&a, &x) == -EINVAL && !ww_mutex_trylock(&d, &x));
 	MUST(ww_mutex_lock_all(&x, list, 1) == -EINVAL && ww_mutex_lock_slow_checked(&a, &x) == -EINVAL);
 	MUST(x.own->handle.at && ww_held_(&x.own->handle) == 1);

@@ -694,23 +694,27 @@ static void find_own(void)
 
 enum { UNASKED = -3 };
 static const char usage[] = "usage: interleave [-b BOUND | -w: whole] [-l SECONDS: at most, each that is to be whole]\n"
-			    "\t[-f FLAGS] [-s SCHEDULE] [-1: until one fails] [PROGRAM]\n";
+			    "\t[-f FLAGS] [-s SCHEDULE] [-1: until one fails] [-p PART/PARTS: each PARTSth program] [PROGRAM]\n";
 
 int main(int argc, char **argv)
 {
 	const int signals[] = { SIGSEGV, SIGBUS, SIGILL, SIGFPE, SIGVTALRM };
-	unsigned count = 0, whole = 0, failed = 0, flags = 0;
+	unsigned count = 0, whole = 0, failed = 0, flags = 0, part = 1, parts = 1, at = 0;
 	const char *schedule = NULL;
 	unsigned long runs = 0;
 	double seconds = 120;
 	int asked = UNASKED, is;
 	bool stops = false;
 
-	while ((is = getopt(argc, argv, "b:f:l:s:1w")) != -1) {
+	while ((is = getopt(argc, argv, "b:f:l:p:s:1w")) != -1) {
 		switch (is) {
 		case 'b': asked = atoi(optarg); break;
 		case 'f': flags = (unsigned)atoi(optarg); break;
 		case 'l': seconds = atof(optarg); break;
+		case 'p':
+			if (sscanf(optarg, "%u/%u", &part, &parts) != 2 || part < 1 || part > parts)
+				return fputs(usage, stderr), 2;
+			break;
 		case 's': schedule = optarg; break;
 		case '1': stops = true; break;
 		case 'w': asked = WHOLE; break;
@@ -723,7 +727,7 @@ int main(int argc, char **argv)
 	for (const struct il_program *p = il_programs; p->name && !(stops && failed); p++) {
 		int most = asked == UNASKED ? p->most : asked;
 
-		if (optind < argc && strcmp(argv[optind], p->name))
+		if (at++ % parts != part - 1 || (optind < argc && strcmp(argv[optind], p->name)))
 			continue;
 		begin(p, flags);
 		if (schedule)

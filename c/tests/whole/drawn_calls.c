@@ -112,7 +112,7 @@ static void tells(const char *file, int line, const char *what)
 
 static void on_signal(int which)
 {
-	tells(__FILE__, which, which == SIGALRM ? "a call returns" : "the program goes on");
+	tells(__FILE__, which, which == SIGTERM ? "a call returns" : "the program goes on");
 }
 
 static unsigned draw(unsigned count) { return next(&state) % count; }
@@ -1597,8 +1597,7 @@ int main(int count, char **words)
 	state = seed;
 	signal(SIGSEGV, on_signal);
 	signal(SIGABRT, on_signal);
-	signal(SIGALRM, on_signal);
-	alarm((unsigned)last + 300);
+	signal(SIGTERM, on_signal); /* by which the limit of time ends it */
 	CPU_ZERO(&one); /* so tasks have few contexts */
 	CPU_SET((size_t)sched_getcpu(), &one);
 	MUST(!sched_setaffinity(0, sizeof one, &one));
