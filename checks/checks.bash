@@ -12,12 +12,29 @@ fail() {
     exit 1
 }
 
-# pass_over WHAT WHY: ends a check that can't look at something, since a program that it needs isn't here. The gate counts
-# such a check as incomplete, and with CI=true as failed.
-pass_over() {
-    say "passed over $1, since $2"
+# A check's folder `work` goes when it ends. One that passed something over ends with 77; or with 1 for CI, where nothing may be.
+passed_over=
+end_check() {
+    [ -z "${work-}" ] || rm -rf "$work"
+    { [ "$1" = 0 ] && [ -n "$passed_over" ]; } || exit "$1"
     [ "${CI-}" != true ] || exit 1
     exit 77
+}
+trap 'end_check $?' EXIT
+
+# pass_over WHAT WHY: what a check can't do here, and why, in a line; the rest it does. (Not for a subshell, which forgets it.)
+pass_over() {
+    say "passed over: $1, since $2"
+    passed_over=yes
+}
+
+# has COMMAND WHAT: whether this command is here; without it this is passed over.
+has() { command -v "$1" >/dev/null || { pass_over "$2" "$1 isn't here" && return 1; }; }
+
+# The compilers of C and of C++ that are here, into the arrays `in_c` and `in_cxx`.
+find_compilers() {
+    in_c=(cc) in_cxx=(c++)
+    if has clang "what clang says" && has clang++ "what clang says"; then in_c+=(clang) in_cxx+=(clang++); fi
 }
 
 # The program that a check is given, as its only word, into `program`. The check was called in the folder before this.
