@@ -24,9 +24,13 @@ trap 'end_check $?' EXIT
 
 # pass_over WHAT WHY: what a check can't do here, and why, in a line; the rest it does. (Not for a subshell, which forgets it.)
 pass_over() {
-    say "passed over: $1, since $2"
-    passed_over=yes
+    local line="passed over: $1, since $2"
+    [[ $passed_over == *"$line"* ]] || say "$line"
+    passed_over+=$line
 }
+
+# Runs a command that says much, which is printed only where it fails.
+quietly() { "$@" >"$work/log" 2>&1 || fail "$* failed: $(tail -n 40 "$work/log")"; }
 
 # has COMMAND WHAT: whether this command is here; without it this is passed over.
 has() { command -v "$1" >/dev/null || { pass_over "$2" "$1 isn't here" && return 1; }; }
@@ -137,10 +141,12 @@ status_for() {
     fi
 }
 
-# Runs a command under a time limit, and leaves its exit status in `status`: 124 if it took too long.
+# Runs a command under a time limit, which a busy machine doesn't reach, and leaves its exit status in `status`: 124 if it took
+# too long.
+limit=$((300 * ${WW_TEST_PATIENCE:-1}))
 observe() {
     status=0
-    timeout 300 "$@" || status=$?
+    timeout "$limit" "$@" || status=$?
 }
 
 # The same, with its output into the file `output` of the folder `work`, and its errors into `errors`.

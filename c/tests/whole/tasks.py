@@ -774,7 +774,6 @@ async def one_is_dropped():
 
 
 def main():
-    begun = time.monotonic()
     for kind in KINDS:
         asyncio.run(refuses(kind))
         asyncio.run(has_a_time(kind))
@@ -803,7 +802,6 @@ def main():
     assert not ww.tasks._events
     ww.tasks._PATIENCE = 0.02  # Where what wakes the tasks is interrupted, no loop takes what was woken.
     loses_nothing()
-    assert time.monotonic() - begun < 300
     print("tasks: each wait ended as it should")
 
 
@@ -811,4 +809,5 @@ if __name__ == "__main__":
     if hasattr(os, "eventfd"):
         main()
     else:
-        print("tasks: os.eventfd, of Python 3.10, is not here, so nothing was tried")
+        print("passed over: tasks, since os.eventfd of Python 3.10 isn't here")
+        sys.exit(os.environ.get("CI") == "true")
