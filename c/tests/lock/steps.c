@@ -229,6 +229,38 @@ static void by_processors(void)
 	ww_threads = threads;
 }
 
+/*
+ * Each of three contexts waits for a mutex of the next one.  The call that ends such a cycle sees that at its first look: it stays awake
+ * for no more of them.
+ */
+static void is_in_a_cycle(void)
+{
+	enum { ALL = 3 };
+	const unsigned who = c == &wait_die ? ALL - 1 : 0, next = (who + 1) % ALL;
+	struct ww_mutex of[ALL];
+	struct ww_acquire_ctx x[ALL];
+	struct timespec soon;
+
+	for (unsigned k = 0; k < ALL; k++) {
+		ww_mutex_init(&of[k], c);
+		ww_acquire_init(&x[k], c);
+		MUST(!ww_mutex_lock(&of[k], &x[k]));
+	}
+	for (unsigned k = 0; k < ALL; k++)
+		x[k].own->awaits = k == who ? 0 : of[(k + 1) % ALL].number + 1;
+	soon = in_ms(1);
+	looks = 0;
+	MUST(ww_mutex_lock_until(&of[next], &x[who], &soon) == (c == &wait_die ? -EDEADLK : -ETIMEDOUT) && looks == ALL);
+	for (unsigned k = 0; k < ALL; k++) {
+		x[k].own->awaits = 0;
+		ww_mutex_unlock(&of[k]);
+	}
+	for (unsigned k = 0; k < ALL; k++) {
+		ww_acquire_fini(&x[k]);
+		MUST(!ww_mutex_destroy(&of[k]));
+	}
+}
+
 /* ---- by several threads, where a step is made in vain inside a guard ---- */
 
 enum { WAITERS = 2, ROUNDS = 1000, LOCKS = 50 };
@@ -301,6 +333,7 @@ int main(void)
 		is_shut_out();
 		is_awaited();
 		by_processors();
+		is_in_a_cycle();
 		in_a_storm();
 		MUST(!ww_mutex_destroy(&m) && !ww_class_free(c));
 	}
