@@ -16,6 +16,7 @@
 /*@ ghost
   struct ww_mutex *the_mutex; // that which the call is of
   int seat_taken;             // whether a caller without a context has the_seat to use
+  struct ww_how *the_how;     // how a call without a context locks
 */
 /*@ // the_lock is a mutex's; or one that the seat hasn't, until the mutex has its number
     predicate is_called(struct ww_mutex *m) = m == the_mutex && (m != \null ==> \valid(m) && (m->pool != \null ? m->number == the_lock : core_has == 0));
@@ -23,7 +24,7 @@
 	(x->own != \null ==> is_seat(x->own) && \separated(x, x->own, x->own->pool) && (m != \null ==> apart(m, x, x->own)));
     predicate is_free_seat(ww_seat *s) = is_seat(s) && rests && core_has == 0 && core_holds == 0 && (s->ages == 0 ==> core_context == 0) &&
 	(the_mutex != \null ==> \separated(the_mutex, s, s->pool)) && seat_taken == 1 &&
-	\forall struct ww_how *how; \valid_read(how) ==> \separated(how, s, s->pool);
+	(the_how != \null ==> \separated(the_how, s, s->pool));
     predicate no_seat = seat_taken == 0 && core_has == 0 && rests;
     predicate is_when(struct timespec *until) = until != \null ==> \valid_read(until);
 */
@@ -188,8 +189,8 @@ int ww_try_by(struct ww_mutex *m, struct ww_acquire_ctx *x);
 
 /* ---- locks without a context: one that fails has given its seat back, and one that succeeds keeps it ---- */
 
-/*@ predicate is_how_alone(struct ww_how *how, struct ww_mutex *m) = \valid_read(how) && is_when(how->until) && how->visits == 0 &&
-	how->asks == \null && (m != \null ==> \separated(how, m)); */
+/*@ predicate is_how_alone(struct ww_how *how, struct ww_mutex *m) = how == the_how && \valid_read(how) && is_when(how->until) &&
+	how->visits == 0 && how->asks == \null && (m != \null ==> \separated(how, m)); */
 /*@ requires is_mutex(m) && m == the_mutex && is_free_seat(s) && is_how_alone(how, m) && \separated(how, s, s->pool);
     ensures took: took(\result);
     ensures says: \result == 0 ==> says_seat(m, s);

@@ -1,0 +1,54 @@
+/* What the contracts of loop.h ask for can be so, of a list with one mutex: see mutex.c.  What node and is_member mean is given here. */
+#include "objects.h"
+
+static void w_loops(int state)
+{
+	w_seat_is(1);
+	w_mutex_is();
+	w_context_is();
+	w_context.gives = w_context.empty_;
+	w_context.state = state;
+	w_context.newest = &w_mutex;
+	w_mutex.older = NULL;
+	w_core(NO_CALL, 1, 1, 0);
+	/*@ ghost the_mutex = &w_mutex; */
+}
+
+#define ONE_NODE nodes == 1 && node(0) == &w_mutex && node(1) == \null && place(\null) == 1 && place(&w_mutex) == 0
+#define ONE_MEMBER (\forall struct ww_mutex *m; is_member(m) <==> m == &w_mutex) && (\forall struct ww_mutex *m; is_ahead(m) <==> m == &w_mutex) && \
+	word(&w_mutex.ctx) == 1 && word(&w_mutex.older) == 2
+
+/*@ requires ONE_NODE; */
+void witness_list(void)
+{
+	w_loops(0);
+	/*@ assert has_is_node: is_node(0); */
+	/*@ assert here: \valid(node(0)) && \separated(node(0), &w_context) && node(0)->older == node(1); */
+	/*@ assert has_is_list: is_list(&w_context); */
+	/*@ assert has_is_user_of: is_user_of(&w_context); */
+	/*@ check never: \false; */
+}
+/*@ requires ONE_MEMBER; */
+void witness_members(void)
+{
+	w_loops(0);
+	/*@ assert has_are_apart: are_apart(&w_context, &w_seat, &w_pool); */
+	/*@ assert has_goes_on: goes_on; */
+	/*@ assert has_has_ahead: has_ahead(&w_context); */
+	/*@ assert has_has_members: has_members(&w_context); */
+	/*@ assert has_older_stays: older_stays{Here, Here}; */
+	/*@ check never: \false; */
+}
+void witness_become(void) { w_loops(0); /*@ check never: \false; */ ww_become(&w_context, 0, HAS_TO_BACK_OFF); }
+/*@ requires ONE_NODE; */
+void witness_unlist(void) { w_loops(0); /*@ assert here: node(0)->older == node(1); */ /*@ check never: \false; */ unlist(&w_context, &w_mutex); }
+/*@ requires ONE_NODE; */
+void witness_accept_held(void) { w_loops(0); /*@ assert here: node(0)->older == node(1); */ /*@ check never: \false; */ ww_accept_held(&w_context, &w_mutex, true); }
+/*@ requires ONE_NODE; */
+void witness_result(void) { w_loops(0); /*@ assert here: node(0)->older == node(1); */ /*@ check never: \false; */ ww_result_in_loop(&w_mutex, &w_context, 0); }
+/*@ requires ONE_MEMBER; */
+void witness_release(void) { w_loops(0); /*@ check never: \false; */ release_newest_first(&w_context); }
+/*@ requires ONE_MEMBER; */
+void witness_unlock_all(void) { w_loops(0); /*@ check never: \false; */ ww_acquire_unlock_all(&w_context); }
+/*@ requires ONE_MEMBER; */
+void witness_back_off(void) { w_loops(HAS_TO_BACK_OFF); /*@ assert bit: (w_context.state & HAS_TO_BACK_OFF) != 0; */ /*@ check never: \false; */ ww_back_off_(&w_context); }
