@@ -15,14 +15,6 @@ int32_t ww_first_of_unlock_(void *seat, uint32_t lock) { return ww_unlock_(seat,
 /*@ assigns \nothing; */
 uint64_t ww_likely_(const void *lock, uint64_t span);
 
-/*@ assigns *m, ww_mine, the_lock, COMES; */
-int ww_mutex_lock_alone_(struct ww_mutex *m);
-/*@ assigns CHANGES(m, x); */
-int ww_mutex_lock_further_(struct ww_mutex *m, struct ww_acquire_ctx *x, int r);
-/*@ assigns *m, COMES; */
-void ww_mutex_unlock_else_(struct ww_mutex *m);
-/*@ assigns CHANGES(m, x); */
-void ww_mutex_unlock_further_(struct ww_mutex *m, struct ww_acquire_ctx *x, int r);
 /* The quick ways by number read a context that there is.  Below, the library's own, by their other names. */
 /*@ requires x != \null; */
 int ww_number_lock(uint32_t number, struct ww_acquire_ctx *x);
@@ -38,5 +30,3 @@ int ww_number_lock_else_(uint32_t number, struct ww_acquire_ctx *x);
     assigns CHANGES(the_mutex, x);
     NUMBER_TRYLOCK(number, x); */
 int ww_number_trylock_else_(uint32_t number, struct ww_acquire_ctx *x);
-/*@ assigns CHANGES(the_mutex, x); */
-int ww_number_unlock_further_(uint32_t number, struct ww_acquire_ctx *x, int r);

@@ -174,6 +174,25 @@ int ww_lock_on(struct ww_mutex *m, struct ww_acquire_ctx *x, ww_seat *s, int r, 
     ensures result: lock_result{Old, Here}(m, x, x->own, \result, how->visits); */
 int ww_lock_by(struct ww_mutex *m, struct ww_acquire_ctx *x, const struct ww_how *how);
 
+/* ---- the list of what a context acquired ---- */
+
+/*@ predicate is_node(integer k) = 0 <= k < nodes;
+    predicate is_list(struct ww_acquire_ctx *x) = nodes >= 0 && node(nodes) == \null && place(\null) == nodes && x->newest == node(0) &&
+	(\forall integer k; is_node(k) ==> place(node(k)) == k && \valid(node(k)) && node(k) != \null && \separated(node(k), x) &&
+		node(k)->older == node(k + 1)); */
+#define NODES(field) { node(k)->field | integer k; 0 <= k < nodes }
+
+/*@ requires \valid(x) && is_list(x) && m != \null;
+    assigns x->newest, NODES(older);
+    ensures found: \result <==> (\exists integer k; is_node(k) && node(k) == m);
+    ensures place: \result ==> is_node(place(m)) && node(place(m)) == m;
+    ensures first: \result && place(m) == 0 ==> x->newest == node(1);
+    ensures later: \result && place(m) > 0 ==> x->newest == node(0) && node(place(m) - 1)->older == node(place(m) + 1);
+    ensures others: \result ==> \forall integer k; is_node(k) && k != place(m) - 1 ==> node(k)->older == node(k + 1);
+    ensures stays: !\result ==> is_list(x);
+    ensures user: x->own == \old(x->own) && x->gives == \old(x->gives); */
+static inline bool unlist(struct ww_acquire_ctx *x, const struct ww_mutex *m);
+
 /* ---- unlocks: each returns 0 only if the core said that the seat has the lock no more, or in a forked child ---- */
 
 /*@ requires is_seat(s);

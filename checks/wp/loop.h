@@ -5,14 +5,9 @@
  * proves: ww_become unlist release_newest_first ww_acquire_unlock_all ww_back_off_ ww_accept_held ww_result_in_loop
  * inlines: is_orphaned_by_fork is_loop owes_it enlist unlock_unlisted ww_is_contended
  */
-#define WP_LOOPS
 #include "mutex.h"
 
-/*@ predicate is_node(integer k) = 0 <= k < nodes;
-    predicate is_list(struct ww_acquire_ctx *x) = nodes >= 0 && node(nodes) == \null && place(\null) == nodes && x->newest == node(0) &&
-	(\forall integer k; is_node(k) ==> place(node(k)) == k && \valid(node(k)) && node(k) != \null && \separated(node(k), x) &&
-		node(k)->older == node(k + 1));
-
+/*@
     // The same list by its members, of which the_mutex may be one: is_ahead tells whether that lies there, or behind it.
     axiomatic Members {
 	predicate is_member(struct ww_mutex *m) reads \nothing;
@@ -31,22 +26,9 @@
     predicate has_members(struct ww_acquire_ctx *x) = (x->newest == \null || is_member(x->newest)) && goes_on &&
 	are_apart(x, x->own, x->own->pool) && is_member(the_mutex) && the_mutex->number == the_lock &&
 	\separated(the_mutex, x, x->own, x->own->pool);
-    predicate is_user_of(struct ww_acquire_ctx *x) = \valid(x) && x->own != \null && is_seat(x->own) && \separated(x, x->own, x->own->pool);
     predicate older_stays{A, B} = \forall struct ww_mutex *m; is_member(m) ==> \at(m->older, A) == \at(m->older, B);
 */
 #define GONE(x) x->own->pool->gone
-#define NODES(field) { node(k)->field | integer k; 0 <= k < nodes }
-
-/*@ requires \valid(x) && is_list(x) && m != \null;
-    assigns x->newest, NODES(older);
-    ensures found: \result <==> (\exists integer k; is_node(k) && node(k) == m);
-    ensures place: \result ==> is_node(place(m)) && node(place(m)) == m;
-    ensures first: \result && place(m) == 0 ==> x->newest == node(1);
-    ensures later: \result && place(m) > 0 ==> x->newest == node(0) && node(place(m) - 1)->older == node(place(m) + 1);
-    ensures others: \result ==> \forall integer k; is_node(k) && k != place(m) - 1 ==> node(k)->older == node(k + 1);
-    ensures stays: !\result ==> is_list(x);
-    ensures user: x->own == \old(x->own) && x->gives == \old(x->gives); */
-static inline bool unlist(struct ww_acquire_ctx *x, const struct ww_mutex *m);
 
 #define RELEASES(x) \
 	requires is_user_of(x) && has_members(x) && (rests || GONE(x)); \
@@ -73,25 +55,3 @@ void ww_acquire_unlock_all(struct ww_acquire_ctx *x);
     ensures state: becomes{Old, Here}(x, (unsigned)~(HAS_TO_BACK_OFF | IS_PRELOCKED), WAITS_FIRST);
     ensures owes: (x->state & IS_PRELOCKED) == 0; */
 void ww_back_off_(struct ww_acquire_ctx *x);
-
-/* ---- lock calls that succeed without a step, and what a loop has to do then ---- */
-
-#define OWED(x, m) \old((x->state & IS_PRELOCKED) != 0 && x->prelocked == m)
-#define IN_LOOP(x, m) is_user_of(x) && is_mutex(m) && m != \null && \separated(m, x, x->own, x->own->pool) && rests && (loops(x) ==> is_list(x))
-/*@ requires IN_LOOP(x, m);
-    ensures has: \result ==> core_has == 1 && loops{Old}(x);
-    ensures asked: \result ==> may_repeat || OWED(x, m);
-    ensures state: \result && OWED(x, m) ==> x->state == (\old(x->state) & ~IS_PRELOCKED);
-    ensures fails: !\result || !OWED(x, m) ==> x->state == \old(x->state) && x->newest == \old(x->newest);
-    ensures newest: \result && OWED(x, m) ==> x->newest == m;
-    ensures stays: same{Old, Here} && x->acquired == \old(x->acquired) && x->own == \old(x->own); */
-bool ww_accept_held(struct ww_acquire_ctx *x, struct ww_mutex *m, bool may_repeat);
-
-/*@ requires IN_LOOP(x, m) && (r == 0 ==> core_has == 1);
-    ensures took: \result == 0 ==> core_has == 1;
-    ensures exact: \result == r || (r == -EALREADY && \result == 0);
-    ensures told: r == -EDEADLK ==> (x->state & HAS_TO_BACK_OFF) != 0;
-    ensures asked: r == 0 && OWED(x, m) ==> x->state == (\old(x->state) & ~(TRIES | IS_PRELOCKED));
-    ensures fails: \result != 0 && r != -EDEADLK ==> x->state == \old(x->state) && x->newest == \old(x->newest);
-    ensures stays: same{Old, Here} && x->acquired == \old(x->acquired); */
-int ww_result_in_loop(struct ww_mutex *m, struct ww_acquire_ctx *x, int r);

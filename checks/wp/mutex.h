@@ -17,12 +17,14 @@
   struct ww_mutex *the_mutex; // that which the call is of
   int seat_taken;             // whether a caller without a context has the_seat to use
   struct ww_how *the_how;     // how a call without a context locks
+  ww_seat *comer;	      // the seat that comes to the call, if one does
 */
 /*@ // the_lock is a mutex's; or one that the seat hasn't, until the mutex has its number
     predicate is_called(struct ww_mutex *m) = m == the_mutex && (m != \null ==> \valid(m) && (m->pool != \null ? m->number == the_lock : core_has == 0));
     predicate is_any_context(struct ww_acquire_ctx *x, struct ww_mutex *m) = \valid(x) && (m != \null ==> \separated(x, m)) &&
 	(x->own != \null ==> is_seat(x->own) && \separated(x, x->own, x->own->pool) && (m != \null ==> apart(m, x, x->own)));
-    predicate is_free_seat(ww_seat *s) = is_seat(s) && rests && core_has == 0 && core_holds == 0 && (s->ages == 0 ==> core_context == 0) &&
+    predicate is_user_of(struct ww_acquire_ctx *x) = \valid(x) && x->own != \null && is_seat(x->own) && \separated(x, x->own, x->own->pool);
+    predicate is_free_seat(ww_seat *s) = s == comer && is_seat(s) && rests && core_has == 0 && core_holds == 0 && (s->ages == 0 ==> core_context == 0) &&
 	(the_mutex != \null ==> \separated(the_mutex, s, s->pool)) && seat_taken == 1 &&
 	(the_how != \null ==> \separated(the_how, s, s->pool));
     predicate no_seat = seat_taken == 0 && core_has == 0 && rests;
@@ -53,6 +55,10 @@ static void end_unheld(const struct ww_mutex *m, int r);
 
 /* A seat that comes is the one of which is spoken from then on. */
 #define COMES the_seat, seat_taken, core_context, CORE
+/* What a lock call changes: by a context, and by the seat that comes. */
+#define CHANGES(m, x) *m, *x, OF_SEAT(x->own), ww_mine, the_lock, COMES
+#define CHANGES_BY(s) OF_SEAT(s), s->user, s->busy
+#define CHANGES_ALONE(m) *m, CHANGES_BY(comer), ww_mine, the_lock, COMES
 /*@ assigns COMES; ensures \result != \null ==> is_free_seat(\result); ensures \result == \null ==> no_seat; */
 static inline ww_seat *seat_at_hand(const struct ww_pool *p);
 /*@ assigns COMES; ensures \result != \null ==> is_free_seat(\result); ensures \result == \null ==> no_seat; */
@@ -74,20 +80,43 @@ static inline ww_seat *seat_of(const struct ww_mutex *m);
 /*@ assigns \nothing; */
 bool ww_mutex_is_locked(struct ww_mutex *m);
 
-/*@ requires loops(x); */
-int ww_lock_in_loop(struct ww_mutex *m, struct ww_acquire_ctx *x, const struct ww_how *how);
-/*@ requires loops(x); */
-int ww_result_in_loop(struct ww_mutex *m, struct ww_acquire_ctx *x, int r);
-#ifndef WP_LOOPS /* as contexts outside of loops see it */
-/*@ assigns \nothing; ensures !loops(x) ==> !\result; */
+/* ---- lock calls that succeed without a step, and what a loop has to do then ---- */
+
+#define OWED(x, m) \old((x->state & IS_PRELOCKED) != 0 && x->prelocked == m)
+#define IN_LOOP(x, m) is_user_of(x) && is_mutex(m) && m != \null && \separated(m, x, x->own, x->own->pool) && rests && (loops(x) ==> is_list(x))
+/* What becomes of the list, if the mutex is one that is owed. */
+#define OF_OWED(x, m) x->pool, x->state, x->newest, m->older, { node(k)->older | integer k; loops(x) && 0 <= k < nodes }
+/*@ requires IN_LOOP(x, m);
+    assigns OF_OWED(x, m);
+    ensures outside: !loops{Old}(x) ==> !\result && x->pool == \old(x->pool) && m->older == \old(m->older);
+    ensures has: \result ==> core_has == 1 && loops{Old}(x);
+    ensures asked: \result ==> may_repeat || OWED(x, m);
+    ensures state: \result && OWED(x, m) ==> x->state == (\old(x->state) & ~IS_PRELOCKED);
+    ensures fails: !\result || !OWED(x, m) ==> x->state == \old(x->state) && x->newest == \old(x->newest);
+    ensures newest: \result && OWED(x, m) ==> x->newest == m;
+    ensures stays: same{Old, Here} && x->acquired == \old(x->acquired) && x->own == \old(x->own); */
 bool ww_accept_held(struct ww_acquire_ctx *x, struct ww_mutex *m, bool may_repeat);
-#endif
+
+/*@ requires IN_LOOP(x, m) && (r == 0 ==> core_has == 1);
+    assigns OF_OWED(x, m);
+    ensures took: \result == 0 ==> core_has == 1;
+    ensures exact: \result == r || (r == -EALREADY && \result == 0);
+    ensures told: r == -EDEADLK ==> (x->state & HAS_TO_BACK_OFF) != 0;
+    ensures asked: r == 0 && OWED(x, m) ==> x->state == (\old(x->state) & ~(TRIES | IS_PRELOCKED));
+    ensures fails: \result != 0 && r != -EDEADLK ==> x->state == \old(x->state) && x->newest == \old(x->newest);
+    ensures stays: same{Old, Here} && x->acquired == \old(x->acquired); */
+int ww_result_in_loop(struct ww_mutex *m, struct ww_acquire_ctx *x, int r);
+/* Assumed, as list.h does, and only of a context in a loop. */
+/*@ requires loops(x);
+    assigns CHANGES(m, x), *x->contending_lock, NODES(older); */
+int ww_lock_in_loop(struct ww_mutex *m, struct ww_acquire_ctx *x, const struct ww_how *how);
 
 /* ---- what is asked first ---- */
 
 /*@ requires \valid_read(x);
     assigns \nothing; exits \false;
     ensures x->own == \null <==> \result == HAS_ENDED;
+    ensures loops: loops(x) && x->own != \null && (void *)x->own != (void *)x->empty_ ==> \result >= LOOP_EASE;
     ensures !loops(x) && \result != HAS_ENDED && \result != IN_POLL && x->gives == (void *)x->own ==> (x->state & IS_POLLED) == 0; */
 static inline enum phase phase_of(const struct ww_acquire_ctx *x);
 
@@ -99,6 +128,7 @@ static inline enum phase phase_of(const struct ww_acquire_ctx *x);
     ensures mutex: \result == 0 && call != CALL_LIST ==> m != \null && m->pool != \null;
     ensures context: \result == 0 && x != \null ==> x->own != \null && (x->gives == (void *)x->own ==> (x->state & IS_POLLED) == 0);
     ensures alone: \result == 0 && x == \null ==> call == CALL_ALONE;
+    ensures list: \result == 0 && call == CALL_LIST && x != \null ==> !loops(x);
     ensures fails: \result <= 0 && \result != -EDEADLK; */
 static int check_call(enum lock_call call, struct ww_mutex *m, const struct ww_acquire_ctx *x, const struct timespec *until, const char **why);
 
@@ -116,6 +146,7 @@ static void draw_age_by_hand(struct ww_acquire_ctx *x);
     ensures mutex: \result == 0 && call != CALL_LIST ==> m != \null && m->number == the_lock;
     ensures context: \result == 0 && x != \null ==> x->own != \null && (x->gives == (void *)x->own ==> (x->state & IS_POLLED) == 0);
     ensures alone: \result == 0 && x == \null ==> call == CALL_ALONE;
+    ensures list: \result == 0 && call == CALL_LIST && x != \null ==> !loops(x);
     ensures fails: \result <= 0 && \result != -EDEADLK; */
 int ww_admit(const char *name, enum lock_call call, struct ww_mutex *m, struct ww_acquire_ctx *x, const struct timespec *until);
 
@@ -141,10 +172,12 @@ int ww_admit(const char *name, enum lock_call call, struct ww_mutex *m, struct w
 	ensures keeps: \result != 0 ==> same_held{Old, Here}; \
 	ensures keeps_list: \result != 0 && x != \null ==> unlisted{Old, Here}(x)
 /*@ requires is_called(m) && x != \null && is_any_context(x, m) && is_how_for(how, m, x) && rests && !loops(x);
+    assigns CHANGES(m, x), how->asks->waiters;
     LOCK_RESULT_AT_FIRST(m, x);
     ensures number: numbered{Old, Here}(m); */
 int ww_lock_as(struct ww_mutex *m, struct ww_acquire_ctx *x, const struct ww_how *how);
 /*@ requires is_called(m) && x != \null && is_any_context(x, m) && rests && !loops(x);
+    assigns CHANGES(m, x);
     ensures result: lock_result_at_first{Old, Here}(m, x, \result);
     ensures number: numbered{Old, Here}(m); */
 int ww_mutex_lock_else_(struct ww_mutex *m, struct ww_acquire_ctx *x);
@@ -154,6 +187,7 @@ int ww_mutex_lock_else_(struct ww_mutex *m, struct ww_acquire_ctx *x);
     requires r == -EBUSY || rests;
     requires r == -EALREADY ==> core_has == 1;
     requires (x->state & IS_POLLED) != 0 ==> r == -EBUSY;
+    assigns CHANGES(m, x);
     ensures result: lock_result{Old, Here}(m, x, x->own, \result, 0); */
 int ww_mutex_lock_further_(struct ww_mutex *m, struct ww_acquire_ctx *x, int r);
 
@@ -179,7 +213,7 @@ int ww_mutex_lock_slow_interruptible(struct ww_mutex *m, struct ww_acquire_ctx *
 /* ---- trylocks by one: 0 only if the core said so ---- */
 
 /*@ requires is_mutex(m) && is_called(m) && x != \null && is_any_context(x, m) && x->own != \null && rests && !loops(x);
-    assigns m->ctx, m->older, m->alone, x->newest, x->acquired, x->pool, x->own->ages, x->own->handle.mode, x->own->handle.below,
+    assigns m->ctx, m->older, m->alone, x->newest, x->acquired, x->pool, x->state, x->own->ages, x->own->handle.mode, x->own->handle.below,
 	core_has, core_holds, core_told, core_context;
     ensures took: took(\result);
     ensures says: \result == 0 ==> says{Old, Here}(m, x) && listed{Old, Here}(m, x);
@@ -192,6 +226,7 @@ int ww_try_by(struct ww_mutex *m, struct ww_acquire_ctx *x);
 /*@ predicate is_how_alone(struct ww_how *how, struct ww_mutex *m) = how == the_how && \valid_read(how) && is_when(how->until) &&
 	how->visits == 0 && how->asks == \null && (m != \null ==> \separated(how, m)); */
 /*@ requires is_mutex(m) && m == the_mutex && is_free_seat(s) && is_how_alone(how, m) && \separated(how, s, s->pool);
+    assigns *m, CHANGES_BY(s), ww_mine, seat_taken, core_context, CORE;
     ensures took: took(\result);
     ensures says: \result == 0 ==> says_seat(m, s);
     ensures seat: seat_taken == (\result == 0 ? 1 : 0); */
@@ -199,19 +234,23 @@ static inline int lock_by_seat(struct ww_mutex *m, ww_seat *s, const struct ww_h
 /*@ requires is_mutex(m) && is_seat(s) && apart(m, \null, s) && is_how_alone(how, m) && \separated(how, s, s->pool) && core_context == 0 &&
 	core_has == 0 && rests && seat_taken == 1;
     requires r == -EBUSY || r == -EINVAL;
+    assigns *m, CHANGES_BY(s), ww_mine, seat_taken, CORE;
     ensures took: took(\result);
     ensures says: \result == 0 ==> says_seat(m, s);
     ensures seat: seat_taken == (\result == 0 ? 1 : 0); */
 static int lock_alone_on(struct ww_mutex *m, ww_seat *s, int r, const struct ww_how *how);
 /*@ requires is_called(m) && m != \null && is_how_alone(how, m) && seat_taken == 0;
+    assigns CHANGES_ALONE(m);
     ensures took: took(\result) && (\result == 0 ==> m->ctx == \null);
     ensures seat: seat_taken == (\result == 0 ? 1 : 0); */
 static int lock_by_any(struct ww_mutex *m, const struct ww_how *how);
 /*@ requires is_called(m) && m != \null && is_how_alone(how, m) && seat_taken == 0;
+    assigns CHANGES_ALONE(m);
     ensures took: took(\result) && (\result == 0 ==> m->ctx == \null);
     ensures seat: seat_taken == (\result == 0 ? 1 : 0); */
 static inline int lock_alone(struct ww_mutex *m, const struct ww_how *how);
 /*@ requires is_called(m) && m != \null && seat_taken == 0;
+    assigns CHANGES_ALONE(m), the_how;
     ensures took: core_has == 1 && \result == 0 && m->ctx == \null && seat_taken == 1; */
 int ww_mutex_lock_alone_(struct ww_mutex *m);
 /* Of the quick ways (context.h): a context that has ended, or rests, has no mutex's pool. */
@@ -219,6 +258,7 @@ int ww_mutex_lock_alone_(struct ww_mutex *m);
 	x->own != \null && m->pool != \null && (x->state & IS_POLLED) == 0; */
 /*@ requires quick: x != \null ==> may_be_quick(m, x);
     requires is_called(m) && m != \null && (x != \null ? is_any_context(x, m) && !loops(x) : seat_taken == 0) && rests;
+    assigns CHANGES(m, x), CHANGES_BY(comer), the_how;
     ensures took: x != \null ==> took(\result);
     ensures says: x != \null && \result == 0 ==> says{Old, Here}(m, x);
     ensures counts: x != \null && \result == 0 ==> x->acquired == (unsigned)(\old(x->acquired) + 1);
@@ -241,11 +281,13 @@ int ww_mutex_lock_interruptible(struct ww_mutex *m, struct ww_acquire_ctx *x);
 /* ---- trylocks: 1 only if the core said so ---- */
 
 /*@ requires is_mutex(m) && is_called(m);
+    assigns CHANGES_ALONE(m), the_how;
     ensures took: \result == 1 ==> core_has == 1 && m->ctx == \null && seat_taken == 1;
     ensures \result == 0 || \result == 1; */
 static int try_alone(struct ww_mutex *m);
 /*@ requires r == 0 ==> is_mutex(m) && is_called(m) && (x != \null ==> is_any_context(x, m) && x->own != \null && rests && !loops(x));
     requires r <= 0;
+    assigns CHANGES(m, x), CHANGES_BY(comer), the_how;
     ensures took: \result == 1 ==> core_has == 1;
     ensures says: \result == 1 && x != \null ==> says{Old, Here}(m, x) && listed{Old, Here}(m, x);
     ensures refused: \result != 1 && x != \null ==> same_held{Old, Here} && unlisted{Old, Here}(x);
@@ -258,6 +300,7 @@ static int try_admitted(struct ww_mutex *m, struct ww_acquire_ctx *x, int r);
 	ensures says: \result == 1 && x != \null ==> says{Old, Here}(m, x) && listed{Old, Here}(m, x); \
 	ensures answers: \result <= 1
 /*@ TRIES(m, x);
+    assigns CHANGES(m, x), CHANGES_BY(comer), the_how;
     ensures \result == 0 || \result == 1;
     ensures refused: \result == 0 && x != \null ==> same_held{Old, Here} && unlisted{Old, Here}(x);
     ensures number: x != \null ==> numbered{Old, Here}(m); */
@@ -282,7 +325,9 @@ int ww_mutex_trylock_checked(struct ww_mutex *m, struct ww_acquire_ctx *x);
     ensures kept: \result != 0 ==> same{Old, Here}; */
 static int unlock_alone_on(ww_seat *s, int r);
 /*@ predicate in_child = ((ww_seat *)the_seat)->pool->gone != 0; */
+#define CHANGES_TO_UNLOCK(m) m->alone, CHANGES_BY(((ww_seat *)the_seat)), seat_taken, CORE
 /*@ requires is_mutex(m) && seat_taken == 1;
+    assigns CHANGES_TO_UNLOCK(m);
     ensures released: \result == 0 ==> core_has == 0 || in_child;
     ensures alone: \result == 0 ==> m->alone == \null && seat_taken == 0;
     ensures kept: \result != 0 ==> same{Old, Here} && seat_taken == 1;
@@ -302,6 +347,7 @@ int ww_mutex_unlock_checked(struct ww_mutex *m);
     ensures alone: \old(m->ctx) == \null ==> m->alone == \null && seat_taken == 0; */
 void ww_mutex_unlock(struct ww_mutex *m);
 /*@ requires is_mutex(m) && seat_taken == 1;
+    assigns CHANGES_TO_UNLOCK(m);
     ensures released: core_has == 0 || in_child;
     ensures alone: m->alone == \null && seat_taken == 0; */
 void ww_mutex_unlock_else_(struct ww_mutex *m);
@@ -310,5 +356,6 @@ void ww_mutex_unlock_else_(struct ww_mutex *m);
     requires first: r == WW_AGAIN || r == -EBUSY || r == -EINVAL;
     requires r > 0 ==> core_call == UNLOCKS && core_of == the_lock && holds(the_lock);
     requires r == -EINVAL ==> lacks(the_lock) && rests;
+    assigns CHANGES(m, x);
     ensures released: core_has == 0 || x->own->pool->gone; */
 void ww_mutex_unlock_further_(struct ww_mutex *m, struct ww_acquire_ctx *x, int r);

@@ -9,13 +9,6 @@
 #include "../lock/used.h"
 
 #define __atomic_fetch_and(p, v, order) wp_add(p, v)
-/* Without code Frama-C takes for granted that a function changes what its arguments point to and nothing else: these change more. */
-#define CHANGES(m, x) *m, *x, OF_SEAT(x->own), ww_mine, the_lock, COMES
-/*@ assigns CHANGES(m, x); */
-int ww_mutex_lock_else_(struct ww_mutex *m, struct ww_acquire_ctx *x);
-/*@ assigns CHANGES(m, x); */
-int ww_mutex_trylock_else_(struct ww_mutex *m, struct ww_acquire_ctx *x);
-
 /*@ // of all the class's mutexes that have numbers: the_mutex is that which has the_lock, once that was taken
     predicate is_numbered(struct ww_pool *p) = p->numbered != \null && the_lock < p->numbers.locks ==> the_mutex == &p->numbered[the_lock].mutex_ &&
 	\valid(the_mutex) && (the_mutex->pool != \null ==> the_mutex->number == the_lock && the_mutex->pool == p);
@@ -90,12 +83,15 @@ int ww_number_take(uint32_t *number, struct ww_class *c);
 	the_mutex->pool == \null; */
 static struct ww_mutex *mutex_asked(const char *call, uint32_t number, const struct ww_acquire_ctx *x);
 /*@ BY_NUMBER(number, x);
+    assigns CHANGES(the_mutex, x);
     NUMBER_LOCK(number, x); */
 int ww_number_lock(uint32_t number, struct ww_acquire_ctx *x);
 /*@ BY_NUMBER(number, x);
+    assigns CHANGES(the_mutex, x), CHANGES_BY(comer), the_how;
     NUMBER_TRYLOCK(number, x); */
 int ww_number_trylock(uint32_t number, struct ww_acquire_ctx *x);
 /*@ BY_NUMBER_TO_UNLOCK(number, x);
+    assigns CHANGES(the_mutex, x);
     NUMBER_UNLOCK(number, x);
     ensures answers: \result == 0 || \result == -EINVAL || \result == -EBUSY; */
 int ww_number_unlock(uint32_t number, struct ww_acquire_ctx *x);
@@ -103,6 +99,7 @@ int ww_number_unlock(uint32_t number, struct ww_acquire_ctx *x);
 /*@ BY_NUMBER_TO_UNLOCK(number, x);
     requires x != \null && (x->own != \null ? r == WW_AGAIN || r == -EBUSY || r == -EINVAL : r == -EINVAL);
     requires r > 0 ==> core_call == UNLOCKS && core_of == number && holds(number);
+    assigns CHANGES(the_mutex, x);
     ensures exact: (r > 0 ==> \result == 0) && (\result == 0 || \result == -EINVAL || \result == -EBUSY);
     ensures released: \result == 0 ==> core_has == 0 || x->own->pool->gone;
     ensures counts: x->acquired == (unsigned)(\old(x->acquired) - (\result == 0 ? 1 : 0));

@@ -5,6 +5,7 @@ static struct ww_class w_class;
 
 static void w_between(void)
 {
+	/*@ ghost comer = &w_seat; */
 	w_seat_is(0);
 	w_context_is();
 	w_class.pool = &w_pool;

@@ -6,6 +6,7 @@
 
 static void w_alone(int taken)
 {
+	/*@ ghost comer = &w_seat; */
 	w_seat_is(0);
 	w_mutex_is();
 	w_how_is();
