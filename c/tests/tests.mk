@@ -64,11 +64,12 @@ ASKS_line = && sed -n 's/^.*line.cpp:\([0-9]*\): .*/\1/p' $(LOG) | uniq >$@.told
 ASKS_race_threads = ; test $$? -eq 66 && grep -q 'data race .* in work' $(LOG)
 
 # The only limit of time: one that a busy machine doesn't reach, and WW_TEST_PATIENCE times as much. It ends what a test began, too.
-LIMITED = timeout -k 9 $$((1800 * $${WW_TEST_PATIENCE:-1}))
+LIMITED = timeout -k 9 $$((900 * $${WW_TEST_PATIENCE:-1}))
 LOG = $(OUT)/$(@:$(OUT)/%=%).log
 # Runs this; what a search says of programs that are as they should be isn't worth printing.
 NAME = $(@:$(OUT)/%.ran=%)
-told = @mkdir -p $(dir $(LOG)); { $(1); } >$(LOG) 2>&1 || { echo "FAILED ($$?): $(NAME)"; grep -vE ' ok. (bound|whole)' $(LOG) | tail -n 60; exit 1; } >&2; echo $(NAME)
+told = @mkdir -p $(dir $(LOG)); { $(1); } >$(LOG) 2>&1 || { echo "FAILED ($$?): $(NAME)"; grep -vE ' ok. (bound|whole)' $(LOG) | tail -n 60; exit 1; } >&2; \
+	grep '^passed over' $(LOG); echo $(NAME)
 runs = $(1:%=$(OUT)/%.ran)
 # What this command is needed for is passed over where it isn't here, with a word; but CI passes nothing over.
 without = $(if $(shell command -v $(1)),,@echo "passed over: $(2), since $(1) isn't here"; test "$$CI" != true)

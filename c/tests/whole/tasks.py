@@ -20,6 +20,8 @@ import ww
 import ww.tasks
 
 KINDS = (ww.WOUND_WAIT, ww.WAIT_DIE)
+# Seconds in which all has ended that doesn't hang, on a busy machine too.
+LIMIT = 900
 
 
 def made(kind=ww.WOUND_WAIT, mutexes=8, contexts=4):
@@ -67,7 +69,7 @@ async def has_a_time(kind):
             task = asyncio.create_task(two.lock(a, timeout=60))
             await asyncio.sleep(0.01)
             one.unlock_all()
-            await asyncio.wait_for(task, 10)
+            await asyncio.wait_for(task, LIMIT)
             assert a in two
             try:
                 await two.lock(b, timeout=float("nan"))
@@ -138,11 +140,11 @@ async def refuses_other_tasks(kind):
         task = asyncio.create_task(two.lock(a))
         await asyncio.sleep(0)
         for mutex in (a, b):
-            assert await fault_of(asyncio.wait_for(two.lock(mutex), 10)) == errno.EBUSY
+            assert await fault_of(asyncio.wait_for(two.lock(mutex), LIMIT)) == errno.EBUSY
         for call in (lambda: two.try_lock(b), lambda: two.unlock(a), two.unlock_all):
             assert fault_of_call(call) == errno.EBUSY
         older.unlock(a)
-        await asyncio.wait_for(task, 10)
+        await asyncio.wait_for(task, LIMIT)
         assert a in two and not b.locked()
     older, two = buffers.context(), buffers.context()
     async with older as one:
@@ -150,12 +152,12 @@ async def refuses_other_tasks(kind):
         async with two as other:
             task = asyncio.create_task(other.lock(a))
             await asyncio.sleep(0)
-        assert await fault_of(asyncio.wait_for(task, 10)) == errno.EINVAL and a in one
+        assert await fault_of(asyncio.wait_for(task, LIMIT)) == errno.EINVAL and a in one
         async with buffers.context() as other:
             task = asyncio.create_task(other.lock(b, a))
             await asyncio.sleep(0)
             one.unlock(a)  # it is woken, and its context ends before it runs
-        assert await fault_of(asyncio.wait_for(task, 10)) == errno.EINVAL
+        assert await fault_of(asyncio.wait_for(task, LIMIT)) == errno.EINVAL
     assert not a.locked() and not b.locked()
     for it in (older, two):
         assert await fault_of(it.__aenter__()) == errno.EINVAL and fault_of_call(it.__enter__) == errno.EINVAL
@@ -172,11 +174,11 @@ async def reads(kind):
         assert a in older and a in two and b not in older and not older.try_lock(a) and not older.try_lock(b)
         task = asyncio.create_task(older.lock(a, plain))  # it comes to write what both read
         await asyncio.sleep(0)
-        assert not task.done() and await fault_of(asyncio.wait_for(older.read(b), 10)) == errno.EBUSY
+        assert not task.done() and await fault_of(asyncio.wait_for(older.read(b), LIMIT)) == errno.EBUSY
         two.unlock(a)
         assert not task.done() and b in two and a not in two  # reads end together
         two.unlock(b)
-        await asyncio.wait_for(task, 10)
+        await asyncio.wait_for(task, LIMIT)
         assert plain in older and await fault_of(older.lock(a)) == errno.EALREADY and not two.try_lock(a)
         await older.read(a)
         older.unlock_all()
@@ -231,7 +233,7 @@ async def upgrades(kind):
                 assert counts[0] == before
                 counts[0] += 1
 
-    await asyncio.wait_for(asyncio.gather(*(adds() for _ in range(3))), 120)
+    await asyncio.wait_for(asyncio.gather(*(adds() for _ in range(3))), LIMIT)
     assert counts == [150]
     async with buffers.context() as context:
         assert context.try_lock(one)
@@ -267,7 +269,7 @@ async def waits_in_turn():
     tasks[0].cancel()  # it has the context by now, and doesn't know yet
     told = await asyncio.gather(*tasks, return_exceptions=True)
     assert order == [2, 3] and [isinstance(it, asyncio.CancelledError) for it in told] == [True, True, False, False]
-    await asyncio.wait_for(begins(buffers), 10)
+    await asyncio.wait_for(begins(buffers), LIMIT)
 
 
 async def begins_within():
@@ -288,7 +290,7 @@ async def begins_within():
         await stranger
 
     elsewhere = contextvars.copy_context()
-    await asyncio.wait_for(nest(few + 1), 60)
+    await asyncio.wait_for(nest(few + 1), LIMIT)
 
 
 async def is_cancelled(kind):
@@ -522,7 +524,7 @@ async def begin_all(of, count):
     """None of its contexts is in use."""
     all_at_once = [of.context() for _ in range(count)]
     for it in all_at_once:
-        await asyncio.wait_for(it.__aenter__(), 10)
+        await asyncio.wait_for(it.__aenter__(), LIMIT)
     for it in all_at_once:
         await it.__aexit__(None, None, None)
 
@@ -614,7 +616,7 @@ async def a_child_leaves_it():
         wakes.__del__()
         os._exit(bool(ww.tasks._events))
     assert os.waitpid(child, 0)[1] == 0
-    await asyncio.wait_for(task, 10)
+    await asyncio.wait_for(task, LIMIT)
 
 
 async def lock_once(of, mutex):
@@ -770,7 +772,7 @@ async def one_is_dropped():
     del context
     gc.collect()
     assert not mutex.locked()
-    await asyncio.wait_for(begins(buffers), 10)
+    await asyncio.wait_for(begins(buffers), LIMIT)
 
 
 def main():
