@@ -200,7 +200,11 @@ def without_witness(unit, witnesses):
         [f"{unit.name}: {name} is called by no witness" for name in unit.proves if name not in called]
 
 
-def unwitnessed(unit, functions, said):
-    """What a witness didn't prove, and what it proved of nothing."""
-    yield from (f"{unit.name}: {it} isn't proved" for it in re.findall(r"Goal (\S+) : (?!Valid)", said) if "_never" not in it)
-    yield from (f"{unit.name}: {it} is proved of nothing" for it in functions if not re.search(rf"Goal \S*{it}_\w*never\w* : (?!Valid)", said))
+def unwitnessed(said):
+    """The goals of witnesses that aren't proved, but for the \\false at the end of each."""
+    return [it for it in re.findall(r"Goal (\S+) : (?!Valid)", said) if "_never" not in it]
+
+
+def of_nothing(functions, said):
+    """The witnesses that prove \\false at their end, so that all that they prove is proved of nothing."""
+    return [it for it in functions if not re.search(rf"Goal \S*{it}_\w*never\w* : (?!Valid)", said)]
