@@ -27,10 +27,12 @@ made = +@.ci/check $@ $(1)
 # What a check of the sources reads besides what a proof reads.
 asked = $(if $(filter yes,$(PROOFS)),$(1),$(foreach it,$(1),$(if $(filter yes,$(shell checks/same_proofs '$(BASE)' $(READS_$(it)) >/dev/null || echo yes)),$(it))))
 
-QUICK := budget c_names documents gate layers limits names packages prototypes unused
+QUICK := budget c_names documents edits gate layers limits names packages prototypes unused
 SOURCES := format refuse_abuses scene try_cases try_using
 PROVED := prove generated_ww_c generated_ww_run by_rattle growths_of_tests passes
-OF_C := c_tests c_threads c_compilers c_pages c_installed kills simulated kernel instructions rust aarch64 dist make wp
+WP := $(shell checks/check_wp --units) eva
+KILLS := 1 2 3
+OF_C := c_tests c_threads rust $(KILLS:%=kills_%) $(WP:%=wp_%) wp_text wp_faults dist aarch64 c_compilers c_pages c_installed simulated kernel instructions make
 OF_PROGRAM := soak refuse_growths tools run large parks program_fails
 .PHONY: all quick sources proofs library program list made_library made_program $(QUICK) $(SOURCES) $(PROVED) $(OF_C) $(OF_PROGRAM)
 
@@ -49,7 +51,8 @@ sources: $(call asked,$(SOURCES))
 list:
 	@printf '%s\n' $(QUICK) $(call asked,$(SOURCES)) $(if $(filter yes,$(PROOFS)),$(PROVED)) made_library made_program $(OF_C) $(OF_PROGRAM)
 
-$(QUICK):                       ; $(call check,5) checks/check_$@
+edits:                          ; $(call check,5) checks/check_edits $(BASE)
+$(filter-out edits,$(QUICK)):   ; $(call check,5) checks/check_$@
 
 format scene: | quick           ; $(call check,10) checks/check_$@
 refuse_abuses: | quick          ; $(call check,20) checks/$@
@@ -67,15 +70,17 @@ c_tests: | made_library         ; $(call made,60) $(MAKE) -s -k -C c OUT=out/gat
 c_threads: | made_library       ; $(call made,60) $(MAKE) -s -k -C c OUT=out/gate check-thread
 c_compilers c_pages: | quick    ; $(call check,30) checks/check_$@
 c_installed: | made_library     ; $(call check,20) checks/check_$@
-kills: | quick                  ; $(call check,90) c/tests/search/kills $(if $(WHOLE),,$(BASE:%=--changed %))
+$(KILLS:%=kills_%): kills_%: | quick ; $(call check,90) c/tests/search/kills -p $*/$(words $(KILLS)) $(if $(WHOLE),,$(BASE:%=--changed %))
 simulated: | quick              ; $(call check,30) checks/check_simulated
 kernel: | made_library          ; $(call check,30) checks/check_kernel $(ARCHIVE)
 instructions: | made_library    ; $(call check,30) checks/check_instructions $(ARCHIVE)
 rust: | made_library            ; $(call check,60) checks/check_rust $(ARCHIVE)
-aarch64: | quick                ; $(call check,60) checks/check_aarch64 $(WHOLE)
-dist: | quick                   ; $(call check,30) checks/check_dist $(WHOLE)
+aarch64: | quick                ; $(call check,60) checks/check_aarch64 $(WHOLE:%=--both)
+dist: | quick                   ; $(call check,30) checks/check_dist $(WHOLE:%=--twice)
 make: | quick                   ; $(call check,30) checks/check_make
-wp: | quick                     ; $(call check,60) checks/check_wp
+wp_text: | quick                ; $(call check,5) checks/check_wp --text
+wp_faults: | quick              ; $(call check,30) checks/check_wp --self-test
+$(WP:%=wp_%): wp_%: | quick     ; $(call check,60) $(if $(WHOLE),env CHECK_WP_CACHE=) checks/check_wp $*
 
 made_program: | quick           ; $(call made,10) $(MAKE) -s $(PROGRAM)
 soak refuse_growths large parks program_fails tools run: | made_program
