@@ -71,8 +71,9 @@ NAME = $(@:$(OUT)/%.ran=%)
 told = @mkdir -p $(dir $(LOG)); { $(1); } >$(LOG) 2>&1 || { echo "FAILED ($$?): $(NAME)"; grep -vE ' ok. (bound|whole)' $(LOG) | tail -n 60; exit 1; } >&2; \
 	grep '^passed over' $(LOG); echo $(NAME)
 runs = $(1:%=$(OUT)/%.ran)
-# What this command is needed for is passed over where it isn't here, with a word; but CI passes nothing over.
-without = $(if $(shell command -v $(1)),,@echo "passed over: $(2), since $(1) isn't here"; test "$$CI" != true)
+# What can't be done here is passed over with a word, and fails for CI; and so is what this command is needed for, if it isn't here.
+pass_over = echo "passed over: $(1), since $(2)"; test "$$CI" != true
+without = $(if $(shell command -v $(1)),,@$(call pass_over,$(2),$(1) isn't here))
 
 # By these flags, of what is needed but headers.
 NEEDED = $(filter-out %.h %.hpp,$^) $(LDFLAGS) $(WRAPS_$(*F):%=-Wl,--wrap=%) -pthread -o $@
@@ -189,7 +190,9 @@ check check-plain: all $(call runs,$(HERE))
 	$(call without,$(CXX),the tests in C++)
 soon: BOUND = -b 0
 soon: check-tables check-interleave $(call runs,$(SOON))
-check-thread: $(call runs,$(THREADED))
+RUNS_THREADED = $(shell mkdir -p $(OUT) && echo 'int main(void) { return 0; }' | $(CC) -fsanitize=thread -x c - -o $(OUT)/empty 2>/dev/null && $(OUT)/empty && echo yes)
+check-thread: $(if $(filter check-thread,$(MAKECMDGOALS)),$(if $(RUNS_THREADED),$(call runs,$(THREADED))))
+	@$(if $^,true,$(call pass_over,the tests by threads,the thread sanitizer doesn't run))
 list-plain:
 	@printf '%s\n' $(HERE)
 check-python: $(if $(shell command -v python3),$(call runs,$(IN_PYTHON)))
@@ -215,7 +218,7 @@ check-objects: $(OBJECTS) $(DEBUG_OBJECTS) $(OUT)/libww.so
 	! nm -u $(filter %.o,$^) | grep -E '^ *[Uw] ($(ENDS_THREADS))$$'
 	@if echo '#include <sys/sdt.h>' | $(CC) $(AS_C) -E -x c - >/dev/null 2>&1; then \
 		for it in $(PROBES); do readelf -n $(OUT)/libww.so | grep -q "Name: $$it$$" || { echo "no probe: $$it"; exit 1; }; done; \
-	else echo "passed over: the library's probes, since sys/sdt.h isn't here"; test "$$CI" != true; fi
+	else $(call pass_over,the library's probes,sys/sdt.h isn't here); fi
 
 # ---- every schedule of small programs: tests/search ----
 
@@ -282,16 +285,17 @@ $(SEARCH)/interleave $(SEARCH)/interleave_shared $(SEARCH)/interleave_debug: $(S
 check-mutants:
 	python3 tests/search/kills
 
-# Each search goes in four parts, which make may run side by side. Of its time that of the processor is counted. What the debug library
+# Each search goes in parts, which make may run side by side. Of its time that of the processor is counted. What the debug library
 # tells of right calls is of no interest here.
-searches = $(foreach it,$(1),$(patsubst %,$(SEARCH)/$(it).%.ran,1 2 3 4))
+PARTS = 1 2 3 4
+searches = $(foreach it,$(1),$(PARTS:%=$(SEARCH)/$(it).%.ran))
 ALL_SEARCHES = $(call searches,interleave interleave_shared interleave_debug)
 .SECONDEXPANSION:
 $(ALL_SEARCHES): $$(basename $$(basename $$@))
-	$(call told,ulimit -t 900 && $< $(BOUND) -p $(patsubst .%,%,$(suffix $(basename $@)))/4 $(STRAY))
+	$(call told,ulimit -t 900 && $< $(BOUND) -p $(patsubst .%,%,$(suffix $(basename $@)))/$(words $(PARTS)) $(STRAY))
 	@tail -n 1 $(LOG)
 check-interleave: $(if $(SEARCHES),$(call searches,interleave interleave_shared))
-	@$(if $(SEARCHES)$(CROSS),true,echo 'passed over: the search of schedules, since gcc on x86_64 is not here'; test "$$CI" != true)
+	@$(if $(SEARCHES)$(CROSS),true,$(call pass_over,the search of schedules,it takes gcc on x86_64))
 check-interleave-debug: BOUND = -b 1
 check-interleave-debug: STRAY = 2>/dev/null
 check-interleave-debug: $(if $(SEARCHES),$(call searches,interleave_debug))
