@@ -162,7 +162,9 @@ bool ww_mutex_is_locked(struct ww_mutex *lock);
  *		}
  *	}
  *
- * After -EDEADLK ww_retry_on_contention releases everything that was acquired in the loop, and the body begins again.  The next
+ * If a lock call returned -EDEADLK, the end of the body, as well as a `break` and a `continue` of it, releases everything that was
+ * acquired in the loop, and the body begins again, whatever it made of that error; otherwise they end the loop.  To come there from
+ * within another loop or block, there is ww_retry_on_contention.  Only `return` and `goto` leave the loop for good.  The next
  * lock call first waits for the contended mutex, at which -EDEADLK came, with its own time limit and cancel; a later lock call
  * of that mutex returns 0 (a trylock 1).  A trylock that succeeds before, or a slow lock of that mutex, replaces that wait.  The
  * body may also release everything itself, and go on with ww_mutex_lock_slow.  The context holds nothing when the loop begins.

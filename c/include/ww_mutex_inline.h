@@ -8,7 +8,8 @@ extern "C" {
 
 /*
  * A name that is given comes before the default one.  The compiler sees that the body runs at least once, so what it sets
- * is set after it; and the goto that is never taken is for a body that has none.
+ * is set after it; and the goto that is never taken is for a body that has none.  The body is a loop of one round, so that
+ * `break` and `continue` in it end the round, and the outer loop looks whether there has to be another one.
  */
 #define WW_UNTIL_ALL_LOCKED_(ctx, again, ...)                                                          \
 	for (struct ww_acquire_ctx *again##_of_ = ww_tries_begin_(ctx); again##_of_;                   \
@@ -16,7 +17,8 @@ extern "C" {
 	again:                                                                                         \
 		if (ww_is_contended(again##_of_) && (ww_back_off_(again##_of_), 0))                     \
 			goto again;                                                                    \
-		else
+		else                                                                                   \
+			for (int again##_once_ = 1; again##_once_; again##_once_ = 0)
 #define WW_RETRY_ON_CONTENTION_(ctx, again, ...)                                                       \
 	do {                                                                                           \
 		if (ww_is_contended(ctx))                                                              \

@@ -15,7 +15,7 @@
 #include <stdint.h>
 
 /* The version of the headers. ww_version() returns that of the library; the same first number is the same binary interface. */
-#define WW_VERSION_MAJOR 5
+#define WW_VERSION_MAJOR 6
 #define WW_VERSION_MINOR 0
 #define WW_VERSION_PATCH 0
 

@@ -2,7 +2,8 @@
  * Functions with several loops, in C and in C++.
  *
  * Loops stand in branches, one after another, one in another, in a switch, and are left from within blocks that have
- * something to clean up.  In each loop an older context has the second mutex at first.
+ * something to clean up.  In each loop an older context has the second mutex at first.  A body that ends by `break` or
+ * `continue` ends its round alone, so no transaction is lost by the most natural one.
  */
 #include <stdbool.h>
 #include <stdio.h>
@@ -149,6 +150,45 @@ static void one_in_another(void)
 	has_both(&outer);
 }
 
+/* A break is no way out as long as the context has to back off, whatever the body makes of the error; else it is one. */
+static void breaks(void)
+{
+	unsigned made = 0;
+	int err = 0;
+
+	is_in_the_way(&outer);
+	ww_until_all_locked(&outer.x) {
+		outer.bodies++;
+		err = locks(&outer, 0);
+		if (err)
+			break;
+		err = locks(&outer, 1);
+		if (err)
+			break;
+		ww_retry_on_contention(&outer.x);
+		made++;
+	}
+	MUST(!err && made == 1);
+	has_both(&outer);
+	is_in_the_way(&outer);
+	ww_until_all_locked(&outer.x, second) {
+		outer.bodies++;
+		if (!locks(&outer, 0) && !locks(&outer, 1))
+			break;
+		err = -EIO; /* what it returns is of a round that counts for nothing */
+		if (outer.bodies)
+			continue;
+		abort();
+	}
+	has_both(&outer);
+	ww_until_all_locked(&outer.x, third) {
+		outer.bodies++;
+		break;
+	}
+	MUST(outer.bodies == 1 && !outer.x.acquired);
+	outer.bodies = 0;
+}
+
 static void in_a_switch(unsigned way)
 {
 	is_in_the_way(&outer);
@@ -207,6 +247,7 @@ int main(void)
 	in_branches(false);
 	MUST(one_after_another() == 2);
 	one_in_another();
+	breaks();
 	in_a_switch(0);
 	in_a_switch(1);
 	cleans_up();
