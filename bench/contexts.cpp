@@ -258,6 +258,18 @@ void lock_all(unsigned k, unsigned times)
 		[k](ww_acquire_ctx *) { unlock_newest_first(k); });
 }
 
+void lock_all_at_once(unsigned k, unsigned times)
+{
+	std::array<ww_mutex *, most> list;
+
+	open_class();
+	for (unsigned n = 0; n < most; n++)
+		list[n] = &all[n].lock;
+	by_mutex(
+		times, [k, &list](ww_acquire_ctx *x) { must(!ww_mutex_lock_all(x, list.data(), k)); },
+		[](ww_acquire_ctx *x) { ww_acquire_unlock_all(x); });
+}
+
 // One after another.
 void without_context(unsigned k, unsigned times)
 {
@@ -348,6 +360,7 @@ constexpr way ways[]{
 	{ "loop_each", loop_one_by_one },
 	{ "loop_reads", loop_of_reads },
 	{ "lock_all", lock_all },
+	{ "lock_all_at_once", lock_all_at_once },
 	{ "without", without_context },
 #ifdef HAS_PEER
 	{ "peer", by_peer },

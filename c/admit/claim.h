@@ -23,7 +23,7 @@ WW_HIDDEN void ww_set_at_hand(struct ww_pool *p, bool is);
  * This thread uses the seat, one that anybody may use: called by each lock without a context, and by a thread that has waited
  * for a seat.  Others read that only through a mutex that is held by the seat, so later.
  */
-static inline void note_user(ww_seat *s) { __atomic_store_n(&s->user, ww_mine.thread, __ATOMIC_RELAXED); }
+static inline void note_user(ww_seat *s) { __atomic_store_n(&s->user, this_thread(), __ATOMIC_RELAXED); }
 
 /* This thread's own; if it has none, the seat before all of these, which is nobody's own. */
 static inline ww_seat *own_or_before(const struct ww_pool *p) { return (ww_seat *)((char *)p->before_own + ww_mine.own_at); }
@@ -37,7 +37,7 @@ static inline ww_seat *own_seat(const struct ww_pool *p)
 /* Whether this thread locked by the seat, without a context. */
 static inline bool is_used_here(const ww_seat *s)
 {
-	return s == own_seat(s->pool) || __atomic_load_n(&s->user, __ATOMIC_RELAXED) == ww_mine.thread;
+	return s == own_seat(s->pool) || __atomic_load_n(&s->user, __ATOMIC_RELAXED) == this_thread();
 }
 
 static inline bool is_in_use(const ww_seat *s) { return s && __atomic_load_n(&s->busy, __ATOMIC_RELAXED) & BUSY; }

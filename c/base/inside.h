@@ -39,8 +39,10 @@ typedef struct ww_seat {
 	struct ww_pool *pool;	/* the class that has it */
 	struct ww_seats *of;	/* the seats among which it is */
 	uint8_t ages;		/* see age.h */
+	uint8_t asks;		/* what a poll of its context asks for: see context.h */
 	uint32_t given;		/* one of tasks: how often its user was through with it */
 	struct ww_slot *slot;	/* its user's: see shared.c; or NULL */
+	struct ww_mutex *asked;	/* of which mutex that poll asks it */
 	uint64_t waits __attribute__((aligned(64))), back_offs; /* of its users, in all */
 	struct ww_waker waker;	/* of its wait; below, how many waits there were */
 	uint32_t armed;

@@ -45,6 +45,13 @@ WW_HIDDEN extern __thread struct ww_mine ww_mine __attribute__((tls_model("initi
 WW_HIDDEN extern uint32_t ww_threads;
 /* This thread has a number from now on. */
 WW_HIDDEN void ww_number_thread(void);
+/* The number of this thread, which no other has, nor had; it isn't 0.  Nothing is compared with one that the thread hasn't yet. */
+static inline uint64_t this_thread(void)
+{
+	if (__builtin_expect(!ww_mine.thread, 0))
+		ww_number_thread();
+	return ww_mine.thread;
+}
 /* This thread has seats of its own from now on, if so many don't yet and the library will learn when it ends. */
 WW_HIDDEN void ww_take_own(void);
 

@@ -39,7 +39,7 @@ static bool is_phase_right(const struct ww_acquire_ctx *x)
 
 	switch (phase_of(x)) {
 	case BY_HAND: return !owed;
-	case IN_POLL: return owed == IS_POLLED;
+	case IN_POLL: return owed == IS_POLLED || (is_loop(x) && !(owed & IS_PRELOCKED));
 	case LOOP_EASE: return !owed && !is_closed;
 	case LOOP_OWES: return owed == IS_PRELOCKED && is_closed;
 	case LOOP_FIRST: return owed == WAITS_FIRST && is_closed;
@@ -50,7 +50,7 @@ static bool is_phase_right(const struct ww_acquire_ctx *x)
 
 void ww_debug_check_context(const struct ww_acquire_ctx *x)
 {
-	const unsigned any = FLAGS | TRIES | IS_DONE | IS_POLLED | IS_PRELOCKED | IS_TOLD;
+	const unsigned any = FLAGS | TRIES | IS_DONE | IS_POLLED | IS_PRELOCKED | IS_TOLD | WAS_TOLD;
 
 	if (x->own && (x->gives == x->own || is_loop(x)) && (x->pool == x->own->pool || x->pool == NO_POOL) &&
 	    !(x->state & ~any) && is_phase_right(x))

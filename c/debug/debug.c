@@ -300,7 +300,7 @@ bool ww_debug_is_stale(const struct ww_mutex *m)
 {
 	struct ww_pool *p = pool_at(m);
 
-	return p && !holder_with(p, m->number) && !owner_in(ww_look_from_outside(p, m));
+	return p && !holder_with(p, m->number) && !owner_of_word(look_at(p, m));
 }
 
 /* ---- classes ---- */

@@ -112,12 +112,6 @@ static inline struct watch *holder_with(const struct ww_pool *p, uint32_t number
 
 static inline bool is_seat_used(const struct watch *s) { return READ_ONCE(s->thread) || READ_ONCE(s->stamp); }
 
-/* The number of this thread, which no other has, nor had. */
-static inline uint64_t this_thread(void)
-{
-	ww_number_thread();
-	return ww_mine.thread;
-}
 /* The thread that calls by the seat now; 0 for a task. */
 static inline uint64_t user_of(const struct watch *s) { return READ_ONCE(s->is_polled) ? 0 : this_thread(); }
 

@@ -268,6 +268,14 @@ void ww_queue_grows(struct ww_seats *of)
 		report_leak(of);
 }
 
+/* Whoever is asked how long a sleep lasts may end it earlier, and never later. */
+static const struct timespec *earlier(const struct timespec *until, const struct timespec *at)
+{
+	bool is_before = until && (until->tv_sec != at->tv_sec ? until->tv_sec < at->tv_sec : until->tv_nsec < at->tv_nsec);
+
+	return is_before ? until : at;
+}
+
 const struct timespec *ww_debug_sleeps(const struct timespec *until)
 {
 	unsigned most = READ_ONCE(check_interval);
@@ -275,7 +283,7 @@ const struct timespec *ww_debug_sleeps(const struct timespec *until)
 	if (mine.seeks && is_stuck(mine.seeks, &mine.seeking))
 		report_leak(mine.seeks);
 	if (mine.seeks)
-		return &mine.seeking.is_long;
+		return earlier(until, &mine.seeking.is_long);
 	if (!mine.seat || !most)
 		return until;
 	if (ww_has_come(&mine.looks)) {
@@ -283,6 +291,6 @@ const struct timespec *ww_debug_sleeps(const struct timespec *until)
 		look_for_long_wait();
 		mine.looks = in_milliseconds(most);
 	}
-	return until ? until : &mine.looks; /* a nap at a guard ends at once */
+	return earlier(until, &mine.looks);
 }
 #endif

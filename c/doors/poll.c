@@ -5,6 +5,7 @@
 #define _GNU_SOURCE
 #define WW_NO_INLINE /* As mutex.c. */
 #include "poll.h"
+#include "../lock/loop.h"
 #include "../lock/mutex.h"
 #include <sys/syscall.h>
 #include <unistd.h>
@@ -15,13 +16,14 @@ int ww_may_poll(const char *call, struct ww_mutex *m, struct ww_acquire_ctx *x, 
 {
 	int r;
 
-	if (x && phase_of(x) == IN_POLL && x->call.of == m && x->call.what == what)
+	if (x && phase_of(x) == IN_POLL && x->own->asked == m && x->own->asks == what)
 		return 0;
 	r = ww_admit(call, CALL_POLL, m, x, NULL);
 	if (r)
 		return r;
 	NOTE(SEAT_POLLED, .seat = x->own);
-	x->call = (struct ww_call){ m, what };
+	x->own->asked = m;
+	x->own->asks = (uint8_t)what;
 	return 0;
 }
 
@@ -36,14 +38,16 @@ int ww_poll_on(struct ww_mutex *m, struct ww_acquire_ctx *x, struct ww_how how)
 	} else {
 		r = ww_lock_(&x->own->handle, m->number, false);
 		if (r > 0) {
-			x->polled = m;
-			x->state |= IS_POLLED;
+			x->polled = m; /* in the place of `prelocked`, which it doesn't owe any more if it could begin to wait */
+			x->state = (x->state & ~(unsigned)IS_PRELOCKED) | IS_POLLED;
 		}
 	}
 	r = ww_lock_on(m, x, x->own, r, &how);
 	if (r == -EINPROGRESS)
 		return r;
 	x->state &= ~(unsigned)IS_POLLED;
+	if (is_loop(x) && (!r || r == -EDEADLK))
+		(void)ww_result_in_loop(m, x, r);
 	NOTE(LOCK_RETURNS, .mutex = m, .context = x, .r = r);
 	return r;
 }
@@ -58,19 +62,20 @@ int ww_mutex_lock_poll(struct ww_mutex *m, struct ww_acquire_ctx *x, const struc
 /* What the call released at once it visited: that where the context got -EDEADLK, or a slot by which another reads. */
 int ww_acquire_end_wait(struct ww_acquire_ctx *x)
 {
-	struct ww_mutex *m = x->polled, *of = x->call.of;
-	bool visits = x->call.what == TO_AWAIT || (x->call.what == TO_WRITE && m != of);
+	ww_seat *s = x->own;
+	struct ww_mutex *m = x->polled, *of = s ? s->asked : NULL;
+	bool visits = s && (s->asks == TO_AWAIT || (s->asks == TO_WRITE && m != of));
 	int r;
 
-	if (!x->own || !is_polled(x))
-		return x->own ? 0 : -EINVAL;
+	if (!s || !is_polled(x))
+		return s ? 0 : -EINVAL;
 	r = ww_poll_on(m, x, (struct ww_how){ .asks = of, .visits = visits });
 	if (!r)
-		(void)(visits ? unlock_by(m, x->own) : ww_unlock_of(m, x));
-	if (x->call.what == TO_WRITE && m != of)
+		(void)(visits ? unlock_by(m, s) : ww_unlock_of(m, x));
+	if (s->asks == TO_WRITE && m != of)
 		(void)ww_unlock_of(of, x);
-	if (x->call.what == TO_READ && m == of && !x->own->slot->reads)
-		(void)ww_unlock_of(&x->own->slot->mutex, x);
+	if (s->asks == TO_READ && m == of && !s->slot->reads)
+		(void)ww_unlock_of(&s->slot->mutex, x);
 	return r == -ETIMEDOUT ? 0 : r;
 }
 

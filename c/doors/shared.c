@@ -165,7 +165,7 @@ COLD static int try_slot(struct ww_slot *slot, struct ww_acquire_ctx *x)
 	return r;
 }
 
-/* The context comes to its slot, as of which it may acquire, whatever it was told before. */
+/* The context comes to its slot, as of which it may acquire, whatever it was told before; that is told again if the read fails. */
 ALWAYS_INLINE int take_slot(struct ww_acquire_ctx *x, const struct ww_how how, bool tries)
 {
 	int r = LIKELY(x->own->slot) ? 0 : make_slot(x->own);
@@ -178,7 +178,8 @@ ALWAYS_INLINE int take_slot(struct ww_acquire_ctx *x, const struct ww_how how, b
 	if (UNLIKELY(r))
 		return r;
 	clear_marks(slot);
-	x->state &= ~(unsigned)IS_TOLD;
+	if (UNLIKELY(x->state & (IS_TOLD | WAS_TOLD)))
+		x->state = (x->state & ~(unsigned)(IS_TOLD | WAS_TOLD)) | (x->state & IS_TOLD ? WAS_TOLD : 0);
 	return 0;
 }
 
@@ -213,15 +214,18 @@ bool ww_shared_mutex_is_locked(const struct ww_shared_mutex *m)
 {
 	struct ww_pool *p = pool_at(&m->mutex_);
 
-	return p && !p->gone && ww_has_users(&p->numbers, m->mutex_.number, m);
+	return p && !p->gone && (look_at(p, &m->mutex_) || __atomic_load_n(&m->mutex_.waiters, __ATOMIC_SEQ_CST) & ~(IS_TAKEN | IS_OF_NUMBER) ||
+				 ww_is_read_by(p, m->mutex_.number, __atomic_load_n(&m->readers_, __ATOMIC_SEQ_CST)) ||
+				 look_at(p, &m->mutex_)); /* a reader may write it by now, and read it no more */
 }
 
 static bool reports_use(const struct ww_shared_mutex *m)
 {
-	bool is = ww_shared_mutex_is_locked(m);
+	struct ww_pool *p = pool_at(&m->mutex_);
+	bool is = p && !p->gone && ww_has_users(&p->numbers, m->mutex_.number, m);
 
 	if (is)
-		NOTE_MISUSE(pool_at(&m->mutex_)->class_, "ww_shared_mutex_destroy", "a context reads, holds or awaits the mutex");
+		NOTE_MISUSE(p->class_, "ww_shared_mutex_destroy", "a context reads, holds or awaits the mutex");
 	return is;
 }
 
@@ -314,8 +318,19 @@ COLD static int reads_in_turn(struct ww_shared_mutex *m, struct ww_acquire_ctx *
 			(void)ww_unlock_of(&m->mutex_, x);
 	} else if (r != -EINPROGRESS) {
 		leave_reads(x, x->own->slot->reads);
+		if (!x->own->slot->reads && x->state & WAS_TOLD)
+			x->state |= IS_TOLD;
 	}
 	return r;
+}
+
+/*
+ * Whether a trylock to read would fail as it stands.  It asks before it takes a step, since a context that waits for its own slot or
+ * comes to it has acquired something: so what it got -EDEADLK for, and what its loop has to do, would be forgotten.
+ */
+static bool is_vain_read(const struct ww_shared_mutex *m, struct ww_acquire_ctx *x)
+{
+	return !nobody_has(x, m->mutex_.number) && !ww_owns(x->own, m->mutex_.number) && !reads_it(x, &m->mutex_);
 }
 
 ALWAYS_INLINE int read_by(struct ww_shared_mutex *m, struct ww_acquire_ctx *x, struct ww_how how)
@@ -324,6 +339,8 @@ ALWAYS_INLINE int read_by(struct ww_shared_mutex *m, struct ww_acquire_ctx *x, s
 	struct ww_slot *slot;
 
 	how.asks = &m->mutex_;
+	if (LIKELY(!r) && how.who == NOBODY && is_vain_read(m, x))
+		return -EBUSY;
 	if (LIKELY(!r) && !holds_slot(x)) {
 		r = take_slot(x, how, false);
 	} else if (LIKELY(!r) && UNLIKELY(x->state & IS_TOLD)) {
@@ -342,7 +359,7 @@ ALWAYS_INLINE int read_by(struct ww_shared_mutex *m, struct ww_acquire_ctx *x, s
 
 int ww_shared_mutex_lock_shared(struct ww_shared_mutex *m, struct ww_acquire_ctx *x) { return read_by(m, x, BY_WAITING); }
 
-/* What a trylock returns: after it failed the loop is as it was before, though the trylock may have acquired something on its way. */
+/* What a trylock returns: after another thread came between a look and its step, the loop is as it was before all the same. */
 static int ended_try(struct ww_acquire_ctx *x, unsigned int tries, int r)
 {
 	if (r && tries)
@@ -415,22 +432,44 @@ COLD static int await_readers(struct ww_shared_mutex *m, struct ww_acquire_ctx *
 	return 0;
 }
 
+/* Whether others read it, so that a trylock to write would fail as it stands: the slot of each that has a mark is taken. */
+static bool is_vain_write(const struct ww_shared_mutex *m, const struct ww_acquire_ctx *x)
+{
+	const struct ww_pool *p = x->own->pool;
+
+	for (uint64_t bits = __atomic_load_n(&m->readers_, __ATOMIC_SEQ_CST); bits; bits &= bits - 1) {
+		struct ww_slot *slot = __atomic_load_n(&p->slots[__builtin_ctzll(bits)], __ATOMIC_SEQ_CST);
+
+		for (; slot; slot = slot->next) {
+			const uint64_t *marks = marks_at(slot, m->mutex_.number);
+
+			if (slot != x->own->slot && __atomic_load_n(marks, __ATOMIC_SEQ_CST) & mark_of(m->mutex_.number) && look_at(p, &slot->mutex))
+				return true;
+		}
+	}
+	return false;
+}
+
 /*
  * Acquires the mutex, and then waits for those who read it.  A poll that waits for one of them has the mutex, and goes
- * on at that slot.  In a loop that may ask twice the context may hold the mutex already, maybe by a call that waits for no
- * reader (ww_number_lock).  Who got no further than the mutex releases it, unless it had it before or waits by a poll.
+ * on at that slot.  In a loop the context may have the mutex already: one for which the loop has waited is asked for once nobody
+ * reads it; and a loop that may ask twice may hold it by a call that waits for no reader (ww_number_lock).  Who got no further than the
+ * mutex releases it, unless it had it before or waits by a poll; and if it was told -EDEADLK before, that is so again.
  */
 ALWAYS_INLINE int write_by(struct ww_shared_mutex *m, struct ww_acquire_ctx *x, struct ww_how how)
 {
 	int r = may_go_on("ww_shared_mutex_lock", m, x, how, TO_WRITE);
-	bool held = false;
+	bool owed, held = false;
 
 	how.asks = &m->mutex_;
 	if (UNLIKELY(r))
 		return r;
+	owed = owes_it(x, &m->mutex_) && ww_owns(x->own, m->mutex_.number);
+	if (how.who == NOBODY && is_vain_write(m, x))
+		return -EBUSY;
 	if (how.who == TASK && is_polled(x) && x->polled != &m->mutex_) {
 		r = await_slot((struct ww_slot *)(void *)x->polled, m->mutex_.number, x, how);
-	} else {
+	} else if (LIKELY(!owed)) {
 		held = UNLIKELY(x->state & WW_IGNORE_DUPLICATES) && holds_it(x, &m->mutex_);
 		r = !IS_DEBUG && LIKELY(lock_at_once(&m->mutex_, x)) ? 0 : acquire(&m->mutex_, x, how);
 		if (r)
@@ -438,8 +477,13 @@ ALWAYS_INLINE int write_by(struct ww_shared_mutex *m, struct ww_acquire_ctx *x, 
 	}
 	if (!r && UNLIKELY(__atomic_load_n(&m->readers_, __ATOMIC_SEQ_CST)))
 		r = await_readers(m, x, how);
-	if (UNLIKELY(r) && r != -EINPROGRESS && !held)
+	if (UNLIKELY(owed) && !r)
+		(void)ww_accept_held(x, &m->mutex_, false);
+	if (UNLIKELY(r) && r != -EINPROGRESS && !held && !owed) {
 		(void)ww_unlock_of(&m->mutex_, x);
+		if (r != -EDEADLK && x->state & IS_TOLD)
+			x->state |= WAS_TOLD;
+	}
 	return r;
 }
 
@@ -495,8 +539,16 @@ int ww_shared_mutex_unlock(struct ww_shared_mutex *m, struct ww_acquire_ctx *x)
 		return -EBUSY;
 	if (holds_it(x, &m->mutex_))
 		return ww_unlock_of(&m->mutex_, x);
+	NOTE_MISUSE(NULL, "ww_shared_mutex_unlock", "the context doesn't write the mutex");
+	return -EINVAL;
+}
+
+int ww_shared_mutex_unlock_shared(struct ww_shared_mutex *m, struct ww_acquire_ctx *x)
+{
+	if (is_polled(x))
+		return -EBUSY;
 	if (!reads_it(x, &m->mutex_)) {
-		NOTE_MISUSE(NULL, "ww_shared_mutex_unlock", "the context neither reads nor writes the mutex");
+		NOTE_MISUSE(NULL, "ww_shared_mutex_unlock_shared", "the context doesn't read the mutex");
 		return -EINVAL;
 	}
 	leave_reads(x, x->own->slot->reads - 1);

@@ -43,12 +43,6 @@ struct ww_mutex {
 	uint32_t waiters;
 };
 
-/* What a call of ww_poll.h asks for. */
-struct ww_call {
-	struct ww_mutex *of;
-	unsigned int what;
-};
-
 struct ww_acquire_ctx {
 	struct ww_pool *pool;		/* its class's, if its locks may be quick; no class's once it has ended, or if they have more to do */
 	struct ww_seat *own;		/* NULL once it has ended */
@@ -71,9 +65,6 @@ struct ww_acquire_ctx {
 		unsigned long stamp;	/* likewise */
 		uintptr_t words;	/* where the words of its class's mutexes lie, of which ww_mutex_lock fetches one ahead */
 	};
-	__extension__ union {		/* in a loop, and outside: */
-		void *empty_[2];	/* an empty handle: by it an unlock returns that it has more to do */
-		struct ww_call call;	/* IS_POLLED: which call waits */
-	};
+	void *empty_[2];		/* in a loop an empty handle: by it an unlock returns that it has more to do */
 };
 #endif

@@ -80,10 +80,13 @@ WW_MUST_CHECK int ww_shared_mutex_trylock(struct ww_shared_mutex *lock, struct w
 void ww_shared_mutex_downgrade(struct ww_shared_mutex *lock, struct ww_acquire_ctx *ctx);
 
 /*
- * Of a context that writes it: ends that; and else one of its reads.  Each lock call that returned 0, and trylock that returned 1,
- * needs one, or in a loop ww_acquire_unlock_all for all.  -EINVAL: the context neither writes nor reads it.
+ * Of a context that writes it: ends that, and no read.  -EINVAL: the context doesn't write it.  Each lock call to write that
+ * returned 0, also one that upgraded, and trylock that returned 1, needs one; or in a loop ww_acquire_unlock_all for all.  (With
+ * WW_IGNORE_DUPLICATES a lock call of what the context writes returns 0 and acquires nothing, so it needs none.)
  */
 int ww_shared_mutex_unlock(struct ww_shared_mutex *lock, struct ww_acquire_ctx *ctx);
+/* Of a context that reads it: ends one of its reads, and no write.  -EINVAL: it doesn't read it.  Each lock call to read needs one. */
+int ww_shared_mutex_unlock_shared(struct ww_shared_mutex *lock, struct ww_acquire_ctx *ctx);
 /* Ends all reads of the context. */
 void ww_acquire_end_reads(struct ww_acquire_ctx *ctx);
 /*
@@ -92,8 +95,8 @@ void ww_acquire_end_reads(struct ww_acquire_ctx *ctx);
  */
 WW_MUST_CHECK int ww_shared_mutex_await(struct ww_acquire_ctx *ctx, const struct timespec *monotonic);
 /*
- * Whether anybody reads or writes it, or waits for it, which may be out of date when it returns.  One that is free is taken for a
- * moment, as by a destroy.  In a child of a fork nobody does.  To wait until nobody reads or writes it, call ww_shared_mutex_lock and
+ * Whether anybody reads or writes it, or waits for it, which may be out of date when it returns.  In a child of a fork nobody does.
+ * To wait until nobody reads or writes it, call ww_shared_mutex_lock and
  * then ww_shared_mutex_unlock.
  */
 bool ww_shared_mutex_is_locked(const struct ww_shared_mutex *lock);
@@ -126,6 +129,7 @@ int ww_shared_mutex_end_(struct ww_shared_mutex *lock);
 #define ww_shared_mutex_trylock(...) (WW_HERE_, ww_shared_mutex_trylock(__VA_ARGS__))
 #define ww_shared_mutex_downgrade(...) (WW_HERE_, ww_shared_mutex_downgrade(__VA_ARGS__))
 #define ww_shared_mutex_unlock(...) (WW_HERE_, ww_shared_mutex_unlock(__VA_ARGS__))
+#define ww_shared_mutex_unlock_shared(...) (WW_HERE_, ww_shared_mutex_unlock_shared(__VA_ARGS__))
 #define ww_shared_mutex_await(...) (WW_HERE_, ww_shared_mutex_await(__VA_ARGS__))
 #define ww_shared_mutex_lock_shared_poll(...) (WW_HERE_, ww_shared_mutex_lock_shared_poll(__VA_ARGS__))
 #define ww_shared_mutex_lock_poll(...) (WW_HERE_, ww_shared_mutex_lock_poll(__VA_ARGS__))

@@ -215,5 +215,5 @@ bool ww_mutex_is_held_by(const struct ww_mutex *m, const struct ww_acquire_ctx *
 	const ww_seat *s = x ? __atomic_load_n(&x->own, __ATOMIC_RELAXED) : seat_of(m);
 	bool says_so = s && (x ? is_of_number(m) || holder_of(m) == x : is_used_here(s));
 
-	return says_so && pool_at(m) == s->pool && owner_in(ww_look_from_outside(s->pool, m)) == place_among(s);
+	return says_so && pool_at(m) == s->pool && owner_of_word(look_at(s->pool, m)) == place_among(s);
 }

@@ -36,6 +36,7 @@ enum {
 	IS_POLLED = 128, /* a lock call of ww_poll.h waits, for `polled` */
 	IS_PRELOCKED = 256, /* the context has waited for `prelocked`, for which the body has yet to ask */
 	IS_TOLD = 512, /* it got -EDEADLK, at `contending_lock`, since it came to its slot */
+	WAS_TOLD = 1024, /* so, but the proved library forgot that, by what a shared lock call acquired on its way before it failed */
 };
 
 /*
@@ -44,25 +45,29 @@ enum {
  *
  *	phase		own	pool		gives	bit of `state`		what comes next
  *	HAS_ENDED	NULL	any		any	any			a begin; memory of zeros is the same
+ *	IN_POLL		S	any		any	IS_POLLED		a poll of `polled`; any other call returns
+ *										-EBUSY, or ends the program
  *	BY_HAND		S	P, or NO_POOL	S	none			any call; with NO_POOL the seat rests, until
  *										its first lock shows how it acquires
- *	IN_POLL		S	likewise	S	IS_POLLED		a poll of `polled`; any other call returns
- *										-EBUSY, or ends the program
- *	LOOP_EASE	S	P		empty_	none			any call, but no poll and no list
- *	LOOP_OWES	S	NO_POOL		empty_	IS_PRELOCKED		a lock of `prelocked`
+ *	LOOP_EASE	S	P		empty_	none			any call
+ *	LOOP_OWES	S	NO_POOL		empty_	IS_PRELOCKED		a lock of `prelocked`, but no poll
  *	LOOP_FIRST	S	NO_POOL		empty_	WAITS_FIRST		a wait for `contending_lock`
  *	LOOP_TOLD	S	NO_POOL		empty_	HAS_TO_BACK_OFF		a back-off; it may owe `prelocked`, too
  *
  * The last four are those of a loop, of which loop.c has all that comes next; there what the context acquired is
- * listed.  In a list (lock_as_loop) it is as in a loop.  Flags, IS_DONE and IS_TOLD may come in each phase.
+ * listed.  In and behind a list of locks (list.c) a context is as in a loop.  Only BY_HAND nothing says what the context
+ * holds, since its unlocks are quick.  IN_POLL comes over each of the others but LOOP_OWES, to which it then returns.  Flags,
+ * IS_DONE, IS_TOLD and WAS_TOLD may come in each phase.
  */
-enum phase { HAS_ENDED, BY_HAND, IN_POLL, LOOP_EASE, LOOP_OWES, LOOP_FIRST, LOOP_TOLD };
+enum phase { HAS_ENDED, IN_POLL, BY_HAND, LOOP_EASE, LOOP_OWES, LOOP_FIRST, LOOP_TOLD };
 static inline enum phase phase_of(const struct ww_acquire_ctx *x)
 {
 	if (!x->own)
 		return HAS_ENDED;
+	if (x->state & IS_POLLED)
+		return IN_POLL;
 	if (x->gives == x->own)
-		return x->state & IS_POLLED ? IN_POLL : BY_HAND;
+		return BY_HAND;
 	return x->state & HAS_TO_BACK_OFF ? LOOP_TOLD : x->state & WAITS_FIRST ? LOOP_FIRST :
 		x->state & IS_PRELOCKED ? LOOP_OWES : LOOP_EASE;
 }
@@ -73,8 +78,8 @@ static inline bool is_loop(const struct ww_acquire_ctx *x) { return x->gives == 
 #define WAITS_BY_POLL "the context waits by a poll"
 
 /*
- * What a poll asks for, of `call.of`: only the same call goes on with a wait.  It waits for `polled`, which is that
- * mutex, or a slot on the way: its own to read, or another's to write, while it has the mutex.
+ * What a poll asks for (`asks` of the seat), of the mutex `asked`: only the same call goes on with a wait.  It waits for
+ * `polled`, which is that mutex, or a slot on the way: its own to read, or another's to write, while it has the mutex.
  */
 enum { TO_LOCK, TO_READ, TO_WRITE, TO_AWAIT };
 

@@ -1,7 +1,14 @@
-/* list.c - lists of mutexes, which a context locks together and backs off by itself, as in a loop (loop.c) that ends here. */
+/* list.c - lists of mutexes, which a context locks together and backs off by itself, as in a loop (loop.c). */
 #define _GNU_SOURCE
 #include "loop.h"
 #include "mutex.h"
+
+/* What a context held before a list, and had to do; and the mutex that it owed or had to wait for, or NULL. */
+struct before {
+	size_t held;
+	unsigned int tries;
+	struct ww_mutex *contending_lock, *waits_for;
+};
 
 /* Locks each, up to the first one that fails. */
 static inline int lock_each(struct ww_acquire_ctx *x, struct ww_mutex *const *locks, size_t count)
@@ -15,67 +22,61 @@ static inline int lock_each(struct ww_acquire_ctx *x, struct ww_mutex *const *lo
 	return 0;
 }
 
-/* Whether the context holds more than the list has. */
-static bool held_before(const struct ww_acquire_ctx *x)
-{
-	unsigned int listed = 0;
-
-	for (const struct ww_mutex *m = x->newest; m; m = m->older)
-		listed++;
-	return x->acquired > listed;
-}
-
-/*
- * Locks all in a loop, and backs off unless the context held something before: that it can't release.  r is what the last
- * lock by hand returned, or 0 if none was made; `newest` begins the list of what these have locked.
- */
-COLD static int lock_as_loop(struct ww_acquire_ctx *x, struct ww_mutex *const *locks, size_t count, int r)
-{
-	bool held = held_before(x);
-
-	begin_loop(x);
-	ww_become(x, TRIES, r == -EDEADLK ? HAS_TO_BACK_OFF : 0);
-	if (!r)
-		r = lock_each(x, locks, count);
-	while (r == -EDEADLK && !held) {
-		ww_back_off_(x);
-		r = lock_each(x, locks, count);
-	}
-	if (r)
-		ww_acquire_unlock_all(x);
-	x->gives = x->own;
-	ww_become(x, TRIES, 0);
-	return r;
-}
-
 /*
  * In a large class it fetches the words of all locks but the first into the cache together; otherwise each would come after
  * the step of the lock before.  For a mutex that has no number yet, or is of another class, what is fetched is of no use.
  * (The loads are atomic, since gcc would leave out plain ones that only serve a fetch.)
  */
-static inline void begin_list(struct ww_acquire_ctx *x, struct ww_mutex *const *locks, size_t count)
+static inline void fetch_each(const struct ww_acquire_ctx *x, struct ww_mutex *const *locks, size_t count)
 {
-	x->newest = NULL;
-	let_be_older(x);
 	if (UNLIKELY(__atomic_load_n(&x->own->pool->numbers.is_large, __ATOMIC_RELAXED)))
 		for (size_t k = 1; k < count; k++)
 			__builtin_prefetch(words_of(x->own) + 2 * (size_t)__atomic_load_n(&locks[k]->number, __ATOMIC_RELAXED), 1);
 }
 
-/* The quick way locks by hand, up to the first lock that fails.  With flags, which say more, all is as in a loop. */
+/*
+ * Goes on after an error: it backs off, unless the context held something before, which it can't release.  After any other error all
+ * is as it was before, also what a loop had to do: a mutex that it owed or waited for first is kept, unless the list asked for it.
+ */
+COLD static int retry(struct ww_acquire_ctx *x, struct ww_mutex *const *locks, size_t count, const struct before *before, int r)
+{
+	size_t left;
+
+	while (r == -EDEADLK && !before->held) {
+		ww_back_off_(x);
+		r = lock_each(x, locks, count);
+	}
+	if (!r)
+		return 0;
+	left = before->held + (ww_acquire_mark(x) != x->acquired && x->prelocked == before->waits_for);
+	while (x->acquired > left)
+		release_newest(x);
+	if (r != -EDEADLK) {
+		x->contending_lock = before->contending_lock;
+		ww_become(x, TRIES | IS_PRELOCKED, left > before->held ? IS_PRELOCKED : before->tries);
+	}
+	return r;
+}
+
+/* From now on the context lists what it holds, unless it holds something that it locked by itself: then it goes on so. */
 int ww_mutex_lock_all(struct ww_acquire_ctx *x, struct ww_mutex *const *locks, size_t count)
 {
-	bool is_quick = x && phase_of(x) == BY_HAND && !(x->state & FLAGS) && !IS_DEBUG;
-	int r;
+	bool begins = x && phase_of(x) == BY_HAND && !x->acquired;
+	int r = !IS_DEBUG && LIKELY(begins) ? 0 : ww_admit("ww_mutex_lock_all", CALL_LIST, NULL, x, NULL);
+	struct before before;
 
-	if (UNLIKELY(!is_quick)) {
-		r = ww_admit("ww_mutex_lock_all", CALL_LIST, NULL, x, NULL);
-		if (r)
-			return r;
-		begin_list(x, locks, count);
-		return lock_as_loop(x, locks, count, 0);
+	if (UNLIKELY(r))
+		return r;
+	before = (struct before){ .contending_lock = x->contending_lock };
+	if (LIKELY(begins)) {
+		begin_loop(x);
+		let_be_older(x);
+	} else {
+		before.held = ww_acquire_mark(x);
+		before.tries = x->state & TRIES;
+		before.waits_for = before.tries & WAITS_FIRST ? x->contending_lock : x->state & IS_PRELOCKED ? x->prelocked : NULL;
 	}
-	begin_list(x, locks, count);
+	fetch_each(x, locks, count);
 	r = lock_each(x, locks, count);
-	return LIKELY(!r) ? 0 : lock_as_loop(x, locks, count, r);
+	return LIKELY(!r) ? 0 : retry(x, locks, count, &before, r);
 }

@@ -57,7 +57,7 @@ static int lock_ends(struct ww_mutex *m, struct ww_acquire_ctx *x, ww_seat *s, i
 		count(&s->back_offs);
 		DTRACE_PROBE2(ww, back_off, m, x);
 		x->contending_lock = m;
-		x->state |= IS_TOLD;
+		x->state = (x->state | IS_TOLD) & ~(unsigned)WAS_TOLD;
 	}
 	if (r == -EINTR && !(x && __atomic_exchange_n(&x->cancelled, 0, __ATOMIC_SEQ_CST)) && !ww_ends_waits(s->pool))
 		r = -ETIMEDOUT;
@@ -127,23 +127,4 @@ bool ww_owns(ww_seat *s, uint32_t number)
 	if (r == -EBUSY && !s->pool->gone)
 		r = owner_in(ww_look_(&s->handle, number)) != place_among(s);
 	return !r;
-}
-
-/*
- * The look is that of the spare seat, which no context has: so it can be made even if all contexts are in use.  An
- * unlock's last access to the mutex comes before the step that releases its lock; so if it is free, all former holders
- * are through with it, and what they wrote is seen here.  In a forked child the spare seat may have been in use, which
- * nobody uses there.
- */
-int32_t ww_look_from_outside(struct ww_pool *p, const struct ww_mutex *m)
-{
-	int32_t seen;
-
-	if (!p->gone)
-		pthread_mutex_lock(&p->spare);
-	seen = ww_look_(&spare_of(p)->handle, m->number);
-	if (!p->gone)
-		pthread_mutex_unlock(&p->spare);
-	__tsan_acquire((void *)(uintptr_t)m);
-	return seen;
 }

@@ -64,16 +64,37 @@ static inline bool reads_it(const struct ww_acquire_ctx *x, const struct ww_mute
 static inline bool holds_it(const struct ww_acquire_ctx *x, const struct ww_mutex *m)
 {
 	/* who writes the mutex, and asks to read it, still holds it while it waits for its own slot */
-	if (!fits(m, x) || owes_it(x, m) || (is_polled(x) && x->call.of == m && (x->call.what != TO_READ || x->polled == m)))
+	if (!fits(m, x) || owes_it(x, m) || (is_polled(x) && x->own->asked == m && (x->own->asks != TO_READ || x->polled == m)))
 		return false;
 	return is_of_number(m) ? ww_owns(x->own, m->number) : holder_of(m) == x;
 }
 
 /*
- * What ww_look_ returns of the mutex's lock: 0 if it could be acquired; owner_in tells who has it.  That may be out of
- * date when it returns, unless nobody else uses the mutex.
+ * The owner word of a mutex's lock: 0 if nobody has it or waits for it.  So a look is a load, also if all contexts are in use.  It may
+ * be out of date when it returns, unless nobody else uses the mutex.  An unlock's last access to the mutex comes before the step that
+ * releases its lock; so if it is free, all former holders are through with it, and what they wrote is seen here.
  */
-WW_HIDDEN int32_t ww_look_from_outside(struct ww_pool *p, const struct ww_mutex *m);
+static inline uint64_t owner_word(const struct ww_pool *p, uint32_t number)
+{
+	const uint64_t *owners = (const uint64_t *)p->words;
+
+	return __atomic_load_n(&owners[2 * (size_t)number], __ATOMIC_SEQ_CST);
+}
+static inline uint64_t look_at(const struct ww_pool *p, const struct ww_mutex *m)
+{
+	uint64_t word = owner_word(p, m->number);
+
+	__tsan_acquire((void *)(uintptr_t)m);
+	return word;
+}
+
+/* 1 more than the number of the seat in an owner word, or 0: crates/ww_word has its bits, and tests/base/numbers.c compares them. */
+static inline uint32_t owner_of_word(uint64_t word)
+{
+	bool is_wide = 0xD4 >> word % 8 & 1;
+
+	return is_wide ? 1 + word / 8 % 4096 : word / 8 % 32;
+}
 
 /* ---- locks ---- */
 

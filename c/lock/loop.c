@@ -75,6 +75,11 @@ static bool owes(const struct ww_acquire_ctx *x)
 
 size_t ww_acquire_mark(const struct ww_acquire_ctx *x) { return x->acquired - owes(x); }
 
+COLD __attribute__((noreturn)) static void end_unreleased(const struct ww_acquire_ctx *x, const char *call)
+{
+	end_of(x->own->pool->class_, call, is_polled(x) ? WAITS_BY_POLL : "nobody holds the mutex");
+}
+
 void ww_acquire_unlock_to(struct ww_acquire_ctx *x, size_t mark)
 {
 	if (!is_loop(x))
@@ -83,55 +88,46 @@ void ww_acquire_unlock_to(struct ww_acquire_ctx *x, size_t mark)
 		ww_acquire_unlock_all(x);
 	else
 		for (size_t left = mark + owes(x); x->acquired > left;)
-			if (ww_unlock_of(x->newest, x))
-				end("ww_acquire_unlock_to", "nobody holds the mutex");
+			if (release_newest(x))
+				end_unreleased(x, "ww_acquire_unlock_to");
 }
 
-/* What comes next in the list is read before the unlock: after that another thread may free the mutex's memory. */
 static inline void release_newest_first(struct ww_acquire_ctx *x)
 {
-	struct ww_mutex *m;
+	while (x->newest)
+		if (UNLIKELY(release_newest(x)))
+			end_unreleased(x, "ww_acquire_unlock_all");
+}
 
-	while ((m = x->newest)) {
-		x->newest = m->older;
-		if (UNLIKELY(unlock_unlisted(m, x)))
-			end("ww_acquire_unlock_all", "nobody holds the mutex");
+/*
+ * What the context holds by hand it doesn't know: unlocks are quick there, and take nothing out of a list.  What it owes or waits for
+ * first is told to no poll.
+ */
+COLD static void unlocks_no_more(struct ww_acquire_ctx *x)
+{
+	if (is_polled(x))
+		end_of(x->own->pool->class_, "ww_acquire_unlock_all", WAITS_BY_POLL);
+	if (!is_loop(x) && x->acquired)
+		end_of(x->own->pool->class_, "ww_acquire_unlock_all", "the context holds what it locked by itself, without a loop");
+	if (x->state & (WAITS_FIRST | IS_PRELOCKED)) {
+		ww_become(x, WAITS_FIRST | IS_PRELOCKED, 0);
+		NOTE(WAIT_TAKEN_BACK, .context = x);
 	}
 }
 
 /*
- * Outside ww_until_all_locked nothing lists what a context holds, since an unlock takes nothing out of a list there.  So all
- * its reads end first, by its reader slot; and then the proved library is asked, for each number of the class whose lock
- * somebody has, whether the context's seat has that.
- */
-COLD static void release_by_numbers(struct ww_acquire_ctx *x)
-{
-	const uint64_t *owners = words_of(x->own);
-
-	if (is_polled(x))
-		end_of(x->own->pool->class_, "ww_acquire_unlock_all", WAITS_BY_POLL);
-	if (holds_slot(x))
-		(void)ww_unlock_of(&x->own->slot->mutex, x);
-	for (uint32_t n = 0; x->acquired && n < x->own->pool->numbers.locks; n++)
-		if (__atomic_load_n(&owners[2 * (size_t)n], __ATOMIC_RELAXED) && !ww_has_(&x->own->handle, n))
-			(void)ww_unlock_of(mutex_with(&x->own->pool->numbers, n), x);
-}
-
-/*
- * In a loop the context doesn't wait for the contended mutex any more, since that may have been destroyed; and it owes none.
- * One that has ended in a loop holds nothing.
+ * The context doesn't wait for the contended mutex any more, since that may have been destroyed; and it owes none.  One that has
+ * ended holds nothing.
  */
 void ww_acquire_unlock_all(struct ww_acquire_ctx *x)
 {
 	if (LIKELY(is_loop(x))) {
 		release_newest_first(x);
-		if (UNLIKELY(x->state & (WAITS_FIRST | IS_PRELOCKED)) && x->own) {
-			ww_become(x, WAITS_FIRST | IS_PRELOCKED, 0);
-			NOTE(WAIT_TAKEN_BACK, .context = x);
-		}
-	} else if (x->own) {
-		release_by_numbers(x);
+		if (LIKELY(!(x->state & (WAITS_FIRST | IS_PRELOCKED | IS_POLLED))))
+			return;
 	}
+	if (x->own)
+		unlocks_no_more(x);
 }
 
 /* ---- its locks ---- */
@@ -208,7 +204,6 @@ COLD static void begin_loop_else(struct ww_acquire_ctx *x)
 
 struct ww_acquire_ctx *ww_tries_begin_(struct ww_acquire_ctx *x)
 {
-	x->newest = NULL;
 	begin_loop(x);
 	if (UNLIKELY(!x->own || x->acquired | x->state))
 		begin_loop_else(x);
@@ -221,6 +216,8 @@ COLD void ww_back_off_(struct ww_acquire_ctx *x)
 {
 	if (!ww_is_contended(x))
 		return;
+	if (is_polled(x))
+		end("ww_retry_on_contention", WAITS_BY_POLL);
 	release_newest_first(x);
 	ww_become(x, HAS_TO_BACK_OFF | IS_PRELOCKED, WAITS_FIRST);
 }

@@ -5,11 +5,20 @@
 
 /* Clears and sets bits of a context's state, and opens or closes the quick way of its lock calls. */
 WW_HIDDEN void ww_become(struct ww_acquire_ctx *x, unsigned int not, unsigned int now);
-/* From now on a list has what the context acquired, and an unlock takes the mutex out of it. */
+/* From now on a list has what the context acquires, and an unlock takes the mutex out of it. */
 static inline void begin_loop(struct ww_acquire_ctx *x)
 {
+	x->newest = NULL;
 	x->empty_[0] = x->empty_[1] = NULL;
 	x->gives = x->empty_;
+}
+/* What comes next in the list is read before the unlock: after that another thread may free the mutex's memory. */
+static inline int release_newest(struct ww_acquire_ctx *x)
+{
+	struct ww_mutex *m = x->newest;
+
+	x->newest = m->older;
+	return unlock_unlisted(m, x);
 }
 /* The context retries by itself, so it may share an age. */
 static inline void let_be_older(struct ww_acquire_ctx *x)

@@ -61,7 +61,7 @@ bool ww_mutex_is_locked(struct ww_mutex *m)
 {
 	struct ww_pool *p = pool_at(m);
 
-	return p && ww_look_from_outside(p, m);
+	return p && look_at(p, m);
 }
 
 /*
@@ -70,7 +70,7 @@ bool ww_mutex_is_locked(struct ww_mutex *m)
  *
  *	one that waited (ww_lock_on)	one that releases it		one that destroys it
  *	its lock is acquired		ctx or alone = NULL		waiters?
- *	waiters--			ww_unlock_, the last access	ww_look_from_outside
+ *	waiters--			ww_unlock_, the last access	look_at
  *
  * In a forked child nobody uses the mutex any more, and its number isn't given.
  */
@@ -84,7 +84,7 @@ int ww_end_mutex(struct ww_mutex *m, void (*gives)(struct ww_numbers *n, uint32_
 		*m = (struct ww_mutex){ .class_ = p->class_ };
 		return 0;
 	}
-	if (__atomic_load_n(&m->waiters, __ATOMIC_SEQ_CST) || ww_look_from_outside(p, m)) {
+	if (__atomic_load_n(&m->waiters, __ATOMIC_SEQ_CST) || look_at(p, m)) {
 		NOTE_MISUSE(p->class_, "ww_mutex_destroy", "somebody holds the mutex, or waits for it");
 		return -EBUSY;
 	}
@@ -129,7 +129,7 @@ static int check_call(enum lock_call call, struct ww_mutex *m, const struct ww_a
 	*why = !is_timely ? "the time is none" :
 		phase == HAS_ENDED ? (x ? "the context has ended" : "there is no context") :
 		phase == IN_POLL ? WAITS_BY_POLL :
-		phase >= LOOP_EASE && (call == CALL_LIST || call == CALL_POLL) ? "the context is in or behind ww_until_all_locked" :
+		phase == LOOP_OWES && call == CALL_POLL ? "the context waited for a mutex that it has yet to lock" :
 		call == CALL_SLOW && !(x->state & IS_TOLD) ? not_due : NULL;
 	if (*why)
 		return is_timely && phase == IN_POLL ? -EBUSY : -EINVAL;
@@ -206,7 +206,7 @@ int ww_mutex_lock_further_(struct ww_mutex *m, struct ww_acquire_ctx *x, int r)
 
 /*
  * In a loop this is the wait that the loop would begin with, or a misuse.  The proved library doesn't know of an -EDEADLK
- * that the debug library made up, so after that it is asked for a plain lock.
+ * that the debug library made up, or that a shared lock call in vain made it forget, so after that it is asked for a plain lock.
  */
 int ww_lock_slowly(struct ww_mutex *m, struct ww_acquire_ctx *x, const struct ww_how *how)
 {
@@ -215,7 +215,7 @@ int ww_lock_slowly(struct ww_mutex *m, struct ww_acquire_ctx *x, const struct ww
 
 	if (r)
 		return r;
-	r = ww_debug_has_injected(m, x) ? ww_try_(&x->own->handle, m->number) :
+	r = ww_debug_has_injected(m, x) || (x->state & WAS_TOLD && m == x->contending_lock && !x->acquired) ? ww_try_(&x->own->handle, m->number) :
 		ww_lock_slow_(&x->own->handle, m->number, false);
 	r = ww_lock_on(m, x, x->own, r, how);
 	return is_loop(x) ? ww_result_in_loop(m, x, r) : r;

@@ -11,7 +11,7 @@
  *	the time is one				of all				-EINVAL
  *	there is a context, and it hasn't ended	of all but locks without one	-EINVAL
  *	it doesn't wait by a poll		likewise			-EBUSY, a trylock 0
- *	it is in no loop, nor behind one	of lists and polls		-EINVAL
+ *	it owes nothing, in a loop		of polls			-EINVAL
  *	it got -EDEADLK				of slow locks			-EINVAL
  *	there is a mutex, of the same class	of all; each of a list by itself	-EINVAL
  *	it has its number, or gets it		likewise			-ENOSPC, -ENOMEM, -EINVAL

@@ -5,21 +5,17 @@
 #define _GNU_SOURCE
 #include "used.h"
 
-/*
- * Whether a context reads it, by a slot with one of these bits: its seat has the slot, as the spare seat sees, and there
- * is a read, so the mark is from that.
- */
-static bool is_read_by(struct ww_pool *p, uint32_t number, uint64_t bits)
+/* Whether a context reads it, by a slot with one of these bits: its seat has the slot, and there is a read, so the mark is from that. */
+bool ww_is_read_by(struct ww_pool *p, uint32_t number, uint64_t bits)
 {
 	for (; bits; bits &= bits - 1) {
 		struct ww_slot *slot = __atomic_load_n(&p->slots[__builtin_ctzll(bits)], __ATOMIC_SEQ_CST);
 
 		for (; slot; slot = slot->next) {
-			int32_t seen = ww_look_(&spare_of(p)->handle, slot->mutex.number);
+			uint32_t owner = owner_of_word(look_at(p, &slot->mutex));
 			const uint64_t *marks = marks_at(slot, number);
 
-			__tsan_acquire(&slot->mutex);
-			if (seen == (int32_t)slot->seat + 1 && __atomic_load_n(&slot->reads, __ATOMIC_ACQUIRE) &&
+			if (owner == slot->seat + 1 && __atomic_load_n(&slot->reads, __ATOMIC_ACQUIRE) &&
 			    __atomic_load_n(marks, __ATOMIC_ACQUIRE) & mark_of(number))
 				return true;
 		}
@@ -39,11 +35,13 @@ bool ww_has_users(struct ww_numbers *n, uint32_t number, const void *of)
 	struct ww_waker waker = { 0 };
 	bool is;
 
+	if (owner_word(p, number))
+		return true;
 	pthread_mutex_lock(&p->spare);
 	is = ww_try_(&spare->handle, number);
 	if (!is) {
 		is = (m && __atomic_load_n(&m->mutex_.waiters, __ATOMIC_SEQ_CST) & ~(IS_TAKEN | IS_OF_NUMBER)) ||
-		     is_read_by(p, number, m ? __atomic_load_n(&m->readers_, __ATOMIC_SEQ_CST) : UINT64_MAX);
+		     ww_is_read_by(p, number, m ? __atomic_load_n(&m->readers_, __ATOMIC_SEQ_CST) : UINT64_MAX);
 		waker = ww_give_back(spare, number);
 	}
 	pthread_mutex_unlock(&p->spare);

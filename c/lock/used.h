@@ -4,6 +4,8 @@
 #include "lock.h"
 #include "ww_shared.h"
 
+/* Whether a context reads the mutex of this number by a slot with one of these bits. */
+WW_HIDDEN bool ww_is_read_by(struct ww_pool *p, uint32_t number, uint64_t bits);
 /*
  * Whether somebody has the mutex of this number, a struct ww_shared_mutex or a slot's, waits for it or reads it.  NULL:
  * its memory is gone.

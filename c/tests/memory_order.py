@@ -302,8 +302,8 @@ TABLE = {
     # By it others look who uses the seat, which was said before.
     "alone": {"seat_of": "load acq", "note_holder": "store rel", "unlock_alone": "store rlx"},
     # By what lies there before, the words that a list fetches ahead are of no use, and nothing else.
-    "number": {"ww_number_at_first": "store rlx", "begin_list": "load rlx"},
-    "is_large": {"ww_open_numbers": "store rlx", "find_number": "store rlx", "begin_list": "load rlx"},
+    "number": {"ww_number_at_first": "store rlx", "fetch_each": "load rlx"},
+    "is_large": {"ww_open_numbers": "store rlx", "find_number": "store rlx", "fetch_each": "load rlx"},
     # It lies in the place of that, and others see that it is even.
     "older": {"WW_HOLDS_": "store rlx", "enlist": "store rlx", "list_behind": "store rlx, store rlx"},
     "link": {"unlist": "store rlx"},
@@ -311,7 +311,7 @@ TABLE = {
     # A waiter says first that it holds the mutex, and then that it waits no more; who destroys looks the other way round.
     # Of one that is known by its number also that this is taken, which nobody asks for before.
     "waiters": {
-        "ww_end_mutex": "load sc", "ww_has_users": "load sc", "count_waiter": "fetch_add sc, fetch_add sc",
+        "ww_end_mutex": "load sc", "ww_has_users": "load sc", "ww_shared_mutex_is_locked": "load sc", "count_waiter": "fetch_add sc, fetch_add sc",
         "lock_by_any": "fetch_add sc, fetch_sub sc", "put_number": "load sc, fetch_and sc", "wait_first": "load sc",
         "ww_number_take": "store rlx, fetch_add rlx",
         "is_slot": "load rlx", # which it always is
@@ -323,16 +323,17 @@ TABLE = {
     "readers_": {
         "reads_at_once": "load sc, fetch_or sc, load sc", "read_held": "fetch_or sc",
         "await_readers": "load sc, fetch_and sc", "write_by": "load sc", "ww_has_users": "load sc",
+        "is_vain_write": "load sc", "ww_shared_mutex_is_locked": "load sc",
     },
-    "slots": {"make_slot": "store sc", "is_read_by": "load sc", "await_readers": "load sc", "slot_at": "load sc"},
+    "slots": {"make_slot": "store sc", "ww_is_read_by": "load sc", "await_readers": "load sc", "is_vain_write": "load sc", "slot_at": "load sc"},
     # What was read comes before a mark that is gone. Others than its own thread look at marks alone.
     "marks": {
         "mark": "load rlx, exchange sc", "unmark": "load rlx, store rel", "clear_marks": "store rel", "await_slot": "load sc",
-        "is_read_by": "load acq", "has_mark": "load rlx",
+        "ww_is_read_by": "load acq", "is_vain_write": "load sc", "has_mark": "load rlx",
     },
     # Whoever sees a read sees that the marks from before it are gone.
     "reads": {
-        "take_slot": "store rlx", "add_read": "store rel", "is_read_by": "load acq",
+        "take_slot": "store rlx", "add_read": "store rel", "ww_is_read_by": "load acq",
         "leave_reads": "store rlx",
     },
     # All of an open class; and of a mutex the number, which its first lock may just have given it.
@@ -343,7 +344,7 @@ TABLE = {
         "ww_mutex_trylock": "load acq", "ww_end_mutex": "store rel", "ww_number_take": "store rel",
     },
     # The proved library's, of which a lock's owner sees at least what it wrote there itself. A reader looks as that library does.
-    "owners": {"release_by_numbers": "load rlx", "nobody_has": "load sc"},
+    "owners": {"owner_word": "load sc", "nobody_has": "load sc"},
     # What its mutex was by then comes before a number that is left; whom to ask of it is always the same.
     "left": {"ww_leave_used": "fetch_or rel", "ww_reclaim_numbers": "exchange acq"},
     "is_used": {"ww_reclaim_numbers": "load rlx", "ww_leave_used": "store rlx"},

@@ -265,6 +265,8 @@ static void uses_all(void)
 	for (unsigned k = 0; k < ALL_CONTEXTS; k++)
 		MUST(!ww_acquire_init_checked(&x[k], &c));
 	MUST(ww_acquire_init_checked(&(struct ww_acquire_ctx){ 0 }, &c) == -EAGAIN);
+	for (unsigned k = 0; k < 3; k++)
+		ww_acquire_begin_tries(&x[k]);
 	MUST(!ww_mutex_lock(&m, &x[0]) && !ww_number_lock(number, &x[1]) && !ww_shared_mutex_lock(&read_first, &x[2]));
 	MUST(ww_mutex_is_locked(&m) && !ww_mutex_trylock(&m, &x[3]));
 	for (unsigned k = 0; k < ALL_CONTEXTS; k++) {
@@ -406,7 +408,7 @@ static void child_of_readers(struct ww_acquire_ctx *x, unsigned way)
 	ww_shared_mutex_init(&shared[0], &c);
 	ww_acquire_init(x, &c);
 	MUST(!ww_shared_mutex_lock_shared(&shared[0], x) && !ww_shared_mutex_lock(&shared[0], x));
-	MUST(!ww_shared_mutex_unlock(&shared[0], x) && !ww_shared_mutex_unlock(&shared[0], x));
+	MUST(!ww_shared_mutex_unlock(&shared[0], x) && !ww_shared_mutex_unlock_shared(&shared[0], x));
 	ww_acquire_fini(x);
 	_exit(ww_shared_mutex_destroy(&shared[0]) || ww_class_free(&c));
 }
@@ -430,8 +432,8 @@ static void among_readers(void)
 		MUST(child >= 0);
 		if (!child)
 			child_of_readers(&x, k);
-		MUST(waitpid(child, &status, 0) == child && !status);
-		ww_acquire_unlock_all(&x);
+		MUST(waitpid(child, &status, 0) == child && !status && !ww_shared_mutex_unlock(&shared[AMONG_THREADS + 1], &x));
+		ww_acquire_end_reads(&x);
 		ww_acquire_fini(&x);
 	}
 	__atomic_store_n(&is_over, 1, __ATOMIC_RELAXED);

@@ -5,7 +5,7 @@
  * once; and a fork at any moment leaves a child that works.
  */
 #include "../mutex_test.h"
-#include "../../lock/context.h"
+#include "../../lock/lock.h"
 #include "ww_number.h"
 #include <sys/wait.h>
 
@@ -235,6 +235,56 @@ static void are_low(uint32_t count)
 /* By the word that a list of many fetches ahead. */
 static bool looks_free(const struct ww_mutex *m) { return !words_of(m->pool->seats)[2 * (size_t)m->number]; }
 
+static struct ww_mutex owned;
+
+static void *waits_for_it(void *arg)
+{
+	ww_mutex_lock(&owned, NULL);
+	ww_mutex_unlock(&owned);
+	return arg;
+}
+
+/* Who owns a lock is read off its word as the library says it. */
+static void word_says(ww_seat *s)
+{
+	uint64_t word = look_at(owned.pool, &owned);
+
+	MUST(owner_of_word(word) == place_among(s) && owner_of_word(word) == owner_in(ww_look_(&s->handle, owned.number)));
+}
+
+/* By each seat of a class of few and of many, with a context and without one, and with somebody who waits for it. */
+static void words_say_owners(uint32_t contexts)
+{
+	static struct ww_acquire_ctx all[4094];
+
+	MUST(!ww_class_limit(&few, 64, contexts));
+	ww_mutex_init(&owned, &few);
+	for (uint32_t k = 0; k + 1 < contexts; k++)
+		ww_acquire_init(&all[k], &few);
+	for (uint32_t k = 0; k + 1 < contexts; k++) {
+		ww_seat *s = all[k].own;
+		pthread_t thread;
+
+		MUST(!look_at(owned.pool, &owned) && !owner_of_word(0) && !ww_mutex_lock(&owned, &all[k]));
+		word_says(s);
+		if (k < 3 || (k > 13 && k < 19)) {
+			thread = begin_thread(waits_for_it, NULL);
+			awaits_waiter(&owned);
+			word_says(s);
+			ww_mutex_unlock(&owned);
+			end_thread(thread);
+		} else {
+			ww_mutex_unlock(&owned);
+		}
+		ww_mutex_lock(&owned, NULL);
+		word_says(seat_of(&owned));
+		ww_mutex_unlock(&owned);
+	}
+	for (uint32_t k = 0; k + 1 < contexts; k++)
+		ww_acquire_fini(&all[k]);
+	MUST(!ww_mutex_destroy(&owned) && !ww_class_free(&few));
+}
+
 /* A few of a million: the first and the last ones, and where a second one begins to share a line. */
 static void a_million(void)
 {
@@ -414,6 +464,9 @@ int main(int count, char **words)
 	are_low(1);
 	are_low(1027);
 	are_low(5000);
+	words_say_owners(2);
+	words_say_owners(17);
+	words_say_owners(4094);
 	a_million();
 	opened_by_all();
 	forks_beside_opening();

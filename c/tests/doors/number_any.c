@@ -62,9 +62,10 @@ static void gives(struct mine *m, unsigned n)
 
 static void gives_all(struct mine *m)
 {
-	ww_acquire_unlock_all(m->x);
-	for (unsigned n = 0; n < MUTEXES; n++)
+	for (unsigned n = 0; n < MUTEXES; n++) {
+		MUST(!m->own[n] || !ww_number_unlock(numbers[n], m->x));
 		gives(m, n);
+	}
 	MUST(!m->x->acquired);
 }
 

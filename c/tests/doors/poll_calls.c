@@ -615,7 +615,40 @@ static void in_a_child(void)
 	ends(&x);
 }
 
-static void by_numbers_and_not_in_loops(void)
+/*
+ * In a loop a poll is listed as any other lock, so one call releases all that the context holds, and nothing of what it waits for.  A
+ * poll that got -EDEADLK is told so as any lock call; the next one waits for the contended mutex by itself.
+ */
+static void by_polls_in_a_loop(void)
+{
+	int calls;
+	struct ww_waker w = counts_in(&calls);
+
+	begins(&y);
+	begins(&x);
+	MUST(!ww_number_lock(number, &y));
+	ww_acquire_begin_tries(&x);
+	MUST(!ww_mutex_lock_poll(&m[0], &x, &w) && !ww_mutex_lock_poll(&m[1], &x, NULL) && ww_mutex_lock_poll(&m[0], &x, &w) == -EALREADY);
+	MUST(x.acquired == 2 && ww_acquire_mark(&x) == 2);
+	if (c->is_wait_die) {
+		MUST(ww_mutex_lock_poll(mutex_at(number), &x, &w) == -EDEADLK && ww_is_contended(&x));
+		MUST(ww_mutex_lock_poll(mutex_at(number), &x, &w) == -EINVAL && ww_is_contended(&x));
+		ww_acquire_unlock_all(&x);
+	} else {
+		MUST(ww_mutex_lock_poll(mutex_at(number), &x, &w) == -EINPROGRESS && !ww_acquire_end_wait(&x) && x.acquired == 2);
+		ww_acquire_unlock_to(&x, 0);
+	}
+	MUST(!x.acquired && !ww_mutex_is_locked(&m[0]) && !ww_mutex_is_locked(&m[1]));
+	MUST(ww_mutex_lock_poll(mutex_at(number), &x, &w) == -EINPROGRESS && ww_number_lock(number, &x) == -EBUSY && !ww_number_trylock(number, &x));
+	MUST(ww_is_contended(&x) == c->is_wait_die && !ww_number_unlock(number, &y) && calls == 1);
+	MUST(!ww_mutex_lock_poll(mutex_at(number), &x, &w) && !ww_is_contended(&x) && x.acquired == 1);
+	MUST(!ww_number_unlock(number, &x) && !x.acquired && !ww_mutex_lock(&m[0], &x) && !ww_mutex_lock_poll(&m[1], &x, &w));
+	MUST(!ww_acquire_end_try(&x) && !x.acquired);
+	ends(&x);
+	ends(&y);
+}
+
+static void by_numbers(void)
 {
 	int calls;
 	struct ww_waker w = counts_in(&calls);
@@ -633,10 +666,6 @@ static void by_numbers_and_not_in_loops(void)
 	ends(&y);
 	MUST(ww_mutex_lock_poll(&m[0], &y, &w) == -EINVAL && ww_mutex_lock_poll(mutex_at(number), &y, &w) == -EINVAL);
 	MUST(!ww_poll_take_back(&y, NULL));
-	begins(&x);
-	ww_until_all_locked(&x)
-		MUST(ww_mutex_lock_poll(&m[0], &x, &w) == -EINVAL);
-	ends(&x);
 }
 
 /*
@@ -868,7 +897,8 @@ static void all(struct ww_class *of)
 	wait_ends();
 	backs_off();
 	waits_for_a_context();
-	by_numbers_and_not_in_loops();
+	by_numbers();
+	by_polls_in_a_loop();
 	beside_threads();
 	by_event_loops();
 	for (unsigned k = 0; k < 3; k++)

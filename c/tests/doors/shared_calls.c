@@ -45,7 +45,11 @@ static void end_both(void)
 
 static int reads(struct ww_shared_mutex *it, struct ww_acquire_ctx *by) { return ww_shared_mutex_lock_shared(it, by); }
 static int writes(struct ww_shared_mutex *it, struct ww_acquire_ctx *by) { return ww_shared_mutex_lock(it, by); }
-static void unlocks(struct ww_shared_mutex *it, struct ww_acquire_ctx *by) { MUST(!ww_shared_mutex_unlock(it, by)); }
+/* One unlock ends one thing, and what the other one ends it refuses: of a mutex that is written and read, first the write. */
+static void unlocks(struct ww_shared_mutex *it, struct ww_acquire_ctx *by)
+{
+	MUST(!(ww_shared_mutex_is_written_by(it, by) ? ww_shared_mutex_unlock(it, by) : ww_shared_mutex_unlock_shared(it, by)));
+}
 
 /* How many calls the debug library has reported, in its own build. */
 static unsigned long faults(void)
@@ -127,9 +131,9 @@ static void each_read_has_an_unlock(void)
 	begin_both();
 	MUST(!reads(&m, &x) && !reads(&m, &x) && can_read(&m, &x));
 	unlocks(&m, &x);
-	MUST(!can_write(&m, &y) && ww_shared_mutex_unlock(&n, &x) == -EINVAL);
+	MUST(!can_write(&m, &y) && ww_shared_mutex_unlock_shared(&n, &x) == -EINVAL);
 	unlocks(&m, &x);
-	MUST(can_write(&m, &y) && ww_shared_mutex_unlock(&m, &x) == -EINVAL && ww_shared_mutex_unlock(&n, &x) == -EINVAL);
+	MUST(can_write(&m, &y) && ww_shared_mutex_unlock_shared(&m, &x) == -EINVAL && ww_shared_mutex_unlock(&n, &x) == -EINVAL);
 	MUST(faults() == before + 3 * TOLD);
 	end_both();
 }
@@ -249,7 +253,7 @@ static void *upgrade(void *arg)
 		MUST(r == -EDEADLK && !ctx->acquired && !ww_shared_mutex_await(ctx, NULL));
 		r = writes(&m, ctx);
 		if (!r)
-			MUST(!ww_shared_mutex_unlock(&m, ctx));
+			MUST(ww_shared_mutex_unlock_shared(&m, ctx) == -EINVAL && !ww_shared_mutex_unlock(&m, ctx));
 	}
 	return NULL;
 }
@@ -491,12 +495,13 @@ static void others_are_not_read(void)
 	begin_both();
 	MUST(!reads(&m, &x) && !reads(&n, &x));
 	never.mutex_.number = m.mutex_.number;
-	MUST(!ww_shared_mutex_is_read_by(&never, &x) && !ww_shared_mutex_is_written_by(&never, &x) && ww_shared_mutex_unlock(&never, &x) == -EINVAL);
+	MUST(!ww_shared_mutex_is_read_by(&never, &x) && !ww_shared_mutex_is_written_by(&never, &x) && ww_shared_mutex_unlock(&never, &x) == -EINVAL &&
+	     ww_shared_mutex_unlock_shared(&never, &x) == -EINVAL);
 	ww_shared_mutex_init(&other, &other_class);
 	ww_acquire_init(&alone, &other_class);
 	number = other.mutex_.number;
 	other.mutex_.number = m.mutex_.number;
-	MUST(!ww_shared_mutex_is_read_by(&other, &x) && ww_shared_mutex_unlock(&other, &x) == -EINVAL && ww_shared_mutex_unlock(&m, &alone) == -EINVAL);
+	MUST(!ww_shared_mutex_is_read_by(&other, &x) && ww_shared_mutex_unlock_shared(&other, &x) == -EINVAL && ww_shared_mutex_unlock_shared(&m, &alone) == -EINVAL);
 	other.mutex_.number = number;
 	ww_acquire_fini(&alone);
 	MUST(x.acquired == 1 && !can_write(&m, &y) && !can_write(&n, &y) && faults() == before + 3 * TOLD);
@@ -655,7 +660,7 @@ static void refuse_others_amid_a_poll(void)
 	MUST(was_called() && !ww_mutex_lock_poll(&plain, &x, &waker));
 	ww_mutex_unlock(&plain);
 	MUST(!writes(&m, &y) && !reads(&n, &x) && !reads(&n, &x) && polls_read(&m, &x) == -EINPROGRESS && reads(&n, &x) == -EBUSY);
-	MUST(ww_shared_mutex_unlock(&n, &x) == -EBUSY);
+	MUST(ww_shared_mutex_unlock(&n, &x) == -EBUSY && ww_shared_mutex_unlock_shared(&n, &x) == -EBUSY);
 	MUST(ww_shared_mutex_lock_shared_poll(&m, &x, NULL) == -ETIMEDOUT && !writes(&n, &x));
 	MUST(polls_read(&m, &x) == -EINPROGRESS && reads(&n, &x) == -EBUSY && !ww_shared_mutex_trylock_shared(&n, &x));
 	unlocks(&m, &y);
@@ -664,8 +669,7 @@ static void refuse_others_amid_a_poll(void)
 	unlocks(&n, &x);
 	unlocks(&n, &x);
 	unlocks(&n, &x);
-	ww_until_all_locked(&x)
-		MUST(polls_read(&m, &x) == -EINVAL && polls_write(&m, &x) == -EINVAL && ww_shared_mutex_await_poll(&x, &waker) == -EINVAL);
+	MUST(ww_shared_mutex_await_poll(&x, &waker) == -EINVAL);
 	MUST(polls_read(&m, NULL) == -EINVAL && polls_write(&m, NULL) == -EINVAL && ww_shared_mutex_await_poll(NULL, &waker) == -EINVAL);
 	MUST(faults() == before + 26 * TOLD);
 	end_both();
@@ -908,7 +912,7 @@ static void all_refuse(uint32_t number, struct ww_acquire_ctx *by, const struct 
 
 static void each_call_refuses(void)
 {
-	enum { TIMED = 1 << READ_UNTIL | 1 << WRITE_UNTIL, POLLS = 1 << READ_POLL | 1 << WRITE_POLL };
+	enum { TIMED = 1 << READ_UNTIL | 1 << WRITE_UNTIL };
 	static DEFINE_WW_CLASS(other_class);
 	struct ww_acquire_ctx of_other;
 	uint32_t number;
@@ -921,21 +925,21 @@ static void each_call_refuses(void)
 	ww_acquire_fini(&of_other);
 	all_refuse(number, &of_other, NULL, -EINVAL, 0);
 	all_refuse(number, &x, &no_time, -EINVAL, ~(unsigned)TIMED);
-	ww_until_all_locked(&y)
-		all_refuse(number, &y, NULL, -EINVAL, ~(unsigned)POLLS);
 	MUST(!ww_mutex_lock(&plain, &y) && ww_mutex_lock_poll(&plain, &x, &waker) == -EINPROGRESS);
 	all_refuse(number, &x, NULL, -EBUSY, 0);
 	MUST(!ww_acquire_end_wait(&x) && !reads(&n, &x));
 	if (c->is_wait_die) { /* and y begins anew, as the younger one */
-		ww_acquire_unlock_all(&y);
+		ww_mutex_unlock(&plain);
 		ww_acquire_fini(&y);
 		begins(&y);
 		MUST(!writes(&m, &x) && !reads(&n, &y) && writes(&m, &y) == -EDEADLK);
 		all_refuse(number, &y, NULL, -EINVAL, 0);
 		ww_acquire_end_reads(&y);
+		unlocks(&m, &x);
+	} else {
+		ww_mutex_unlock(&plain);
 	}
-	ww_acquire_unlock_all(&x);
-	ww_acquire_unlock_all(&y);
+	ww_acquire_end_reads(&x);
 	end_both();
 	MUST(!ww_number_put(number, c) && !ww_class_free(&other_class));
 }
@@ -990,13 +994,15 @@ static void waits_end_by_themselves(void)
 	MUST(ww_acquire_end_wait(&x) == -EINVAL && !ww_number_put(number, c));
 }
 
-/* By hand nothing lists what it holds. */
+/* In tries a context lists what it holds, whatever that is and by which call it came. */
 static void all_is_released(void)
 {
 	uint32_t numbers[2];
 
 	MUST(!ww_number_take(&numbers[0], c) && !ww_number_take(&numbers[1], c));
 	begin_both();
+	ww_acquire_begin_tries(&x);
+	ww_acquire_begin_tries(&y);
 	MUST(!ww_mutex_lock(&plain, &x) && !writes(&m, &x) && !reads(&n, &x) && !reads(&n, &x) && !ww_number_lock(numbers[0], &x));
 	MUST(!ww_shared_mutex_lock_shared_until(shared_at(numbers[1]), &x, NULL) && ww_shared_mutex_lock_poll(shared_at(numbers[1]), &x, &waker) == 0 && x.acquired == 5);
 	ww_acquire_unlock_all(&x);

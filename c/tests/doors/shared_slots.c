@@ -136,7 +136,7 @@ static void lookers_do_not_meet(void)
 		threads[k] = begin_thread(destroys, NULL);
 	for (unsigned k = 0; k < TIMES; k++) {
 		ww_acquire_init(&y, &c);
-		MUST(!ww_shared_mutex_lock_shared(&read_by_one, &y) && !ww_shared_mutex_unlock(&read_by_one, &y));
+		MUST(!ww_shared_mutex_lock_shared(&read_by_one, &y) && !ww_shared_mutex_unlock_shared(&read_by_one, &y));
 		ww_acquire_fini(&y);
 	}
 	for (unsigned k = 0; k < 2; k++)

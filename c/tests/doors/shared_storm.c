@@ -131,12 +131,15 @@ static void in_loop(struct step *steps, unsigned count, struct ww_acquire_ctx *c
 	}
 }
 
-/* What one lock call got, each by one unlock. */
+/* What one lock call got, each by one unlock; what was downgraded is read, mostly. */
 static void unlock(const struct step *s, struct ww_acquire_ctx *ctx)
 {
-	MUST(!ww_shared_mutex_unlock(&s->it->lock, ctx));
-	if (s->what == UPGRADES)
+	if (ww_shared_mutex_is_written_by(&s->it->lock, ctx))
 		MUST(!ww_shared_mutex_unlock(&s->it->lock, ctx));
+	else
+		MUST(!ww_shared_mutex_unlock_shared(&s->it->lock, ctx));
+	if (s->what == UPGRADES)
+		MUST(!ww_shared_mutex_unlock_shared(&s->it->lock, ctx));
 }
 
 static void by_hand(struct step *steps, unsigned count, struct ww_acquire_ctx *ctx, unsigned me, enum way way)
@@ -148,7 +151,7 @@ static void by_hand(struct step *steps, unsigned count, struct ww_acquire_ctx *c
 			continue;
 		MUST(r == -EDEADLK);
 		if (ww_shared_mutex_is_read_by(&steps[k].it->lock, ctx))
-			MUST(!ww_shared_mutex_unlock(&steps[k].it->lock, ctx));
+			MUST(!ww_shared_mutex_unlock_shared(&steps[k].it->lock, ctx));
 		while (k--)
 			unlock(&steps[k], ctx);
 		MUST(!ctx->acquired && !(way == BY_POLLS ? by_polls(NULL, false, ctx, me) : ww_shared_mutex_await(ctx, NULL)));
@@ -216,9 +219,9 @@ static void two_at_once(unsigned *x)
 	if (ww_shared_mutex_trylock_shared(&it->lock, &ctx[0])) {
 		if (ww_shared_mutex_trylock_shared(&it->lock, &ctx[1])) {
 			MUST(it->a == it->b && !ww_shared_mutex_trylock(&it->lock, &ctx[0]));
-			MUST(!ww_shared_mutex_unlock(&it->lock, &ctx[1]));
+			MUST(!ww_shared_mutex_unlock_shared(&it->lock, &ctx[1]));
 		}
-		MUST(!ww_shared_mutex_unlock(&it->lock, &ctx[0]));
+		MUST(!ww_shared_mutex_unlock_shared(&it->lock, &ctx[0]));
 	}
 	MUST(!ctx[0].acquired && !ctx[1].acquired);
 	ww_acquire_fini(&ctx[1]);

@@ -710,13 +710,14 @@ static void by_context(struct ww_class *of, unsigned way, unsigned a, unsigned b
 	adds(by_number ? SHARED + a : a);
 	if (a != b)
 		adds(by_number ? SHARED + b : b);
-	if (by_number)
-		ww_acquire_unlock_all(&z);
-	else if (way < 2)
+	if (way < 3)
 		ww_acquire_unlock_all(&z);
 	else
 		for (unsigned k = 0; k < 1 + (unsigned)(a != b); k++)
-			ww_mutex_unlock(&shared[k ? b : a]);
+			if (by_number)
+				MUST(!ww_number_unlock(numbers[k ? b : a], &z));
+			else
+				ww_mutex_unlock(&shared[k ? b : a]);
 	ww_acquire_fini(&z);
 }
 

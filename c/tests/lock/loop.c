@@ -38,8 +38,11 @@ static const struct row rows[] = {
 	{ EASE, SLOW, FREE, true, -EINVAL, EASE, 0 },
 	{ EASE, UNLOCK, HELD, true, 0, EASE_BARE, 0 },
 	{ EASE, UNLOCK_ALL, IT, true, 0, EASE_BARE, 0 },
-	{ EASE, ALL, FREE, true, -EINVAL, EASE, 0 },
-	{ EASE, ALL, TAKEN, true, -EINVAL, EASE, 0 },
+	{ EASE, ALL, FREE, true, 0, EASE, 0 },
+	{ EASE, ALL, HELD, true, -EALREADY, EASE, 0 },
+	{ EASE, ALL, HELD, true, 0, EASE, WW_IGNORE_DUPLICATES },
+	{ EASE, ALL, TAKEN, true, -EDEADLK, TOLD, 0 },
+	{ EASE, ALL, TAKEN, true, -EINTR, EASE, WW_INTERRUPTIBLE },
 
 	{ OWES, LOCK, IT, true, 0, EASE, 0 },
 	{ OWES, UNTIL, IT, true, 0, EASE, 0 },
@@ -56,8 +59,11 @@ static const struct row rows[] = {
 	{ OWES, AGAIN, IT, true, 0, EASE, 0 },
 	{ OWES, TWICE, IT, true, -EALREADY, EASE, 0 },
 	{ OWES, UNLOCK_ALL, IT, true, 0, EASE_BARE, 0 },
-	{ OWES, ALL, FREE, true, -EINVAL, OWES, 0 },
-	{ OWES, ALL, IT, true, -EINVAL, OWES, 0 },
+	{ OWES, ALL, FREE, true, 0, OWES, 0 },
+	{ OWES, ALL, IT, true, 0, EASE, 0 },
+	{ OWES, ALL, HELD, true, -EALREADY, OWES, 0 },
+	{ OWES, ALL, TAKEN, true, -EDEADLK, TOLD_OWES, 0 },
+	{ OWES, ALL, TAKEN, true, -EINTR, OWES, WW_INTERRUPTIBLE },
 
 	{ TOLD, LOCK, HELD, false, -EALREADY, TOLD, 0 },
 	{ TOLD, LOCK, HELD, false, 0, TOLD, WW_IGNORE_DUPLICATES },
@@ -90,7 +96,7 @@ static const struct row rows[] = {
 	{ TOLD_BARE, SLOW, FREE, false, -EINVAL, TOLD_BARE, 0 },
 	{ TOLD_BARE, TRY, IT, false, 0, TOLD_BARE, 0 },
 	{ TOLD_BARE, TRY, FREE, false, 1, EASE, 0 },
-	{ TOLD_BARE, ALL, FREE, false, -EINVAL, TOLD_BARE, 0 },
+	{ TOLD_BARE, ALL, FREE, false, 0, EASE, 0 },
 	{ TOLD_BARE, BACK_OFF, IT, false, 0, FIRST, 0 },
 
 	{ FIRST, LOCK, IT, true, 0, EASE, 0 },
@@ -109,14 +115,17 @@ static const struct row rows[] = {
 	{ FIRST, TRY, IT, false, 0, FIRST, 0 },
 	{ FIRST, TRY, FREE, false, 1, EASE, 0 },
 	{ FIRST, UNLOCK_ALL, IT, false, 0, EASE_BARE, 0 },
-	{ FIRST, ALL, IT, true, -EINVAL, FIRST, 0 },
-	{ FIRST, ALL, FREE, true, -EINVAL, FIRST, 0 },
+	{ FIRST, ALL, IT, true, 0, EASE, 0 },
+	{ FIRST, ALL, FREE, true, 0, OWES, 0 },
+	{ FIRST, ALL, FREE, false, -EINTR, FIRST, WW_INTERRUPTIBLE },
+	{ FIRST, ALL, TAKEN, true, -EINTR, OWES, WW_INTERRUPTIBLE },
 
 	{ EASE_BARE, LOCK, FREE, false, 0, EASE, 0 },
 	{ EASE_BARE, UNTIL, IT, false, -ETIMEDOUT, EASE_BARE, 0 },
 	{ EASE_BARE, SLOW, IT, true, 0, EASE, 0 },
 	{ EASE_BARE, SLOW, FREE, false, -EINVAL, EASE_BARE, 0 },
 	{ EASE_BARE, TRY, IT, false, 0, EASE_BARE, 0 },
+	{ EASE_BARE, ALL, TAKEN, false, -EINTR, EASE_BARE, WW_INTERRUPTIBLE },
 };
 
 static DEFINE_WD_CLASS(wait_die);
@@ -237,7 +246,7 @@ static void walks(const struct row *row)
 			ww_mutex_unlock(x.contending_lock);
 		MUST(!ww_mutex_lock(x.contending_lock, &x) && !ww_is_contended(&x));
 	}
-	MUST(ww_mutex_lock_all(&x, (struct ww_mutex *[]){ NULL }, 0) == -EINVAL);
+	MUST(!ww_mutex_lock_all(&x, (struct ww_mutex *[]){ NULL }, 0));
 	ww_acquire_unlock_all(&x);
 	MUST(!x.acquired && !it.ctx + (it.ctx == &older) == 1);
 	if (it.ctx)

@@ -347,7 +347,7 @@ static uint64_t seen(const volatile void *at, unsigned size)
 
 static struct object *order_of(const ww_handle *h, uint32_t lock);
 
-/* Whether this is the owner word of a lock: a look at it that orders what comes later is as ww_is_free_. */
+/* Whether this is the owner word of a lock: a look at it that orders what comes later is as ww_look_. */
 static bool is_look(const volatile void *at, int order, uint32_t *lock)
 {
 	const struct ww_pool *p = il_class->pool;
@@ -366,7 +366,7 @@ static uint64_t load(const volatile void *at, unsigned size, int order, const vo
 
 	check(at, size, READS_ATOMICALLY, pc);
 	happens(o, looks);
-	acquire(looks && !value ? order_of(&il_class->pool->seats->handle, lock) : o, order);
+	acquire(looks ? order_of(&il_class->pool->seats->handle, lock) : o, order);
 	il_access(IL_READS, at, value, value, pc);
 	il_gets(at, value, pc);
 	return value;

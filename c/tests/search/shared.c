@@ -254,13 +254,21 @@ static void end_reads(struct user *u)
 	ww_acquire_end_reads(u->x);
 }
 
+/* What it wrote may be read by now. */
+static int unlock_write(const struct it *it, struct ww_acquire_ctx *x)
+{
+	if (!ww_shared_mutex_is_written_by(it->at, x))
+		return ww_shared_mutex_unlock_shared(it->at, x);
+	return numbered ? ww_number_unlock(it->number, x) : ww_shared_mutex_unlock(it->at, x);
+}
+
 /* Each by one unlock, the newest first: so it ends a write, and then a read, up to which nobody else writes. */
 static void unlock_by_hand(struct user *u)
 {
 	for (size_t k = strlen(u->got); k--;) {
 		struct it *it = it_of(u->got[k]);
 
-		MUST(!(numbered && isupper(u->got[k]) ? ww_number_unlock(it->number, u->x) : ww_shared_mutex_unlock(it->at, u->x)));
+		MUST(!(isupper(u->got[k]) ? unlock_write(it, u->x) : ww_shared_mutex_unlock_shared(it->at, u->x)));
 		MUST(!is_read(u, (size_t)(it - its)) || it->data == writes[it - its]);
 	}
 	MUST(!u->x->acquired);
@@ -415,7 +423,7 @@ static void beside(struct user *u)
 		if (!ww_shared_mutex_trylock_shared(&its[k].lock, &second))
 			continue;
 		il_reads(k, &second);
-		MUST(its[k].data == writes[k] && !ww_shared_mutex_unlock(&its[k].lock, &second));
+		MUST(its[k].data == writes[k] && !ww_shared_mutex_unlock_shared(&its[k].lock, &second));
 	}
 	ww_acquire_fini(&second);
 }

@@ -111,17 +111,29 @@ static bool goes_on(struct one *o, unsigned k, int r, bool had, bool owed)
 	return !ww_is_contended(&o->x);
 }
 
-/* Not in a loop. */
-static void locks_list(struct one *o, unsigned k)
+/*
+ * All or none of a list: what is held before stays, unless the loop has to back off.  (A list that comes first backs off by itself; then
+ * what the loop owes may go unsaid.)
+ */
+static bool locks_list(struct one *o, unsigned k)
 {
 	struct ww_mutex *list[LIST];
-	unsigned before = held(o);
+	unsigned before = held(o), had = 0;
+	bool ignores = o->x.state & WW_IGNORE_DUPLICATES;
+	int r;
 
-	for (unsigned j = 0; j < LIST; j++)
+	if (ww_acquire_mark(&o->x) != o->x.acquired)
+		return true;
+	for (unsigned j = 0; j < LIST; j++) {
 		list[j] = &mutexes[(k + j) % MUTEXES];
-	MUST(ww_mutex_lock_all(&o->x, list, LIST) == -EINVAL);
+		had += o->has[(k + j) % MUTEXES];
+	}
+	r = ww_mutex_lock_all(&o->x, list, LIST);
 	looks(o);
-	MUST(held(o) == before);
+	MUST(r ? held(o) - (ww_acquire_mark(&o->x) != o->x.acquired) == before : held(o) >= before + LIST - had);
+	MUST(r == -EDEADLK ? before && ww_is_contended(&o->x) : r == -EALREADY ? had && !ignores : !r || r == -EINTR);
+	MUST(r || !had || ignores);
+	return !ww_is_contended(&o->x);
 }
 
 static bool makes(struct one *o)
@@ -148,7 +160,7 @@ static bool makes(struct one *o)
 			ww_mutex_unlock(m);
 		}
 		break;
-	case 7: locks_list(o, k); break;
+	case 7: return locks_list(o, k);
 	case 8: MUST(ww_acquire_cancel(&all[draw(o, THREADS)].x) <= 0); break;
 	default:
 		if (draw(o, 4) == 0) {

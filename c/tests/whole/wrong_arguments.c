@@ -43,7 +43,7 @@ static int tries_to_write(struct ww_mutex *m, struct ww_acquire_ctx *y) { return
 static int polls_to_read(struct ww_mutex *m, struct ww_acquire_ctx *y) { return ww_shared_mutex_lock_shared_poll(shared(m), y, &waker); }
 static int polls_to_write(struct ww_mutex *m, struct ww_acquire_ctx *y) { return ww_shared_mutex_lock_poll(shared(m), y, &waker); }
 
-enum { MAY_BE_ALONE = 1, HAS_TIME = 2, SLOW = 4, TRIES = 8, BY_HAND = 16, ENDS = 32, READS = 64, SAYS_NO = 128 };
+enum { MAY_BE_ALONE = 1, HAS_TIME = 2, SLOW = 4, TRIES = 8, ENDS = 32, READS = 64, SAYS_NO = 128 };
 static const struct call {
 	const char *name;
 	int (*make)(struct ww_mutex *m, struct ww_acquire_ctx *y);
@@ -57,17 +57,17 @@ static const struct call {
 	{ "ww_mutex_lock_slow_interruptible", ww_mutex_lock_slow_interruptible, SLOW },
 	{ "ww_mutex_lock_slow_until", slowly_until, SLOW | HAS_TIME },
 	{ "ww_mutex_trylock_checked", ww_mutex_trylock_checked, MAY_BE_ALONE | TRIES },
-	{ "ww_mutex_lock_all", lists, BY_HAND },
-	{ "ww_mutex_lock_poll", polls, BY_HAND },
-	{ "ww_mutex_lock_poll without a waker", ends_poll, BY_HAND },
+	{ "ww_mutex_lock_all", lists, 0 },
+	{ "ww_mutex_lock_poll", polls, 0 },
+	{ "ww_mutex_lock_poll without a waker", ends_poll, 0 },
 	{ "ww_shared_mutex_lock_shared", reads, READS },
 	{ "ww_shared_mutex_lock_shared_until", reads_until, READS | HAS_TIME },
 	{ "ww_shared_mutex_trylock_shared", tries_to_read, READS | TRIES | SAYS_NO },
 	{ "ww_shared_mutex_lock", writes, 0 },
 	{ "ww_shared_mutex_lock_until", writes_until, HAS_TIME },
 	{ "ww_shared_mutex_trylock", tries_to_write, TRIES | SAYS_NO },
-	{ "ww_shared_mutex_lock_shared_poll", polls_to_read, READS | BY_HAND },
-	{ "ww_shared_mutex_lock_poll", polls_to_write, BY_HAND },
+	{ "ww_shared_mutex_lock_shared_poll", polls_to_read, READS },
+	{ "ww_shared_mutex_lock_poll", polls_to_write, 0 },
 };
 enum { CALLS = sizeof calls / sizeof *calls };
 
@@ -114,7 +114,7 @@ static void may(const struct call *call, struct ww_mutex *m, struct ww_acquire_c
 {
 	is(call, m, y, call->is & TRIES ? 1 : 0);
 	if (call->is & READS) {
-		MUST(ww_shared_mutex_is_read_by(shared(m), y) && !ww_shared_mutex_unlock(shared(m), y));
+		MUST(ww_shared_mutex_is_read_by(shared(m), y) && !ww_shared_mutex_unlock_shared(shared(m), y));
 		return;
 	}
 	MUST(ww_mutex_is_held_by(m, y) && ww_mutex_is_locked(m));
@@ -352,14 +352,14 @@ static void in_a_loop(void)
 	ww_acquire_init(&x, &c);
 	ww_tries_begin_(&x);
 	for (unsigned n = 0; n < CALLS; n++)
-		if (calls[n].is & (SLOW | BY_HAND))
+		if (calls[n].is & SLOW)
 			is(&calls[n], a, &x, -EINVAL);
 		else
 			may(&calls[n], a, &x);
 	ww_acquire_fini(&x);
 }
 
-/* Until it has released everything; in a loop lists and polls are none. */
+/* Until it has released everything. */
 static void told_by(bool loops)
 {
 	what = loops ? "a context that was told to back off, in a loop" : "a context that was told to back off";
