@@ -160,7 +160,6 @@ static void open_seats_of(struct ww_pool *p)
 	p->threads.open = p->threads.count;
 	ww_reset_task_limiter(tasks);
 	tasks->open = tasks->limiter.width;
-	tasks->called = false;
 	for (struct ww_seats *of = &p->threads; of <= &p->tasks; of++) {
 		__atomic_store_n(&of->due, 0, __ATOMIC_RELAXED);
 		__atomic_store_n(&of->sought, 0, __ATOMIC_RELAXED);

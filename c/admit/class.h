@@ -27,7 +27,8 @@
  *	ww_threads	process		who comes to have seats of its own, or ends, under `ww_opening`	own-end-3
  *	ends_waits	pool		who cancels the class					class-cancel
  *	next		pool		who opens and frees a class, under `ww_opening`		free-3
- *	seekers called	seats		who waits, or hands a seat over, under `queue`		tasks-late-held
+ *	seekers calls	seats		who waits, or hands a seat over, under `queue`		tasks-late-held
+ *	called		pool		likewise						tasks-unanswered
  *	sought		seats		likewise						contexts-3
  *	first end	seats		likewise						contexts-in-turn
  *	open due limiter	seats	who gives a seat while tasks wait, or looks at a crowd, under `queue`	tasks-wider
@@ -128,7 +129,7 @@ struct ww_seats {
 	uint32_t count;
 	uint32_t open;		      /* so many of them may be claimed now: all of threads */
 	uint32_t seekers;	      /* how many wait */
-	bool called;		      /* the first, a task, is to look */
+	uint32_t calls;		      /* how many of these, tasks, were called for a seat and are to look */
 	struct ww_seek *first, **end; /* the queue, in the order in which they came, and its last link */
 	uint64_t sought;	      /* how many have waited in all */
 	uint64_t due;		      /* of tasks: when to look at the limiter next */
@@ -182,6 +183,7 @@ struct ww_pool {
 	struct debug *debug;
 	struct ww_shared_mutex *numbered; /* of ww_number.h: one for each number, once the first number was taken */
 	struct ww_seats threads, tasks;
+	uint64_t called[MANY_TASKS]; /* for each seat of tasks: until when the one that was called for it may come; 0: nobody was */
 	pthread_mutex_t queue; /* the lock of their queues, and of `crowd` */
 	bool ends_waits;       /* all that something may end, for good */
 	struct ww_numbers numbers __attribute__((aligned(64)));

@@ -6,16 +6,22 @@
  * waker that isn't there is nobody's, and the poll finds what was done.
  *
  *	served_		its waker is		what comes next, and by what
- *	WAITS		there, or taken back	CALLED: a task's, the first in the queue, for a seat that was given (call_first)
+ *	WAITS		there, or taken back	CALLED: a task's, the first of these, for a seat that was given (call_next)
  *						SERVED: a seat is handed to it (ww_serve, ww_hands_over), or NULL, which
  *						ends its wait (ww_end_seeking, ww_poll_seat)
  *						out of the queue: it gives up (ww_leave_queue)
  *	CALLED		called, or taken back	SERVED: its poll finds a seat; or it is handed one, or its wait ends there
- *						WAITS: its poll finds none; but first it says that nobody is called
- *						out of the queue, likewise; whoever was CALLED passes that on (take_out)
+ *						WAITS: its poll finds none; but first it says that it isn't called any more
+ *						WAITS, behind all: it hasn't come for a lease, and another is CALLED for its
+ *						seat (call_for)
+ *						out of the queue, likewise
  *	SERVED		called, or taken back	it isn't in the queue any more: seat_ is its own, or its wait has ended
  *
- * Who isn't the first in the queue WAITS.  Each change is made under the lock `queue`, and a waker called after it.
+ * A task is CALLED for one seat, and one task at most is for each: `called` says so.  If it leaves the queue otherwise than by its own
+ * poll, another one is CALLED for that seat (take_out).  A task whose loop is busy doesn't come: so others go on without it, as each
+ * seat that is given has a call of its own, and a call lasts for a lease; whoever gives the seat later, or polls, finds that out.
+ *
+ * Each change is made under the lock `queue`, and a waker called after it.
  * tests/admit/seats_model.py tries all that tasks may do by this table and that of seats at the head of seat.c.
  */
 #define _GNU_SOURCE
@@ -45,38 +51,79 @@ static struct ww_waker take_waker(struct ww_seek *it)
 	return waker;
 }
 
+/* Until then a task may come that was called for this seat; 0: none is called for it any more. The queue is locked. */
+static void note_call(struct ww_seats *of, const ww_seat *s, uint64_t until)
+{
+	__atomic_store_n(&of->pool->called[s - of->seats], until, __ATOMIC_SEQ_CST);
+	__atomic_store_n(&of->calls, until ? of->calls + 1 : of->calls - 1, __ATOMIC_SEQ_CST);
+}
+
 /*
- * The first in the queue, if there is one, looks for a seat, at this one first. The queue is locked; relaxed, since
- * without that it asks only whether it is served.
+ * The first in the queue that wasn't called, if there is one, looks for a seat, at this one first. The queue is locked; relaxed,
+ * since without that it asks only whether it is served.
  */
-static struct ww_waker call_first(struct ww_seats *of, ww_seat *s)
+static struct ww_waker call_next(struct ww_seats *of, ww_seat *s)
 {
 	struct ww_seek *it = of->first;
 
-	__atomic_store_n(&of->called, !!it, __ATOMIC_SEQ_CST);
+	while (it && it->served_ == CALLED)
+		it = it->next_;
 	if (!it)
 		return (struct ww_waker){ 0 };
 	it->seat_ = s;
 	__atomic_store_n(&it->served_, CALLED, __ATOMIC_RELAXED);
+	note_call(of, s, ww_now() + LEASE);
 	return take_waker(it);
 }
 
 /*
- * Who stands at this place doesn't any more; the waker is to be called.  The queue is locked; whoever waits looks without
- * that whether it is served.
+ * Who stands at this place doesn't any more, and has this seat, or none; if it was called, another one is in its place, whose waker is
+ * to be called.  The queue is locked; whoever waits looks without that whether it is served.
  */
-static struct ww_waker take_out(struct ww_seats *of, struct ww_seek **at, uint32_t now)
+static struct ww_waker take_out(struct ww_seats *of, struct ww_seek **at, uint32_t now, ww_seat *s)
 {
 	struct ww_seek *it = *at;
-	bool was_called = it->served_ == CALLED;
-	ww_seat *s = it->seat_;
+	ww_seat *was_for = it->served_ == CALLED ? it->seat_ : NULL;
 
+	if (was_for)
+		note_call(of, was_for, 0);
+	it->seat_ = s;
 	*at = it->next_;
 	if (!*at)
 		of->end = at;
 	__atomic_fetch_sub(&of->seekers, 1, __ATOMIC_SEQ_CST);
 	__atomic_store_n(&it->served_, now, __ATOMIC_RELEASE);
-	return was_called ? call_first(of, s) : (struct ww_waker){ 0 };
+	return was_for ? call_next(of, was_for) : (struct ww_waker){ 0 };
+}
+
+/* It waits behind all others. The queue is locked. */
+static void append(struct ww_seats *of, struct ww_seek *it)
+{
+	it->next_ = NULL;
+	*of->end = it;
+	of->end = &it->next_;
+	__atomic_fetch_add(&of->seekers, 1, __ATOMIC_SEQ_CST);
+}
+
+/*
+ * One is called for the seat, unless one was.  If that hasn't come for a lease, and another waits that wasn't called, that is called
+ * in its place, and it waits behind all.  The queue is locked.
+ */
+static struct ww_waker call_for(struct ww_seats *of, ww_seat *s)
+{
+	struct ww_seek **at = &of->first, *it;
+	struct ww_waker waker = { 0 };
+	uint64_t until = of->pool->called[s - of->seats];
+
+	if (!until)
+		return call_next(of, s);
+	if (of->seekers > of->calls && ww_now() >= until) {
+		while ((it = *at)->served_ != CALLED || it->seat_ != s)
+			at = &it->next_;
+		waker = take_out(of, at, WAITS, NULL);
+		append(of, it);
+	}
+	return waker;
 }
 
 /*
@@ -88,8 +135,7 @@ static struct ww_waker hand_to(struct ww_seats *of, struct ww_seek **at, ww_seat
 	struct ww_waker waker = take_waker(*at), next;
 
 	NOTE(SEAT_HANDED, .seats = of, .seat = s);
-	(*at)->seat_ = s;
-	next = take_out(of, at, SERVED);
+	next = take_out(of, at, SERVED, s);
 	return waker.wake ? waker : next;
 }
 
@@ -110,8 +156,8 @@ COLD void ww_serve(struct ww_seats *of, uint64_t id, ww_seat *s, bool hands)
 	if (!has_seekers(of))
 		return;
 	pthread_mutex_lock(&p->queue);
-	if (__atomic_load_n(&p->id, __ATOMIC_RELAXED) == id && is_for(of, s) && (hands ? claim(s) : !of->called))
-		waker = hands ? hand_to(of, &of->first, s) : call_first(of, s);
+	if (__atomic_load_n(&p->id, __ATOMIC_RELAXED) == id && is_for(of, s) && (!hands || claim(s)))
+		waker = hands ? hand_to(of, &of->first, s) : call_for(of, s);
 	pthread_mutex_unlock(&p->queue);
 	call_waker(waker);
 }
@@ -216,20 +262,18 @@ static struct ww_seek **stands_at(struct ww_seats *of, const struct ww_seek *it)
 }
 
 /*
- * Who was called says that nobody is, and then looks for a seat.  It gets one, and passes the call on, since there may be
- * more; or it waits again.  The queue is locked.
+ * Who was called says that it isn't any more, and then looks for a seat, first at that for which it was.  It gets one, or waits
+ * again.  While others are called whoever polls looks, too, as does who comes then.  The queue is locked.
  */
 static struct ww_waker look_for_seat(struct ww_seats *of, struct ww_seek *me)
 {
 	ww_seat *s;
 
-	__atomic_store_n(&of->called, false, __ATOMIC_SEQ_CST);
+	if (me->served_ == CALLED)
+		note_call(of, me->seat_, 0);
 	me->served_ = WAITS;
-	s = is_barred(of->pool) ? NULL : ww_claim_from(of, (uint32_t)(me->seat_ - of->seats));
-	if (!s)
-		return (struct ww_waker){ 0 };
-	me->served_ = CALLED;
-	return hand_to(of, &of->first, s);
+	s = is_barred(of->pool) ? NULL : ww_claim_from(of, me->seat_ ? (uint32_t)(me->seat_ - of->seats) : 0);
+	return s ? hand_to(of, stands_at(of, me), s) : (struct ww_waker){ 0 };
 }
 
 bool ww_poll_seat(struct ww_seek *me, const struct ww_waker *otherwise)
@@ -243,7 +287,7 @@ bool ww_poll_seat(struct ww_seek *me, const struct ww_waker *otherwise)
 		return true;
 	pthread_mutex_lock(&p->queue);
 	me->waker_ = (struct ww_waker){ 0 };
-	if (me->served_ == CALLED)
+	if (me->served_ == CALLED || me->of_->calls)
 		waker = look_for_seat(me->of_, me);
 	if (me->served_ != SERVED && ww_ends_waits(p))
 		waker = hand_to(me->of_, stands_at(me->of_, me), NULL);
@@ -267,7 +311,7 @@ bool ww_leave_queue(struct ww_seek *me)
 	at = stands_at(of, me);
 	waits = *at;
 	if (waits)
-		waker = take_out(of, at, WAITS);
+		waker = take_out(of, at, WAITS, NULL);
 	pthread_mutex_unlock(&p->queue);
 	call_waker(waker);
 	return waits;
@@ -275,7 +319,7 @@ bool ww_leave_queue(struct ww_seek *me)
 
 /* ---- how a wait begins ---- */
 
-/* Who isn't the first in the queue finds no seat that isn't for another.  Who leaves no waker is about to leave. */
+/* Who comes behind one that wasn't called finds no seat that isn't for another.  Who leaves no waker is about to leave. */
 bool ww_queue_up(struct ww_seek *me)
 {
 	struct ww_seats *of = me->of_;
@@ -288,10 +332,8 @@ bool ww_queue_up(struct ww_seek *me)
 		look_if_due(of, ww_now());
 	pthread_mutex_lock(&p->queue);
 	at = of->end;
-	*at = me;
-	of->end = &me->next_;
-	__atomic_fetch_add(&of->seekers, 1, __ATOMIC_SEQ_CST);
-	if (of->first == me && (of == &p->threads || !is_barred(p)))
+	append(of, me);
+	if (of->seekers == of->calls + 1 && (of == &p->threads || !is_barred(p)))
 		s = ww_claim_any(of);
 	served = s || (me->heeds_ && ww_ends_waits(p));
 	waits = !served && me->waker_.wake;

@@ -12,7 +12,7 @@
  *		within another		-		-		ww_task_seat, all	ww_queue_up
  *
  * ww_own_or_any, as any_seat, comes first to the thread's own, and to others only if no thread waits; ww_task_seat comes to
- * none while tasks wait of whom none was called.  All of these are looked at once, and once more under the lock of the queue
+ * none while tasks wait of whom none is called.  All of these are looked at once, and once more under the lock of the queue
  * by who comes to wait.  A begin that doesn't wait, and a trylock, come to the queue and leave it at once.  In a crowd no seat
  * is at hand, so that each begin asks for a permit; then claim_last finds none either.  Who waits while its own seat is in use
  * looks at that from time to time, since nobody hands it on.
@@ -39,13 +39,14 @@
  * what comes next, once its user is through:
  *
  *	its lease is over	it is handed to the first in the queue, and has another lease (ww_hands_over)
- *	else			it is given: anybody uses it, and the first in the queue is called, unless it was
+ *	else			it is given: anybody uses it, and one in the queue is called for it, unless one was
  *
  * What becomes of a waiter is at the head of queue.c.
  *
- * So wherever nobody is amid a call, none of the seats that may be claimed is free while somebody waits, unless the
- * first was called: who drops a call has looked at all, and who leaves passes it on.  tests/admit/seats_model.py tries all that
- * tasks may do by these tables, and the search of schedules asks that of the sources.
+ * So wherever nobody is amid a call, none of the seats that may be claimed is free while a thread waits; and while a task waits
+ * that wasn't called, another was called for each one that is free: who drops a call has looked at that seat, and who leaves passes
+ * the call on.  tests/admit/seats_model.py tries all that tasks may do by these tables, and the search of schedules asks that of
+ * the sources.
  *
  * crates/ww_protocols proves that two never use one seat, and that none is free where the paragraph above excludes it, of
  * such steps in any order, by the names in brackets; in the search each access of a `busy` has to be one of them
@@ -56,11 +57,12 @@
  * these two sees the other:
  *
  *	a user that is through (ww_return_seat)	one that seeks a seat (ww_queue_up, look_for_seat)
- *	busy = 0				seekers++, or called = 0
- *	seekers, called?			busy of each seat?
+ *	busy = 0				seekers++, or the seat's called = 0
+ *	seekers, called of the seat?		busy of each seat?
  */
 #define _GNU_SOURCE
 #include "seat.h"
+#include "../base/sleep.h"
 
 const struct timespec ww_no_wait;
 
@@ -130,7 +132,7 @@ int ww_await_seat_to_begin(struct ww_pool *p, const struct timespec *until, bool
 	return r;
 }
 
-/* Tasks have none of their own.  While others wait none is free, unless the first of them was called for one. */
+/* Tasks have none of their own.  While others wait none is free, unless some of them were called for it. */
 ww_seat *ww_task_seat(struct ww_pool *p, bool is_within)
 {
 	const struct ww_seats *of = of_tasks(p);
@@ -139,7 +141,7 @@ ww_seat *ww_task_seat(struct ww_pool *p, bool is_within)
 	prepare_thread(p);
 	if (of == &p->threads)
 		s = any_seat(p);
-	else if (!is_barred(p) && (!has_seekers(of) || __atomic_load_n(&of->called, __ATOMIC_SEQ_CST)))
+	else if (!is_barred(p) && (!has_seekers(of) || __atomic_load_n(&of->calls, __ATOMIC_SEQ_CST)))
 		s = ww_claim_any(of);
 	for (uint32_t k = 0; is_within && !s && k < of->count; k++)
 		s = claim(&of->seats[k]) ? &of->seats[k] : NULL;
@@ -148,11 +150,19 @@ ww_seat *ww_task_seat(struct ww_pool *p, bool is_within)
 
 /* ---- seats that are given ---- */
 
+/* A task is to be called for a seat: none was, or that hasn't come for a lease. */
+static bool needs_call(const uint64_t *called)
+{
+	uint64_t until = __atomic_load_n(called, __ATOMIC_SEQ_CST);
+
+	return !until || ww_now() >= until;
+}
+
 /* One that rests, which it may only for a thread whose own it is; or of tasks: by its user, a task or a thread. */
 static __attribute__((noinline)) void return_otherwise(ww_seat *s)
 {
 	struct ww_seats *of = s->of, *threads = &s->pool->threads;
-	uint64_t id = s->pool->id;
+	uint64_t id = s->pool->id, *called = &s->pool->called[of != threads ? s - of->seats : 0];
 
 	stop_rest(s);
 	if (of != threads) {
@@ -164,7 +174,7 @@ static __attribute__((noinline)) void return_otherwise(ww_seat *s)
 	__atomic_exchange_n(&s->busy, 0, __ATOMIC_SEQ_CST);
 	if (UNLIKELY(has_seekers(threads)))
 		ww_serve(threads, id, s, true);
-	if (of != threads && UNLIKELY(has_seekers(of)) && !__atomic_load_n(&of->called, __ATOMIC_SEQ_CST))
+	if (of != threads && UNLIKELY(has_seekers(of)) && needs_call(called))
 		ww_serve(of, id, s, false);
 }
 

@@ -53,7 +53,9 @@ struct ww_seek {
  * Begins a context, as ww_acquire_init_checked, but waits for one.  The library adapts how many tasks may have one at a time to the
  * number with the highest throughput, which it measures while a task waits: it begins with two for each processor, and lets tasks
  * have at most 896 of the 1,024 that aren't a thread's own.  A free context goes to the next task that asks, but every millisecond
- * to the one that has waited longest.  That task may be woken early, and may then be woken several times before it gets one.  If
+ * to the one that has waited longest.  For each context that comes free one more task is woken, which may be too late for it, and is
+ * woken again then.  A task that hasn't polled a millisecond after it was woken, as its loop is busy, keeps no free context from others:
+ * whoever polls gets it, and at the next end of that context another task is woken, and this one waits behind all.  If
  * ww_class_limit set how many contexts the class has, tasks and threads share these, and wait in one queue, in which only is_within
  * passes others.  Without a waker (NULL) it ends the wait, or doesn't wait, and then seek may be NULL: it returns 0 if a context
  * was begun, else -ETIMEDOUT.

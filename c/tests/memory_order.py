@@ -360,8 +360,8 @@ TABLE = {
         "ww_return_seat": "exchange sc", "is_idle": "load acq", "is_in_use": "load rlx",
         "return_otherwise": "exchange sc", "ww_class_stats": "load rlx",
     },
-    # Who was called says first that nobody is, and then looks for a seat; whoever gives one looks the other way round.
-    "called": {"call_first": "store sc", "return_otherwise": "load sc", "look_for_seat": "store sc", "ww_task_seat": "load sc"},
+    # Who was called for a seat says first that it isn't any more, and then looks for one; whoever gives that looks the other way round.
+    "called": {"note_call": "store sc", "needs_call": "load sc"},
     # Written under the lock of the queue. Who claims a seat by an older limit does what it might have done before.
     "open": {"look_at_limiter": "store sc", "open_seats": "load sc"},
     # Hints: whoever sees them late waits for a permit without need, for a while, or begins without one.
@@ -386,7 +386,7 @@ TABLE = {
         "ww_set_at_hand": "store rlx",
     },
     # Whoever gives a seat looks for seekers then; a seeker has said so before it looks for a seat.
-    "seekers": {"has_seekers": "load sc", "take_out": "fetch_sub sc", "ww_queue_up": "fetch_add sc", "ww_class_stats": "load rlx, load rlx"},
+    "seekers": {"has_seekers": "load sc", "take_out": "fetch_sub sc", "append": "fetch_add sc", "ww_class_stats": "load rlx, load rlx"},
     # When to look at a limiter next, which is asked again under its lock.
     "due": {
         "look_at_crowd": "store rlx", "goes_on": "load rlx", "ww_reset_crowd": "store rlx", "open_seats_of": "store rlx", "look_at_limiter": "store rlx",
@@ -397,8 +397,10 @@ TABLE = {
     # How many wait for a permit, changed under the lock of the queue but by who has entered; whoever frees the class sees who does.
     "waiting": {"wait_for_permit": "fetch_add sc", "stop_waiting": "fetch_sub sc", "waiting_threads": "load sc"},
     # The seat that is handed over, and all that goes with it.
-    "calls": {"ww_call_waiting": "fetch_add rlx", "wait_for_permit": "load rlx"},
-    "served_": {"call_first": "store rlx", "take_out": "store rel", "ww_seek_seat": "load acq", "ww_poll_seat": "load acq"},
+    "calls": {
+        "ww_call_waiting": "fetch_add rlx", "wait_for_permit": "load rlx", "note_call": "store sc", "ww_task_seat": "load sc",
+    },
+    "served_": {"call_next": "store rlx", "take_out": "store rel", "ww_seek_seat": "load acq", "ww_poll_seat": "load acq"},
     # Counts, which order nothing; and glances of the debug library. What a waiter in its list did before is ordered by its lock.
     "sought": {"open_seats_of": "store rlx", "ww_reset_crowd": "store rlx", "ww_class_stats": "load rlx, load rlx, load rlx"},
     "waits": {"ww_class_stats": "load rlx"},
@@ -450,12 +452,13 @@ PLAIN = {
     # In a forked child nobody else is there.
     "of->due": "queue: in_child",
     "of->seekers": "queue: in_child",
-    "of->called": "queue: ",
+    "of->calls": "queue: ",
+    "of_->calls": "queue: ",
+    "pool->called": "queue: ",
     "of->limiter": "queue: ",
     "of->open": "queue: ",
     "tasks->open": "by: open_seats_of",
     "threads->open": "by: open_seats_of",
-    "tasks->called": "by: open_seats_of",
     # By the user of a seat, or under the lock by who hands it over.
     "s->lease": "by: ww_hands_over",
     "s->given": "by: ",

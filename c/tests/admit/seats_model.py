@@ -2,11 +2,12 @@
 """All that tasks may do by the tables at the heads of seat.c and queue.c, where they wait for contexts.
 
 A model of return_otherwise, ww_queue_up, ww_poll_seat, ww_leave_queue, ww_poll_take_back and ww_class_cancel, of few tasks, threads and
-seats: each access of a seat's `busy`, of `seekers`, `called`, `limit` or `ends_waits` is a step, and what changes under the lock `queue`
+seats: each access of a seat's `busy`, of `seekers`, `called`, `open` or `ends_waits` is a step, and what changes under the lock `queue`
 alone is one with the step that it belongs to.  From the beginning it makes each step that any of them may make, in every order, so also
 polls that come late or never, and asks of each state that it reaches:
-- a seat has one user at most, and only the first in the queue is CALLED, just where `called` says so;
-- if nobody is amid a call: none of the seats that may be claimed is free while a thread waits, or while a task waits and none is CALLED;
+- a seat has one user at most, and one task at most is CALLED for it, just where `called` says so;
+- if nobody is amid a call: none of the seats that may be claimed is free while a thread waits, or while a task waits that isn't CALLED,
+  unless another one is CALLED for that seat;
 - whoever is the first in the queue is passed by few that begin, since a seat is lent to others once before it is handed over;
 - a seat that may not be claimed any more gets no new user;
 - who is CALLED is awake: its waker was called, or it took that back and is to poll;
@@ -17,7 +18,7 @@ import sys
 
 IDLE, LOOKS, SEEKS, SCANS, USES, GIVES, SERVES, CALLS, QUEUED, WIDENS = range(10)  # what one does
 GOES_ON, ENDS, ENDED = range(3)  # whether the class's waits are to end
-WAITS, CALLED = "WAITS", "CALLED"  # a task that is QUEUED
+WAITS = -1  # a task that is QUEUED, and isn't CALLED, which is the number of its seat
 NOBODY = None
 WIDTHS = (1, 2)  # how many seats may be claimed, by turns, if there are so many
 
@@ -26,10 +27,12 @@ RULES = {
     "asks": "a user that is through looks whether somebody waits",
     "hands": "a seat that was lent to others is handed to the first in the queue",
     "stays": "a seat that is handed over isn't set free",
-    "clears": "who was called says that nobody is before it looks",
+    "clears": "who was called says that it isn't any more before it looks",
     "all": "then it looks at all seats",
-    "passes": "who was called and has got a seat passes the call on",
+    "its": "and first at that for which it was called",
+    "passes": "who was called and is handed a seat passes the call on",
     "leaves": "who was called and leaves passes the call on",
+    "late": "who waits again, as it hasn't come for a lease, passes the call on",
     "limit": "a claim heeds how many seats may be claimed",
     "serves": "seats that may be claimed from now on are handed to who waits",
     "threads": "nobody else begins while a thread waits",
@@ -51,9 +54,8 @@ def put(them, k, it):
 class State:
     """
     Of each seat its user and whether it was lent since it was handed over; how many may be claimed; the queue of tasks: who, WAITS or
-    CALLED, how many have passed it since it was first, and whether its waker is there; whether `called` says that somebody is; the queue
-    of threads, and how many have passed its first; who holds the lock; whether waits end; and what each
-    does.
+    CALLED, how many have passed it since it was first, and whether its waker is there; for which seats `called` says that somebody is;
+    the queue of threads, and how many have passed its first; who holds the lock; whether waits end; and what each does.
     """
 
     __slots__ = ("seats", "width", "queue", "called", "threads", "passed", "lock", "ends", "them")
@@ -81,7 +83,7 @@ class Model:
         self.keeps_turns = not (changes or threads)  # else seats are set free for what has come to an end since
         self.has = {rule: rule != without for rule in RULES}
         width = 1 if changes else seats
-        self.begin = State(((NOBODY, False),) * seats, width, (), False, (), 0, NOBODY, GOES_ON, ((IDLE, 0),) * (tasks + threads))
+        self.begin = State(((NOBODY, False),) * seats, width, (), (False,) * seats, (), 0, NOBODY, GOES_ON, ((IDLE, 0),) * (tasks + threads))
 
     def is_task(self, t):
         return t < self.tasks
@@ -103,23 +105,32 @@ class Model:
             raise Wrong(f"a task gets a seat that may not be claimed: {state.key()}")
         return state.but(seats=put(state.seats, s, (t, state.seats[s][1]))).does(t, USES, s)
 
-    def call(self, state):
-        """The first in the queue, if there is one, is called: its waker, or it has taken that back, and is awake."""
-        if not state.queue:
-            return state.but(called=False)
-        who, _, passed, sleeps = state.queue[0]
-        return state.but(queue=put(state.queue, 0, (who, CALLED, passed, sleeps and not self.has["wakes"])), called=True)
+    def call(self, state, s):
+        """The first in the queue that isn't, if there is one, is called for the seat: its waker, or it has taken that back, and is awake."""
+        for k, (who, is_, passed, sleeps) in enumerate(state.queue):
+            if is_ == WAITS:
+                called = (who, s, passed, sleeps and not self.has["wakes"])
+                return state.but(queue=put(state.queue, k, called), called=put(state.called, s, True))
+        return state
 
     def out(self, state, t, passes):
         """It isn't in its queue any more; if it was called, the next one is."""
         if not self.is_task(t):
             return state.but(threads=tuple(it for it in state.threads if it != t), passed=0)
         k = [it[0] for it in state.queue].index(t)
-        was_called = state.queue[k][1] == CALLED
+        was_for = state.queue[k][1]
         state = state.but(queue=state.queue[:k] + state.queue[k + 1:])
-        if not was_called:
+        if was_for == WAITS:
             return state
-        return self.call(state) if self.has[passes] else state.but(called=False)
+        state = state.but(called=put(state.called, was_for, False))
+        return self.call(state, was_for) if self.has[passes] else state
+
+    def pass_on(self, state):
+        """The first that was called hasn't come for a lease, and another one waits: so that is called, and it waits behind all."""
+        late = next((it for it in state.queue if it[1] != WAITS), None)
+        if late and any(it[1] == WAITS for it in state.queue):
+            state = self.out(state, late[0], "late")
+            yield state.but(queue=state.queue + ((late[0], WAITS, 0, late[3]),))
 
     def hand(self, state, t, s):
         return self.uses(self.out(state, t, "passes"), t, s)
@@ -151,7 +162,7 @@ class Model:
             elif what == LOOKS:
                 yield from self.begins(state, t)
             elif what in (SEEKS, SCANS) and state.lock == t:
-                yield from self.scans(state, t, what, s)
+                yield from self.scans(state, t, what, *s)
             elif what == USES:
                 yield from self.gives(state, t, s)
             elif what == GIVES:
@@ -160,7 +171,8 @@ class Model:
                 yield self.serves(state, t, s)
             elif what == CALLS and state.lock is NOBODY:
                 done = state.does(t, IDLE)
-                yield self.call(done) if state.queue and not state.called else done
+                is_for = not state.threads and s < state.width and not state.called[s]
+                yield self.call(done, s) if is_for else done
             elif what == WIDENS and state.lock is NOBODY:
                 yield self.widened(state, t, s)
             elif what == QUEUED and state.lock is NOBODY:
@@ -178,7 +190,7 @@ class Model:
         return state.but(ends=ENDED)
 
     def seeks(self, state, t):
-        return (self.stands(state, t) if self.has["seeks"] else state).but(lock=t).does(t, SEEKS)
+        return (self.stands(state, t) if self.has["seeks"] else state).but(lock=t).does(t, SEEKS, (0, 0))
 
     def stands(self, state, t):
         if t in state.threads or any(it[0] == t for it in state.queue):
@@ -196,22 +208,26 @@ class Model:
             yield self.seeks(state, t)
 
     def is_first(self, state, t):
-        return not any(it[0] != t for it in state.queue[:1]) if self.is_task(t) else state.threads[:1] in ((), (t,))
+        """None of those that were there before waits, and isn't called."""
+        return not any(it[0] != t and it[1] == WAITS for it in state.queue) if self.is_task(t) else state.threads[:1] in ((), (t,))
 
-    def scans(self, state, t, what, s):
+    def place_of(self, state, t):
+        return next((k for k, it in enumerate(state.queue) if it[0] == t), None)
+
+    def scans(self, state, t, what, first, k):
         """It looks at one seat after another: as it comes to wait as the first, or having dropped its call."""
-        may = self.is_first(state, t) and not self.is_barred(state, t)
-        if s < self.count and may and self.is_free(state, t, s):
+        may = (what == SCANS or self.is_first(state, t)) and not self.is_barred(state, t)
+        s = (first + k) % self.count
+        if k < self.count and may and self.is_free(state, t, s):
             state = self.stands(state, t)
-            if what == SCANS:  # it was called: so the call passes on
-                state = state.but(queue=put(state.queue, 0, (t, CALLED, 0, False)))
             yield self.hand(state, t, s).but(lock=NOBODY)
-        elif s < self.count and may and (what == SEEKS or self.has["all"]):
-            yield state.does(t, what, s + 1)
+        elif k < self.count and may and (what == SEEKS or self.has["all"]):
+            yield state.does(t, what, (first, k + 1))
         else:
             state = self.stands(state, t)
             if what == SCANS:  # it leaves a waker
-                state = state.but(called=self.has["clears"] and state.called, queue=put(state.queue, 0, (t, WAITS, state.queue[0][2], True)))
+                k, called = self.place_of(state, t), state.called if self.has["clears"] else put(state.called, first, False)
+                state = state.but(called=called, queue=put(state.queue, k, (t, WAITS, state.queue[k][2], True)))
             state = state.but(lock=NOBODY)
             ends = state.ends != GOES_ON and self.has["polls" if what == SCANS else "stays out"]
             yield self.out(state, t, "passes").does(t, IDLE) if ends else state.does(t, QUEUED)
@@ -221,6 +237,8 @@ class Model:
         if state.seats[s][0] != t:
             raise Wrong(f"two use one seat: {state.key()}")
         lent = state.seats[s][1]
+        if state.lock is NOBODY:
+            yield from self.pass_on(state)
         if self.changes and state.queue and state.lock is NOBODY:
             width = WIDTHS[state.width == WIDTHS[0]]
             yield state.but(width=width).does(t, WIDENS, s)
@@ -242,11 +260,14 @@ class Model:
             return state.does(t, IDLE)
         if state.threads:
             return state.does(t, SERVES, s)
-        return state.does(t, CALLS if state.queue and not state.called else IDLE)
+        return self.calls(state, t, s)
+
+    def calls(self, state, t, s):
+        return state.does(t, CALLS, s) if state.queue and not state.called[s] else state.does(t, IDLE)
 
     def serves(self, state, t, s):
         """A thread that waits gets the seat, if it is free; then it looks for tasks."""
-        done = state.does(t, CALLS if state.queue and not state.called else IDLE)
+        done = self.calls(state, t, s)
         return self.hand(done, state.threads[0], s) if state.threads and state.seats[s][0] is NOBODY else done
 
     def widened(self, state, t, s):
@@ -258,8 +279,8 @@ class Model:
         return state
 
     def polls(self, state, t):
-        """Who was called looks at all.  Who waits takes its waker back, and leaves one, or doesn't wait any more."""
-        k = next((k for k, it in enumerate(state.queue) if it[0] == t), None)
+        """Who was called looks at all; so may who waits.  That takes its waker back, and leaves one, or doesn't wait any more."""
+        k = self.place_of(state, t)
         if k is None:
             return
         who, is_, passed, sleeps = state.queue[k]
@@ -268,28 +289,33 @@ class Model:
         if is_ == WAITS and not sleeps:
             ends = state.ends != GOES_ON and self.has["polls"]
             yield self.out(state, t, "passes").does(t, IDLE) if ends else state.but(queue=put(state.queue, k, (who, is_, passed, True)))
-        if is_ != CALLED or sleeps:
+        if is_ == WAITS and any(state.called) and not self.is_barred(state, t):
+            for s in (s for s in range(self.count) if self.is_free(state, t, s)):
+                yield self.hand(state, t, s)
+        if is_ == WAITS or sleeps:
             return
-        if self.has["clears"]:
-            state = state.but(called=False, queue=put(state.queue, 0, (t, WAITS, passed, False)))
-        yield state.but(lock=t).does(t, SCANS)
+        called = put(state.called, is_, False) if self.has["clears"] else state.called
+        state = state.but(called=called, queue=put(state.queue, k, (t, WAITS, passed, False)))
+        yield state.but(lock=t).does(t, SCANS, (is_ if self.has["its"] else is_ + 1, 0))
 
     def look(self, state):
         """What is so in each state; of what it waits for, only where nobody is amid a call."""
-        if [it[1] for it in state.queue[1:] if it[1] == CALLED]:
-            raise Wrong(f"one is called that isn't the first: {state.key()}")
-        if [it for it in state.queue if it[1] == CALLED and it[3]]:
+        calls = [it[1] for it in state.queue if it[1] != WAITS]
+        if len(calls) > len(set(calls)):
+            raise Wrong(f"two are called for one seat: {state.key()}")
+        if [it for it in state.queue if it[1] != WAITS and it[3]]:
             raise Wrong(f"one is called that sleeps on: {state.key()}")
         if any(what in (LOOKS, SEEKS, SCANS, GIVES, SERVES, CALLS, WIDENS) for what, _ in state.them):
             return
         if state.ends == ENDED and (state.threads or any(it[3] for it in state.queue)):
             raise Wrong(f"a wait goes on though all are to end: {state.key()}")
-        if state.called != (state.queue[:1] != () and state.queue[0][1] == CALLED):
+        if state.called != tuple(s in calls for s in range(self.count)):
             raise Wrong(f"it says that somebody is called, or one is and it doesn't say so: {state.key()}")
         if state.threads and any(user is NOBODY for user, _ in state.seats):
             raise Wrong(f"a seat is free, and a thread waits: {state.key()}")
-        if state.queue and not state.called and any(user is NOBODY for user, _ in state.seats[:state.width]):
-            raise Wrong(f"a seat is free, somebody waits, and nobody was called: {state.key()}")
+        waits = any(it[1] == WAITS for it in state.queue)
+        if waits and any(state.seats[s][0] is NOBODY and not state.called[s] for s in range(state.width)):
+            raise Wrong(f"a seat is free, somebody waits, and nobody was called for it: {state.key()}")
 
     def search(self):
         """How many states it reaches, each of which is right; or Wrong."""
@@ -313,7 +339,7 @@ def main():
         sys.exit(f"seats: {why}")
     for rule in RULES:
         try:
-            for size in sizes:
+            for size in sizes + [(2, 4, 0, False, False)]:
                 Model(*size, rule).search()
         except Wrong:
             continue

@@ -251,7 +251,7 @@ static void handed_in_turn(void)
 	end_both(both);
 }
 
-/* One that is lent is anybody's. The first is called, and no other, until it has one; then the next one is. */
+/* One that is lent is anybody's. One is called for each that is given, and no other, until it has looked. */
 static void called_in_turn(void)
 {
 	struct ww_acquire_ctx both[2];
@@ -259,14 +259,12 @@ static void called_in_turn(void)
 	all_in_use(both, 3);
 	ww_acquire_fini(&both[0]);
 	MUST(called[0] == 1 && !called[1] && begins_at_once(&both[0]));
-	end_both(both);
-	MUST(called[0] == 1 && !called[1] && !ww_poll_take_back(&y, &seeks[0]));
-	MUST(!looks(0, &both[0]) && called[1] == 1 && !called[2]);
-	MUST(!looks(1, &both[1]) && called[2] == 1);
-	/* A third finds none, and waits as it did before. */
-	MUST(looks(2, &y) == -EINPROGRESS && called[2] == 1);
+	ww_acquire_fini(&both[0]);
+	MUST(called[0] == 1 && !called[1]);
+	ww_acquire_fini(&both[1]);
+	MUST(called[0] == 1 && called[1] == 1 && !called[2] && !ww_poll_take_back(&y, &seeks[0]));
+	MUST(!looks(1, &both[1]) && !looks(0, &both[0]) && !called[2]);
 	MUST(ww_poll_take_back(&y, &seeks[2]) && looks(2, &y) == -EINPROGRESS);
-	called[2] = 0;
 	ww_acquire_fini(&both[1]);
 	MUST(called[2] == 1 && begins_at_once(&both[1]));
 	is_lent(&both[1], false);
@@ -275,18 +273,11 @@ static void called_in_turn(void)
 	end_both(both);
 }
 
-/* Who was called, and leaves, calls the next one; so does one that is handed another, or finds one at its last look. */
+/* Who was called, and leaves, has the next one called; so has one that is handed another seat. */
 static void passes_on_its_call(void)
 {
 	struct ww_acquire_ctx both[2];
 
-	all_in_use(both, 2);
-	ww_acquire_fini(&both[0]);
-	ww_acquire_fini(&both[1]);
-	MUST(called[0] == 1 && !called[1]);
-	c->pool->tasks.called = 1; /* this is its last look */
-	MUST(!looks(0, &both[0]) && called[1] == 1 && !looks(1, &both[1]));
-	end_both(both);
 	all_in_use(both, 3);
 	ww_acquire_fini(&both[0]);
 	MUST(called[0] == 1 && !called[1]);
@@ -297,6 +288,48 @@ static void passes_on_its_call(void)
 	ww_acquire_fini(&both[1]);
 	MUST(called[1] == 1 && called[2] == 1 && !looks(1, &both[1]));
 	MUST(ww_acquire_init_poll(&y, c, &seeks[2], NULL) == -ETIMEDOUT);
+	end_both(both);
+}
+
+/* Until when who was called for the seat may come. */
+static void may_come_until(const ww_seat *s, uint64_t time)
+{
+	const struct ww_seats *tasks = &c->pool->tasks;
+
+	MUST(c->pool->called[s - tasks->seats]);
+	c->pool->called[s - tasks->seats] = time;
+}
+
+/*
+ * The first doesn't come: others go on nevertheless, be it that the next one is called for another seat, that one polls without a call,
+ * or that the lease of the first is over: then the next one is called in its place.
+ */
+static void goes_on_without_who_was_called(void)
+{
+	struct ww_acquire_ctx both[2];
+
+	all_in_use(both, 2);
+	end_both(both);
+	MUST(called[0] == 1 && called[1] == 1 && !looks(1, &both[1]));
+	ww_acquire_fini(&both[1]);
+	MUST(!looks(0, &both[0]));
+	ww_acquire_fini(&both[0]);
+
+	all_in_use(both, 3);
+	ww_acquire_fini(&both[0]);
+	MUST(called[0] == 1 && begins_at_once(&both[0]));
+	may_come_until(both[0].own, UINT64_MAX);
+	ww_acquire_fini(&both[0]);
+	MUST(!called[1] && begins_at_once(&both[0]));
+	may_come_until(both[0].own, 1);
+	ww_acquire_fini(&both[0]);
+	MUST(called[0] == 1 && called[1] == 1 && !called[2]);
+	MUST(!looks(2, &both[0]) && looks(1, &y) == -EINPROGRESS && looks(0, &y) == -EINPROGRESS);
+	ww_acquire_fini(&both[0]);
+	MUST(called[0] == 1 && called[1] == 2 && !looks(1, &both[0]));
+	ww_acquire_fini(&both[0]);
+	MUST(called[0] == 2);
+	MUST(!looks(0, &both[0]));
 	end_both(both);
 }
 
@@ -427,6 +460,7 @@ static void by_contexts_of_their_own(void)
 	handed_in_turn();
 	called_in_turn();
 	passes_on_its_call();
+	goes_on_without_who_was_called();
 	as_many_as_the_limiter_says();
 	begins_within_another();
 	looks_after_a_wait();

@@ -11,7 +11,7 @@
  *	n	the next lock is without a context; !: it has to fail; .: it must not
  *	y	the next lock or ( is by polls: it sleeps until its waker is called; z: it polls once more without need, zz: twice; x: it ends
  *		the wait, and where it has none, all up to the unlock or ) is left out; l: whenever it is called it polls late, once
- *		all other threads wait; h: whoever is called goes on with it
+ *		all other threads wait; u: it polls again once 6 has happened, and not before; h: whoever is called goes on with it
  *	o	the next ( by polls is as if it were within another context, so it gets any that is free
  *	H	waits for that, and goes on with the context, which ends there, and is gone: where there is none, all up to ) is left out
  *	Lab;	locks these in a loop	U	unlocks all of it	&ab;	locks these as a list
@@ -22,7 +22,7 @@
  *	c	cancels			1-9	something has happened	~1	waits for that, which orders	_1	which doesn't	=1	it has
  *	s w	waits until somebody waits for a context or a permit, unless 4 has happened; until somebody waits for m
  *	e E	the lease of the thread's permit is over; at the next look the crowd is of no use
- *	W N	at the next look at the limiter tasks may claim two seats; one
+ *	W N	at the next look at the limiter tasks may claim two seats; one		k	tasks that were called haven't come for a lease
  *	F	frees the class, asking until it is free	v	looks at its counts
  *	T G	takes a number, if one is free (.: one is); puts back that taken last
  *	q	asks whether anybody has the number of m
@@ -61,7 +61,7 @@ struct user {
 	bool told, last, goes_on;
 	uint32_t number[2];
 	unsigned numbers;
-	struct ww_seek seek;
+	struct ww_seek *seek;
 };
 
 /* What a poll's waker was to do, and did. */
@@ -202,6 +202,16 @@ static void widen(uint32_t width)
 	pthread_mutex_unlock(&c.pool->queue);
 }
 
+/* Those that were called are late. */
+static void end_calls(void)
+{
+	pthread_mutex_lock(&c.pool->queue);
+	for (uint32_t k = 0; k < c.pool->tasks.count; k++)
+		if (c.pool->called[k])
+			__atomic_store_n(&c.pool->called[k], 1, __ATOMIC_SEQ_CST);
+	pthread_mutex_unlock(&c.pool->queue);
+}
+
 /* Somebody waits for a permit, though there is no crowd. */
 static bool is_uncalled(const struct ww_pool *of) { return of->crowd.waiting && !is_crowded(of); }
 
@@ -267,7 +277,7 @@ void il_check(const struct il_program *p)
 		MUST(ww_acquire_init_checked(&x[most], &c) == -EAGAIN);
 		for (uint32_t k = 0; k < most; k++)
 			ww_acquire_fini(&x[k]);
-		MUST(!c.pool->tasks.seekers && !c.pool->tasks.first && !c.pool->tasks.called);
+		MUST(!c.pool->tasks.seekers && !c.pool->tasks.first && !c.pool->tasks.calls);
 		tasks = c.pool->tasks.open;
 		MUST(!names(p, "WN") || tasks == (names(p, "W") ? 2 : 1));
 		for (uint32_t k = 0; k < tasks; k++)
@@ -280,13 +290,14 @@ void il_check(const struct il_program *p)
 	MUST(!ww_class_free(&c));
 }
 
-/* A seat is free that may be claimed, and somebody waits for one, and nobody was called. */
+/* A seat is free that may be claimed, somebody waits for one that wasn't called, and nobody was called for this one. */
 static bool is_forgotten(const struct ww_seats *of)
 {
-	uint32_t open = of == &c.pool->threads ? of->count : of->open;
+	bool is_tasks = of == &c.pool->tasks;
+	uint32_t open = is_tasks ? of->open : of->count;
 
-	for (uint32_t k = 0; k < open && of->first && !of->called; k++)
-		if (!(of->seats[k].busy & BUSY))
+	for (uint32_t k = 0; k < open && of->seekers > of->calls; k++)
+		if (!(of->seats[k].busy & BUSY) && !(is_tasks && c.pool->called[k]))
 			return true;
 	return false;
 }
@@ -335,25 +346,24 @@ static void hands_on(void *loop, void *task)
 static int poll_once(struct user *u, int k, const struct ww_waker *waker)
 {
 	if (k < 0)
-		return ww_acquire_init_poll(u->x, &c, &u->seek, waker);
+		return ww_acquire_init_poll(u->x, &c, u->seek, waker);
 	return numbered ? ww_mutex_lock_poll(mutex_at(numbers[k]), u->x, waker) : ww_mutex_lock_poll(&mutexes[k], u->x, waker);
 }
 
 /* What is due of it is known as long as no other poll has come: else somebody may be about to call it. */
 static void take_back(struct user *u, int k, struct polled *it)
 {
-	if (ww_poll_take_back(u->x, k < 0 ? &u->seek : NULL))
+	if (ww_poll_take_back(u->x, k < 0 ? u->seek : NULL))
 		it->due = NOT_AT_ALL;
 }
 
 /* As the words say; -ETIMEDOUT where it ended the wait. */
-static int by_polls(struct user *u, int k, const char *how)
+static int poll_as(struct user *u, int k, const char *how)
 {
 	const char *more = strchr(how, 'z');
 	size_t again = more ? strspn(more, "z") : 0;
-	bool ends = strchr(how, 'x'), late = strchr(how, 'l');
+	bool ends = strchr(how, 'x'), late = strchr(how, 'l'), never = strchr(how, 'u');
 
-	u->seek.is_within = !!strchr(how, 'o');
 	for (;;) {
 		struct polled *it = &polled[il_me()][polls[il_me()]++];
 		int r;
@@ -365,16 +375,34 @@ static int by_polls(struct user *u, int k, const char *how)
 			it->due = NOT_AT_ALL;
 			return r;
 		}
-		if (again || ends)
+		if (never && !SEEN(happened[6]))
+			il_await(&happened[6]);
+		else
+			never = false;
+		if (again || ends || never)
 			take_back(u, k, it);
 		if (ends)
 			return poll_once(u, k, NULL);
-		if (!again)
+		if (!again && !never)
 			il_await(&it->calls);
 		if (late)
 			il_late();
 		again -= !!again;
 	}
+}
+
+/* Once its wait for a context is over nobody else accesses that. */
+static int by_polls(struct user *u, int k, const char *how)
+{
+	int r;
+
+	u->seek = k < 0 ? il_new(sizeof *u->seek) : NULL;
+	if (k < 0)
+		u->seek->is_within = !!strchr(how, 'o');
+	r = poll_as(u, k, how);
+	if (k < 0)
+		il_gone(u->seek, sizeof *u->seek);
+	return r;
 }
 
 /* From -EINPROGRESS on all of it is whoever's who is called. */
@@ -423,7 +451,7 @@ static int begin(struct user *u, char how, const char *words)
 {
 	int r = 0;
 
-	if (strpbrk(words, "lxyz"))
+	if (strpbrk(words, "luxyz"))
 		r = by_polls(u, -1, words);
 	else if (strchr(words, 'i'))
 		r = begin_heeding(u->x);
@@ -728,6 +756,7 @@ static void act(struct user *u, char what, const char *how)
 	case 'E': end_crowd(); break;
 	case 'W': widen(2); break;
 	case 'N': widen(1); break;
+	case 'k': end_calls(); break;
 	case 'F': free_class(); break;
 	case 'v': ww_class_stats(&c, &counts); MUST(counts.context_waits <= 8); break;
 	case 'T': take_number(u, strchr(how, '.')); break;
@@ -748,7 +777,7 @@ void il_thread(const char *at)
 
 	for (; *at; at++) {
 		il_position((size_t)(at - text));
-		if (strchr("?tin!.lxyzho", *at)) {
+		if (strchr("?tin!.luxyzho", *at)) {
 			strncat(how, at, 1);
 			continue;
 		}
@@ -844,6 +873,7 @@ const struct il_program il_programs[] = {
 	{ "own-end-3", { "(>1", "~1<)", "()()" }, CONTEXTS(1) | OWN, 3 },
 	{ "own-end-2-of-3", { "(>1", "~1()<)", "()" }, CONTEXTS(1) | OWN, 2 },
 	{ "own-waits", { "(>1~3()2", "~1()5~3s<)", "~5(3~2)" }, CONTEXTS(1) | OWN, 2 },
+	{ "own-served", { "(>1~3(4)", "~1()5~3s<)", "~5(3s)" }, CONTEXTS(1) | OWN, 2 },
 	{ "own-free", { "(>8", "~8<)9", "_8_9F()" }, CONTEXTS(1) | OWN, 2 },
 	{ "own-free-soon", { "(>8", "~8<)", "_8F()" }, CONTEXTS(1) | OWN, 2 },
 	{ "rest", { "(La;U)(Lab;U)", "(Lb;U)(Lba;U)" }, CONTEXTS(1) | OWN, 2 },
@@ -965,6 +995,8 @@ const struct il_program il_programs[] = {
 	{ "tasks-late-held", { "y(1~2)", "~1y(2~3)", "~1l()3", "~1y()" }, TASKS, 1 },
 	{ "tasks-late-end", { "y(1~2~3)", "~1l()2", "~1x()3", "~1l()" }, TASKS, 1 },
 	{ "tasks-late-due", { "y(~1)y(~4)", "y(~2)y(4~3)", "l()", "12y(3)" }, TASKS, 1 },
+	{ "tasks-unanswered", { "y(>y(1s<)^)", "~1u(4)", "~1sy(6)" }, TASKS, 2 },
+	{ "tasks-passed-on", { "y(1s)y(k)", "~1u(4)", "~1sy(6)" }, TASKS | NARROW, 2 },
 	{ "tasks-one-ends", { "y(1~2~3~4)", "~1y()2", "~1x()3", "~1z()4" }, TASKS, 1 },
 	{ "tasks-narrow", { "y()y()", "z()", "y()" }, TASKS | NARROW, 2 },
 	{ "tasks-narrow-4", { "y()", "x()", "l()", "y()" }, TASKS | NARROW, 1 },

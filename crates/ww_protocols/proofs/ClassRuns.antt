@@ -1,10 +1,10 @@
 -- Runs of few steps, of one seat and of threads and tasks 0, 1 and 2.
-use Rattle.std.proofs.Common.{◌≡◌, ◌≢◌, ◌<◌, inl, inr, ℕ, true, false, Option, Some, None, List, [], ◌∷◌, refl, sym, ◌∙◌, subst, arith, true≢false}
+use Rattle.std.proofs.Common.{◌≡◌, ◌≢◌, ◌<◌, inl, inr, ℕ, true, false, Option, Some, None, List, [], ◌∷◌, refl, sym, ap, ◌∙◌, subst, arith, true≢false}
 use native.Mathlib.Decide.{ℕ_discrete}
-use Rattle.ww_protocols.specs.Seat.{nothing, to_call, to_offer, set, claims, gives, goes_over, finds_own_free, uses_own, takes_own, leaves_own, Rule, claims_no_own, uses_its_own, takes_nobodys, uses_before_it_leaves, looks_as_it_joins, asks_who_waits, calls_the_next}
-use Rattle.ww_protocols.specs.Class.{out, waits, called, due, Class, opened, QueueStep, acts, joins, sees_used, has_looked, serves_threads, serves_tasks, calls, leaves_called, MayBeMade, after_step, ReachedWithout, begins, goes_on}
-use Rattle.ww_protocols.specs.Witness.{HasLent, HasOneThatWaits, SuchAreReached, HasTwoUsers, HasForgotten, HasUncalled, EachRuleMatters}
-use Rattle.ww_protocols.proofs.Sets.{set_else, set_cases}
+use Rattle.ww_protocols.specs.Seat.{nothing, to_call, to_offer, set, claims, gives, goes_over, finds_own_free, uses_own, takes_own, leaves_own, Rule, claims_no_own, uses_its_own, takes_nobodys, uses_before_it_leaves, looks_as_it_joins, asks_who_waits, calls_who_waits, calls_the_next, looks_when_called}
+use Rattle.ww_protocols.specs.Class.{out, waits, due, at_nothing, at_its_seat, Class, opened, QueueStep, acts, joins, sees_used, has_looked, has_found, serves_threads, serves_tasks, calls, passes_on, drops, leaves_called, MayBeMade, after_step, ReachedWithout, begins, goes_on}
+use Rattle.ww_protocols.specs.Witness.{HasLent, HasOneThatWaits, HasPassedOn, SuchAreReached, HasTwoUsers, HasForgotten, HasUncalled, EachRuleMatters, HasNotYet, RestMatters}
+use Rattle.ww_protocols.proofs.Sets.{set_here, set_else, set_cases}
 
 abbrev after : Class → List QueueStep → Class
 after c [] = c
@@ -59,10 +59,10 @@ all_done t = set_cases (set (set (λ _. nothing) 0 to_offer) 0 to_call) 0 nothin
 at_0 : (P : ℕ → Type 0) → P 0 → (s : ℕ) → s < 1 → P s
 at_0 P here s is = let same : 0 ≡ s = omega arith in subst P same here
 
--- the second and the third wait for the seat of the first, and the second is called
+-- the second and the third wait for the seat of the first, and the second is called for it
 abbrev waits_steps : List QueueStep
 waits_steps = acts 0 (claims 0) ∷ joins 1 waits true ∷ sees_used 1 0 ∷ has_looked 1 ∷ joins 2 waits false ∷ acts 0 (gives 0)
-    ∷ serves_threads 0 0 ∷ calls 1 ∷ serves_tasks 0 0 ∷ []
+    ∷ serves_threads 0 0 ∷ calls 1 0 ∷ serves_tasks 0 0 ∷ []
 
 no_due : (t : ℕ) → set (set (λ _. out) 1 waits) 2 waits t ≢ due
 no_due t = set_cases (set (λ _. out) 1 waits) 2 waits t (λ it. it ≢ due) (λ _ is. let z : ⊥ = cc in z)
@@ -82,13 +82,13 @@ waited left_out = reached_on left_out of_tasks waits_steps (begins 1 (λ _. fals
       (
         (refl, λ s is. inl (seen s is)),
         (
-          record { nobody_looks = refl; is_out = refl; stays = inl refl; looks_first = inr (inr (inr (refl, inl (1, refl)))) },
+          record { nobody_looks = refl; is_out = refl; stays = inl refl; looks_first = inr (inr (inr (refl, (1, (refl, refl))))) },
           (
             (refl, refl),
             (
               (refl, inr (inr no_due)),
               (
-                refl,
+                (refl, inr (refl, refl)),
                 (
                   record { has_to = refl; nobody_looks = refl; no_need = inr (inr (inr (inl (1, refl)))) },
                   tt,
@@ -114,11 +114,47 @@ one_that_waits = (
     free = (refl, refl);
   },
   refl,
-  (2, refl),
+  (2, (refl, refl)),
 )
 
+-- the second doesn't come, and the third is called in its place
+abbrev passed_steps : List QueueStep
+passed_steps = passes_on 1 2 0 ∷ drops 2 0 at_its_seat ∷ acts 0 (claims 2) ∷ sees_used 2 0 ∷ has_found 2 ∷ []
+
+seen_its : (s : ℕ) → set (set (λ _. false) 0 true) 0 false s ≡ false
+seen_its s = set_cases (set (λ _. false) 0 true) 0 false s (λ b. b ≡ false) (λ _. refl) (λ other. set_else (λ _. false) 0 true s other)
+
+passed : HasPassedOn
+unfolding set ℕ_discrete
+passed = record {
+  class_ = after (after of_tasks waits_steps) passed_steps;
+  reached = reached_on None (after of_tasks waits_steps) passed_steps (waited None) (
+    (refl, refl, inr (refl, refl)),
+    (
+      (refl, refl, inr (1, (refl, refl))),
+      (
+        (refl, inr refl),
+        (
+          (refl, in_use_by),
+          (
+            (refl, inr ((refl, refl), inl (λ s is. inl (seen_its s)))),
+            tt,
+          ),
+        ),
+      ),
+    ),
+  );
+  rest = record {
+    nobody_looks = refl;
+    all_settled = at_0 (λ s. (t : ℕ) → ((after (after of_tasks waits_steps) passed_steps).seat s).debt t ≡ nothing) all_done;
+  };
+  late = (1, refl);
+  user = (2, refl);
+  only = refl;
+}
+
 pub such_are_reached : SuchAreReached
-such_are_reached = (lent, one_that_waits)
+such_are_reached = (lent, one_that_waits, passed)
 
 -- ---- without a rule
 
@@ -227,17 +263,18 @@ unasked = (
   (1, refl),
 )
 
--- the second leaves, and the third isn't called
-nobody_is : (t : ℕ) → set (set (set (set (λ _. out) 1 waits) 2 waits) 1 called) 1 out t ≢ called
-nobody_is t = set_cases (set (set (set (λ _. out) 1 waits) 2 waits) 1 called) 1 out t (λ it. it ≢ called) (λ _ is. let z : ⊥ = cc in z)
-    (λ other is. plain t (sym (set_else (set (set (λ _. out) 1 waits) 2 waits) 1 called t other) ∙ is))
-  where
-    plain : (t : ℕ) → set (set (λ _. out) 1 waits) 2 waits t ≢ called
-    plain t = set_cases (set (λ _. out) 1 waits) 2 waits t (λ it. it ≢ called) (λ _ is. let z : ⊥ = cc in z)
-        (λ _. set_cases (λ _. out) 1 waits t (λ it. it ≢ called) (λ _ is. let z : ⊥ = cc in z) (λ _ is. let z : ⊥ = cc in z))
+-- the second was called, and isn't any more: nobody is
+nobody_is : (t : ℕ) → set {A = Option ℕ} (set (λ _. None) 1 (Some 0)) 1 None t ≢ Some 0
+nobody_is t = set_cases {A = Option ℕ} (set (λ _. None) 1 (Some 0)) 1 None t (λ it. it ≢ Some 0) (λ _ is. let z : ⊥ = cc in z)
+    (λ other is. let none = sym (set_else (λ _. None) 1 (Some 0) t other) ∙ is in let z : ⊥ = cc in z)
 
+one_more : (rule : Rule) (step : QueueStep) → MayBeMade (Some rule) (after of_tasks waits_steps) step →
+    ReachedWithout (Some rule) (after_step (after of_tasks waits_steps) step)
+one_more rule step may = goes_on (after of_tasks waits_steps) step (waited (Some rule)) may
+
+-- the second leaves, and the third isn't called
 abbrev passed_over : Class
-passed_over = after_step (after of_tasks waits_steps) (leaves_called 1)
+passed_over = after_step (after of_tasks waits_steps) (leaves_called 1 0)
 
 uncalled : HasUncalled (Some calls_the_next)
 unfolding set ℕ_discrete
@@ -245,15 +282,116 @@ uncalled = (
   record {
     class_ = passed_over;
     s = 0;
-    reached = goes_on (after of_tasks waits_steps) (leaves_called 1) (waited (Some calls_the_next)) (refl, inl refl);
+    reached = one_more calls_the_next (leaves_called 1 0) (refl, refl, inl refl);
     rest = record { nobody_looks = refl; all_settled = at_0 (λ s. (t : ℕ) → (passed_over.seat s).debt t ≡ nothing) all_done };
     is_seat = omega arith;
     free = (refl, refl);
   },
   refl,
-  (2, refl),
-  λ one. nobody_is one.0 one.1,
+  (2, (refl, refl)),
+  λ one. nobody_is one.0 one.2,
 )
+
+-- the second waits again, and hasn't looked
+abbrev unseeing : Class
+unseeing = after_step (after of_tasks waits_steps) (drops 1 0 at_nothing)
+
+unseen_seat : HasUncalled (Some looks_when_called)
+unfolding set ℕ_discrete
+unseen_seat = (
+  record {
+    class_ = unseeing;
+    s = 0;
+    reached = one_more looks_when_called (drops 1 0 at_nothing) (refl, refl, inl refl);
+    rest = record { nobody_looks = refl; all_settled = at_0 (λ s. (t : ℕ) → (unseeing.seat s).debt t ≡ nothing) all_done };
+    is_seat = omega arith;
+    free = (refl, refl);
+  },
+  refl,
+  (2, (refl, refl)),
+  λ one. nobody_is one.0 one.2,
+)
+
+-- the second waits for the seat of the first, which is given
+abbrev given_steps : List QueueStep
+given_steps = acts 0 (claims 0) ∷ joins 1 waits true ∷ sees_used 1 0 ∷ has_looked 1 ∷ acts 0 (gives 0) ∷ []
+
+given : (left_out : Option Rule) → ReachedWithout left_out (after of_tasks given_steps)
+unfolding set ℕ_discrete
+given left_out = reached_on left_out of_tasks given_steps (begins 1 (λ _. false) (λ _. true)) (
+  (refl, inr refl),
+  (
+    record { nobody_looks = refl; is_out = refl; stays = inl refl; looks_first = inr (inl refl) },
+    ((refl, in_use_by), ((refl, λ s is. inl (seen s is)), ((refl, refl), tt))),
+  ),
+)
+
+-- and the third is called for it, which doesn't wait
+abbrev strange_steps : List QueueStep
+strange_steps = serves_threads 0 0 ∷ calls 2 0 ∷ serves_tasks 0 0 ∷ []
+
+no_due_one : (t : ℕ) → set (λ _. out) 1 waits t ≢ due
+no_due_one t = set_cases (λ _. out) 1 waits t (λ it. it ≢ due) (λ _ is. let z : ⊥ = cc in z) (λ _ is. let z : ⊥ = cc in z)
+
+strange : HasUncalled (Some calls_who_waits)
+unfolding set ℕ_discrete
+strange = (
+  record {
+    class_ = after (after of_tasks given_steps) strange_steps;
+    s = 0;
+    reached = reached_on (Some calls_who_waits) (after of_tasks given_steps) strange_steps (given (Some calls_who_waits)) (
+      (refl, inr (inr no_due_one)),
+      (
+        (refl, inl refl),
+        (
+          record { has_to = refl; nobody_looks = refl; no_need = inr (inr (inr (inl (2, refl)))) },
+          tt,
+        ),
+      ),
+    );
+    rest = record { nobody_looks = refl; all_settled = at_0 (λ s. (t : ℕ) → ((after (after of_tasks given_steps) strange_steps).seat s).debt t ≡ nothing) all_done };
+    is_seat = omega arith;
+    free = (refl, refl);
+  },
+  refl,
+  (1, (refl, refl)),
+  λ one. nobody_waits one.0 one.1 one.2,
+)
+  where
+    nobody_waits : (u : ℕ) → set (λ _. out) 1 waits u ≡ waits → set {A = Option ℕ} (λ _. None) 2 (Some 0) u ≡ Some 0 → ⊥
+    nobody_waits u in_queue is = set_cases {A = Option ℕ} (λ _. None) 2 (Some 0) u (λ it. it ≡ Some 0 → ⊥)
+        (λ same _. let p = sym (set_else (λ _. out) 1 waits 2 (λ q. omega arith)) ∙ ap (set (λ _. out) 1 waits) (sym same) ∙ in_queue in let z : ⊥ = cc in z)
+        (λ _ p. let z : ⊥ = cc in z) is
+
+-- ---- during a call
+
+amid_a_look : HasNotYet
+amid_a_look = record {
+  class_ = after of_tasks (joins 0 waits true ∷ []);
+  reached = reached_on None of_tasks (joins 0 waits true ∷ []) (begins 1 (λ _. false) (λ _. true))
+      (record { nobody_looks = refl; is_out = refl; stays = inl refl; looks_first = inr (inl refl) }, tt);
+  is_seat = omega arith;
+  free = (refl, refl);
+  open_ = refl;
+  sleeps = (0, (set_here (λ _. out) 0 waits, refl));
+  uncalled = λ one. let p = one.2 in let z : ⊥ = cc in z;
+}
+
+amid_a_give : HasNotYet
+unfolding set ℕ_discrete
+amid_a_give = record {
+  class_ = after of_tasks given_steps;
+  reached = given None;
+  is_seat = omega arith;
+  free = (refl, refl);
+  open_ = refl;
+  sleeps = (1, (refl, refl));
+  uncalled = λ one. let p = one.2 in let z : ⊥ = cc in z;
+}
+
+pub rest_matters : RestMatters
+unfolding amid_a_look amid_a_give
+rest_matters = ((amid_a_look, λ s _ t. refl), (amid_a_give, refl))
 
 pub each_rule_matters : EachRuleMatters
 each_rule_matters claims_no_own = claimed
@@ -262,4 +400,6 @@ each_rule_matters takes_nobodys = taken
 each_rule_matters uses_before_it_leaves = left
 each_rule_matters looks_as_it_joins = unlooked
 each_rule_matters asks_who_waits = unasked
+each_rule_matters calls_who_waits = strange
 each_rule_matters calls_the_next = uncalled
+each_rule_matters looks_when_called = unseen_seat

@@ -1,21 +1,27 @@
 -- A class: its seats, and the two queues of those that found none of them free.
 use Rattle.std.specs.Prelude.{ℕ, ◌≡◌, ◌≢◌, ◌<◌, ◌⊎◌, Bool, true, false, Option, Some, None}
-use Rattle.ww_protocols.specs.Seat.{IsFree, Debt, nothing, to_call, to_offer, ClassSeat, SeatStep, free_seat, set, Rule, looks_as_it_joins, asks_who_waits, calls_the_next, Unless, MaySeat, next_seat}
+use Rattle.ww_protocols.specs.Seat.{IsFree, Debt, nothing, to_call, to_offer, ClassSeat, SeatStep, free_seat, set, Rule, looks_as_it_joins, asks_who_waits, calls_who_waits, calls_the_next, looks_when_called, Unless, MaySeat, next_seat}
 
--- Where one stands: not in a queue; as a task that waits, or that was called and looks; as a thread, which is due any seat.
+-- Where one stands: not in a queue; in it as a task; or as a thread, which is due any seat.
 pub data InQueue : Type 0 where
   out : InQueue
   waits : InQueue
-  called : InQueue
   due : InQueue
 
--- Besides seats and queues: which seats tasks may claim now; who looks at the seats one by one, with the queues locked, and which of
--- them it has yet to see.
+-- What one looks at that drops its call: nothing, as a thread is due any seat; the seat for which it was called; all seats.
+pub data LooksAt : Type 0 where
+  at_nothing : LooksAt
+  at_its_seat : LooksAt
+  at_all : LooksAt
+
+-- Besides seats and queues: which seats tasks may claim now; for which seat each task was called, until it drops that; who looks at the
+-- seats one by one, with the queues locked, and which of them it has yet to see.
 pub record Class : Type 0 where
   pub seats : ℕ
   pub seat : ℕ → ClassSeat
   pub is_open : ℕ → Bool
   pub stands : ℕ → InQueue
+  pub call : ℕ → Option ℕ
   pub looks : Option ℕ
   pub unseen : ℕ → Bool
 
@@ -26,6 +32,7 @@ opened seats are_own are_open = record {
   seat = λ s. free_seat (are_own s);
   is_open = are_open;
   stands = λ _. out;
+  call = λ _. None;
   looks = None;
   unseen = λ _. false;
 }
@@ -37,14 +44,15 @@ pub data QueueStep : Type 0 where
   acts : (s : ℕ) (step : SeatStep) → QueueStep
   serves_threads : (t s : ℕ) → QueueStep  -- who has given the seat has handed it to a thread, or finds that none waits
   serves_tasks : (t s : ℕ) → QueueStep  -- and that no task need be called for it
-  calls : (u : ℕ) → QueueStep  -- `called` is set
+  calls : (u s : ℕ) → QueueStep  -- `called` of the seat is set: the task is called for it
+  passes_on : (t u s : ℕ) → QueueStep  -- t was called for the seat, and hasn't come for a lease: u is called for it instead, and t waits on
   joins : (t : ℕ) (how : InQueue) (looks_now : Bool) → QueueStep  -- `seekers` up: it looks at the seats, or stands behind another
   sees_used : (t s : ℕ) → QueueStep  -- load, or an exchange, its own or one that failed: who looks finds the seat in use; or it is a thread's own
   has_looked : (t : ℕ) → QueueStep  -- in vain
-  has_found : (t : ℕ) → QueueStep  -- `seekers` down, or `called` set for the next one: who looks has a seat
-  drops : (t : ℕ) (looks_now : Bool) → QueueStep  -- `called` is cleared: who was called waits again, and looks, or a thread waits
+  has_found : (t : ℕ) → QueueStep  -- `seekers` down: who looks has a seat
+  drops : (t s : ℕ) (look : LooksAt) → QueueStep  -- `called` of the seat is cleared: who was called for it waits again, and looks
   leaves : (t : ℕ) → QueueStep  -- `seekers` down: it has a seat, or its wait has ended
-  leaves_called : (t : ℕ) → QueueStep  -- `called` is set for the next one, or cleared: so does one that was called
+  leaves_called : (t s : ℕ) → QueueStep  -- `called` of the seat is set for the next one, or cleared: so does one that was called for it
   opens : (t s : ℕ) → QueueStep  -- `open` up: tasks may claim this seat, which is to be offered to them
   closes : (s : ℕ) → QueueStep  -- `open` down
 
@@ -62,32 +70,52 @@ abbrev pub looker : Bool → ℕ → Option ℕ
 looker true t = Some t
 looker false t = None
 
+-- who looks, and at which seats, having dropped its call
+abbrev pub looks_so : LooksAt → ℕ → Option ℕ
+looks_so at_nothing t = None
+looks_so at_its_seat t = Some t
+looks_so at_all t = Some t
+
+abbrev pub unseen_so : LooksAt → ℕ → ℕ → Bool
+unseen_so at_nothing s = λ _. false
+unseen_so at_its_seat s = set (λ _. false) s true
+unseen_so at_all s = λ _. true
+
 module _ (c : Class) where
   abbrev pub NobodyIsDue : Type 0
   NobodyIsDue = (t : ℕ) → c.stands t ≢ due
 
-  abbrev pub NobodyWaits : Type 0
-  NobodyWaits = (t : ℕ) → c.stands t ≢ waits
-
   abbrev pub SomebodyIsDue : Type 0
   SomebodyIsDue = (t : ℕ) × (c.stands t ≡ due)
 
-  abbrev pub SomebodyIsCalled : Type 0
-  SomebodyIsCalled = (t : ℕ) × (c.stands t ≡ called)
+  -- it waits as a task, and isn't called
+  abbrev pub Sleeps : ℕ → Type 0
+  Sleeps t = (c.stands t ≡ waits) × (c.call t ≡ None)
 
-  abbrev pub SomebodyWaits : Type 0
-  SomebodyWaits = (t : ℕ) × (c.stands t ≡ waits)
+  abbrev pub SomebodySleeps : Type 0
+  SomebodySleeps = (t : ℕ) × Sleeps t
 
-  -- no other task waits
-  abbrev pub IsTheOnlyOne : ℕ → Type 0
-  IsTheOnlyOne t = (u : ℕ) → c.stands u ≡ waits → u ≡ t
+  abbrev pub NobodySleeps : Type 0
+  NobodySleeps = (t : ℕ) → ¬ Sleeps t
 
-  abbrev pub AnotherIsCalled : ℕ → Type 0
-  AnotherIsCalled t = (u : ℕ) × (u ≢ t) × (c.stands u ≡ called)
+  -- no other task sleeps
+  abbrev pub IsTheOnlySleeper : ℕ → Type 0
+  IsTheOnlySleeper t = (u : ℕ) → Sleeps u → u ≡ t
+
+  -- somebody was called for the seat, and hasn't dropped that
+  abbrev pub HasCall : ℕ → Type 0
+  HasCall s = (t : ℕ) × (c.call t ≡ Some s)
+
+  abbrev pub AnotherHasCall : ℕ → ℕ → Type 0
+  AnotherHasCall t s = (u : ℕ) × (u ≢ t) × (c.call u ≡ Some s)
 
   -- it is a task, and tasks may not claim the seat
   abbrev pub IsClosedTo : ℕ → ℕ → Type 0
   IsClosedTo t s = (c.stands t ≡ waits) × (c.is_open s ≡ false)
+
+  -- it has seen each seat that it may claim
+  abbrev pub HasSeenAll : ℕ → Type 0
+  HasSeenAll t = (s : ℕ) → s < c.seats → (c.unseen s ≡ false) ⊎ IsClosedTo t s
 
   -- in use, or a thread's own
   abbrev pub IsInUse : ℕ → Type 0
@@ -95,11 +123,17 @@ module _ (c : Class) where
 
   -- no task has to be called for the seat
   abbrev pub NeedsNoCall : ℕ → Type 0
-  NeedsNoCall s = (IsInUse s ⊎ (c.is_open s ≡ false)) ⊎ (NobodyWaits ⊎ (SomebodyIsCalled ⊎ SomebodyIsDue))
+  NeedsNoCall s = (IsInUse s ⊎ (c.is_open s ≡ false)) ⊎ (NobodySleeps ⊎ (HasCall s ⊎ SomebodyIsDue))
 
   -- one that stands there already is served before one that comes so
   abbrev pub HasOneBefore : InQueue → Type 0
-  HasOneBefore how = SomebodyIsDue ⊎ ((how ≡ waits) × (SomebodyWaits ⊎ SomebodyIsCalled))
+  HasOneBefore how = SomebodyIsDue ⊎ ((how ≡ waits) × SomebodySleeps)
+
+  -- at least at its seat; at all, where no task sleeps before it
+  abbrev pub LooksEnough : LooksAt → Type 0
+  LooksEnough at_nothing = SomebodyIsDue
+  LooksEnough at_its_seat = SomebodySleeps
+  LooksEnough at_all = Unit {0}
 
 module _ (left_out : Option Rule) (c : Class) where
   pub record MayServeTasks (t s : ℕ) : Type 0 where
@@ -117,14 +151,15 @@ module _ (left_out : Option Rule) (c : Class) where
   MayBeMade (acts s step) = MaySeat left_out (c.seat s) step
   MayBeMade (serves_threads t s) = ((c.seat s).debt t ≡ to_offer) × Unless left_out asks_who_waits (IsInUse c s ⊎ NobodyIsDue c)
   MayBeMade (serves_tasks t s) = MayServeTasks t s
-  MayBeMade (calls u) = c.stands u ≡ waits
+  MayBeMade (calls u s) = (c.looks ≡ None) × Unless left_out calls_who_waits (Sleeps c u)
+  MayBeMade (passes_on t u s) = (c.looks ≡ None) × (c.call t ≡ Some s) × Unless left_out calls_who_waits (Sleeps c u)
   MayBeMade (joins t how looks_now) = MayComeToWait t how looks_now
   MayBeMade (sees_used t s) = (c.looks ≡ Some t) × IsInUse c s
-  MayBeMade (has_looked t) = (c.looks ≡ Some t) × ((s : ℕ) → s < c.seats → (c.unseen s ≡ false) ⊎ IsClosedTo c t s)
-  MayBeMade (has_found t) = (c.looks ≡ Some t) × ((c.stands t ≡ due) ⊎ ((c.stands t ≡ waits) × (SomebodyIsCalled c ⊎ IsTheOnlyOne c t)))
-  MayBeMade (drops t looks_now) = (c.looks ≡ None) × (c.stands t ≡ called) × ((looks_now ≡ true) ⊎ SomebodyIsDue c)
-  MayBeMade (leaves t) = (c.looks ≡ None) × ((c.stands t ≡ waits) ⊎ (c.stands t ≡ due))
-  MayBeMade (leaves_called t) = (c.stands t ≡ called) × Unless left_out calls_the_next (NobodyWaits c ⊎ AnotherIsCalled c t)
+  MayBeMade (has_looked t) = (c.looks ≡ Some t) × HasSeenAll c t
+  MayBeMade (has_found t) = (c.looks ≡ Some t) × ((c.stands t ≡ due) ⊎ (Sleeps c t × (HasSeenAll c t ⊎ IsTheOnlySleeper c t)))
+  MayBeMade (drops t s look) = (c.looks ≡ None) × (c.call t ≡ Some s) × Unless left_out looks_when_called (LooksEnough c look)
+  MayBeMade (leaves t) = (c.looks ≡ None) × (Sleeps c t ⊎ (c.stands t ≡ due))
+  MayBeMade (leaves_called t s) = (c.looks ≡ None) × (c.call t ≡ Some s) × Unless left_out calls_the_next (NobodySleeps c ⊎ AnotherHasCall c t s)
   MayBeMade (opens t s) = Unit {0}
   MayBeMade (closes s) = Unit {0}
 
@@ -133,14 +168,15 @@ module _ (c : Class) where
   after_step (acts s step) = record c { seat = set c.seat s (next_seat (c.seat s) step) }
   after_step (serves_threads t s) = record c { seat = set c.seat s (settled (c.seat s) t to_call) }
   after_step (serves_tasks t s) = record c { seat = set c.seat s (settled (c.seat s) t nothing) }
-  after_step (calls u) = record c { stands = set c.stands u called }
+  after_step (calls u s) = record c { call = set c.call u (Some s) }
+  after_step (passes_on t u s) = record c { call = set (set c.call t None) u (Some s) }
   after_step (joins t how looks_now) = record c { stands = set c.stands t how; looks = looker looks_now t; unseen = λ _. true }
   after_step (sees_used t s) = record c { unseen = set c.unseen s false }
   after_step (has_looked t) = record c { looks = None }
   after_step (has_found t) = record c { stands = set c.stands t out; looks = None }
-  after_step (drops t looks_now) = record c { stands = set c.stands t waits; looks = looker looks_now t; unseen = λ _. true }
+  after_step (drops t s look) = record c { call = set c.call t None; looks = looks_so look t; unseen = unseen_so look s }
   after_step (leaves t) = record c { stands = set c.stands t out }
-  after_step (leaves_called t) = record c { stands = set c.stands t out }
+  after_step (leaves_called t s) = record c { stands = set c.stands t out; call = set c.call t None }
   after_step (opens t s) = record c {
     seat = set c.seat s (settled (c.seat s) t (also_to_call ((c.seat s).debt t)));
     is_open = set c.is_open s true;

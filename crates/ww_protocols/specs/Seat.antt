@@ -54,7 +54,9 @@ pub data Rule : Type 0 where
   uses_before_it_leaves : Rule  -- who has found its own seat free uses it before it leaves it
   looks_as_it_joins : Rule  -- who comes to wait looks at the seats, unless somebody is due one
   asks_who_waits : Rule  -- who has given a seat looks whether somebody waits
+  calls_who_waits : Rule  -- who is called waits as a task, and isn't called yet
   calls_the_next : Rule  -- who was called and leaves has the next one called
+  looks_when_called : Rule  -- who was called looks, at least at its seat, before it waits again
 
 -- the fact, unless its rule is left out
 abbrev pub Unless : Option Rule → Rule → Type 0 → Type 0

@@ -1,7 +1,7 @@
 -- A seat has one user, and none is lost.
-use Rattle.std.specs.Prelude.{ℕ, ◌≡◌, ◌≢◌, ◌<◌, Bool, true, false, Option, Some, None}
+use Rattle.std.specs.Prelude.{ℕ, ◌≡◌, ◌≢◌, ◌<◌, Bool, true, false, List, [], ◌∷◌, length, Option, Some, None}
 use Rattle.ww_protocols.specs.Seat.{IsFree, nothing, claims, uses_own}
-use Rattle.ww_protocols.specs.Class.{Class, waits, due, QueueStep, acts, SomebodyIsCalled, MayBeMade, ReachedByRules}
+use Rattle.ww_protocols.specs.Class.{Class, waits, due, QueueStep, acts, Sleeps, SomebodySleeps, MayBeMade, ReachedByRules}
 
 -- ---- a seat has one user
 
@@ -37,10 +37,41 @@ pub record IsAtRest (c : Class) : Type 0 where
   pub nobody_looks : c.looks ≡ None
   pub all_settled : (s : ℕ) → s < c.seats → (t : ℕ) → (c.seat s).debt t ≡ nothing
 
--- No seat that anybody may use is free while a thread waits, and none that tasks may claim while a task waits, unless one was called.
+-- somebody in the queue was called for the seat
+abbrev pub IsAwaited : Class → ℕ → Type 0
+IsAwaited c s = (u : ℕ) × (c.stands u ≡ waits) × (c.call u ≡ Some s)
+
+-- No seat that anybody may use is free while a thread waits; and where a task waits that wasn't called, another one that waits was called
+-- for each seat that is free and that tasks may claim.
 pub record IsUnwanted (c : Class) (s : ℕ) : Type 0 where
   pub no_due : (t : ℕ) → c.stands t ≢ due
-  pub is_called : (t : ℕ) → c.stands t ≡ waits → c.is_open s ≡ true → SomebodyIsCalled c
+  pub is_called : (t : ℕ) → Sleeps c t → c.is_open s ≡ true → IsAwaited c s
 
 abbrev pub NoSeatIsLost : Type 0
 NoSeatIsLost = (c : Class) → ReachedByRules c → IsAtRest c → (s : ℕ) → s < c.seats → IsFree (c.seat s) → IsUnwanted c s
+
+-- ---- how many are free
+
+module _ (P : ℕ → Type 0) where
+  abbrev pub EachIs : List ℕ → Type 0
+  EachIs [] = Unit {0}
+  EachIs (n ∷ ns) = P n × EachIs ns
+
+abbrev pub AllDiffer : List ℕ → Type 0
+AllDiffer [] = Unit {0}
+AllDiffer (n ∷ ns) = EachIs (λ k. k ≢ n) ns × AllDiffer ns
+
+-- free, and tasks may claim it
+abbrev pub IsFreeForTasks : Class → ℕ → Type 0
+IsFreeForTasks c s = (s < c.seats) × IsFree (c.seat s) × (c.is_open s ≡ true)
+
+-- called, and in the queue
+abbrev pub IsUnderWay : Class → ℕ → Type 0
+IsUnderWay c u = (c.stands u ≡ waits) × ((s : ℕ) × (c.call u ≡ Some s))
+
+-- Where nobody is in a call of the queue, and a task waits that wasn't called: however many seats are free for tasks, so many tasks
+-- at least were called.
+abbrev pub FreeSeatsAreAtMostTheCalls : Type 0
+FreeSeatsAreAtMostTheCalls = (c : Class) → ReachedByRules c → IsAtRest c → SomebodySleeps c →
+    (seats : List ℕ) → AllDiffer seats → EachIs (IsFreeForTasks c) seats →
+    (tasks : List ℕ) × AllDiffer tasks × EachIs (IsUnderWay c) tasks × (length tasks ≡ length seats)

@@ -1,8 +1,8 @@
 -- What is proved is said of something; and it is false where a rule is left out.
 use Rattle.std.specs.Prelude.{ℕ, ◌≡◌, ◌≢◌, ◌<◌, true, Option, Some, None}
-use Rattle.ww_protocols.specs.Seat.{IsFree, Rule, claims_no_own, uses_its_own, takes_nobodys, uses_before_it_leaves, looks_as_it_joins, asks_who_waits, calls_the_next}
-use Rattle.ww_protocols.specs.Class.{Class, SomebodyIsDue, SomebodyIsCalled, SomebodyWaits, ReachedWithout, ReachedByRules}
-use Rattle.ww_protocols.specs.Seats.{IsAtRest}
+use Rattle.ww_protocols.specs.Seat.{IsFree, nothing, Rule, claims_no_own, uses_its_own, takes_nobodys, uses_before_it_leaves, looks_as_it_joins, asks_who_waits, calls_who_waits, calls_the_next, looks_when_called}
+use Rattle.ww_protocols.specs.Class.{Class, waits, SomebodyIsDue, SomebodySleeps, ReachedWithout, ReachedByRules}
+use Rattle.ww_protocols.specs.Seats.{IsAtRest, IsAwaited}
 
 -- nobody is in a call, and a seat is free
 pub record HasFree (left_out : Option Rule) : Type 0 where
@@ -24,12 +24,21 @@ pub record HasLent : Type 0 where
   pub owner : (t : ℕ) × ((class_.seat s).owner t ≡ true)
   pub others : user.0 ≢ owner.0
 
--- a seat is free that tasks may claim, one waits, and another was called
+-- a seat is free that tasks may claim, one waits, and another was called for the seat
 abbrev pub HasOneThatWaits : Type 0
-HasOneThatWaits = (x : HasFree None) × (x.class_.is_open x.s ≡ true) × SomebodyWaits x.class_
+HasOneThatWaits = (x : HasFree None) × (x.class_.is_open x.s ≡ true) × SomebodySleeps x.class_
+
+-- one that was called for the only seat hasn't come, and waits; another was called in its place, and uses the seat
+pub record HasPassedOn : Type 0 where
+  pub class_ : Class
+  pub reached : ReachedByRules class_
+  pub rest : IsAtRest class_
+  pub late : (t : ℕ) × (class_.stands t ≡ waits)
+  pub user : (t : ℕ) × ((class_.seat 0).user t ≡ true)
+  pub only : class_.seats ≡ 1
 
 abbrev pub SuchAreReached : Type 0
-SuchAreReached = HasLent × HasOneThatWaits
+SuchAreReached = HasLent × HasOneThatWaits × HasPassedOn
 
 -- ---- without a rule
 
@@ -45,9 +54,9 @@ pub record HasTwoUsers (left_out : Option Rule) : Type 0 where
 abbrev pub HasForgotten : Option Rule → Type 0
 HasForgotten left_out = (x : HasFree left_out) × SomebodyIsDue x.class_
 
--- a seat is free that tasks may claim, somebody waits, and nobody was called
+-- a seat is free that tasks may claim, somebody waits, and nobody in the queue was called for it
 abbrev pub HasUncalled : Option Rule → Type 0
-HasUncalled left_out = (x : HasFree left_out) × (x.class_.is_open x.s ≡ true) × SomebodyWaits x.class_ × (¬ SomebodyIsCalled x.class_)
+HasUncalled left_out = (x : HasFree left_out) × (x.class_.is_open x.s ≡ true) × SomebodySleeps x.class_ × (¬ IsAwaited x.class_ x.s)
 
 abbrev pub Breaks : Rule → Type 0
 Breaks claims_no_own = HasTwoUsers (Some claims_no_own)
@@ -56,7 +65,25 @@ Breaks takes_nobodys = HasTwoUsers (Some takes_nobodys)
 Breaks uses_before_it_leaves = HasTwoUsers (Some uses_before_it_leaves)
 Breaks looks_as_it_joins = HasForgotten (Some looks_as_it_joins)
 Breaks asks_who_waits = HasForgotten (Some asks_who_waits)
+Breaks calls_who_waits = HasUncalled (Some calls_who_waits)
 Breaks calls_the_next = HasUncalled (Some calls_the_next)
+Breaks looks_when_called = HasUncalled (Some looks_when_called)
 
 abbrev pub EachRuleMatters : Type 0
 EachRuleMatters = (rule : Rule) → Breaks rule
+
+-- ---- during a call
+
+-- a seat is free that tasks may claim, somebody waits, and nobody was called for it: while one looks, and while one has yet to offer it
+pub record HasNotYet : Type 0 where
+  pub class_ : Class
+  pub reached : ReachedByRules class_
+  pub is_seat : 0 < class_.seats
+  pub free : IsFree (class_.seat 0)
+  pub open_ : class_.is_open 0 ≡ true
+  pub sleeps : SomebodySleeps class_
+  pub uncalled : ¬ IsAwaited class_ 0
+
+abbrev pub RestMatters : Type 0
+RestMatters = ((x : HasNotYet) × ((s : ℕ) → s < x.class_.seats → (t : ℕ) → (x.class_.seat s).debt t ≡ nothing)) ×
+    ((x : HasNotYet) × (x.class_.looks ≡ None))

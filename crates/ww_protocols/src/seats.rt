@@ -1,5 +1,5 @@
 //! A seat has one user, and none is lost.
-ghost use Rattle.ww_protocols.specs.Seats.{SeatsHaveOneUser, NobodyUsesItYet, SeatsSayWhoseTheyAre, NoSeatIsLost};
+ghost use Rattle.ww_protocols.specs.Seats.{SeatsHaveOneUser, NobodyUsesItYet, SeatsSayWhoseTheyAre, NoSeatIsLost, FreeSeatsAreAtMostTheCalls};
 
 /// In each reached class two users of one seat are one.
 pub fn seats_have_one_user()
@@ -16,8 +16,13 @@ pub fn seats_say_whose_they_are()
     ensures { SeatsSayWhoseTheyAre }
 {}
 
-/// Of the seats that aren't threads' own: where nobody is in a call of a queue, none is free while a thread waits, and none that
-/// tasks may claim while a task waits, unless one was called.
+/// Of the seats that aren't threads' own: where nobody is in a call of a queue, none is free while a thread waits; and while a task
+/// waits that wasn't called, another that waits was called for each one that is free and that tasks may claim.
 pub fn no_seat_is_lost()
     ensures { NoSeatIsLost }
+{}
+
+/// There the seats that are free for tasks are at most as many as the tasks that were called.
+pub fn free_seats_are_at_most_the_calls()
+    ensures { FreeSeatsAreAtMostTheCalls }
 {}
