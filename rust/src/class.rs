@@ -5,6 +5,7 @@ use crate::{error, ffi, library_version, Error, Options, Tx};
 use core::cell::UnsafeCell;
 use core::ffi::{c_int, CStr};
 use core::fmt;
+use core::marker::PhantomData;
 use core::sync::atomic::{AtomicU32, Ordering::Relaxed};
 
 /// What happens when contexts collide. In both kinds the older one goes first.
@@ -16,11 +17,52 @@ pub enum Kind {
     WaitDie,
 }
 
+/// Of a type that belongs to one class: neither a class that is a subtype of `C` nor one of which it is a subtype will do.
+///
+/// ```compile_fail,E0308
+/// # use std::marker::PhantomData;
+/// # use ww_mutex::{class, ByClass_, Class, Mutex, RawClass};
+/// # class!(struct One: WoundWait; struct Other: WoundWait);
+/// struct Of<F>(PhantomData<fn() -> F>);
+/// type Sub = Of<for<'a> fn(&'a u8)>;
+/// type Super = Of<fn(&'static u8)>;
+/// # impl ByClass_ for Sub { fn raw_() -> &'static RawClass { One::raw() } }
+/// # impl ByClass_ for Super { fn raw_() -> &'static RawClass { Other::raw() } }
+/// fn lent(mutex: &Mutex<Sub, u64>) -> &Mutex<Super, u64> {
+///     mutex
+/// }
+/// ```
+pub(crate) type OfClass<C> = PhantomData<fn(C) -> C>;
+
+/// What [`class!`](crate::class!) implements.
+#[doc(hidden)]
+pub trait ByClass_: Sized + 'static {
+    fn raw_() -> &'static RawClass;
+}
+
+impl<C: ByClass_> Class for C {}
+
 /// Mutexes among which deadlocks are detected: a type, so that a context of another class can't lock them.
-/// [`class!`](crate::class!) makes one.
-pub trait Class: Sized + 'static {
-    /// What the class has at run time: the same one at each call.
-    fn raw() -> &'static RawClass;
+///
+/// [`class!`](crate::class!) makes one, and nothing else does:
+///
+/// ```compile_fail,E0277
+/// # use ww_mutex::{class, Class, RawClass};
+/// class!(struct Boxes: WoundWait);
+/// enum Twins {}
+/// impl Class for Twins {
+///     fn raw() -> &'static RawClass {
+///         Boxes::raw()
+///     }
+/// }
+/// ```
+pub trait Class: ByClass_ {
+    /// What the class has at run time.
+    #[inline]
+    #[must_use]
+    fn raw() -> &'static RawClass {
+        Self::raw_()
+    }
 
     /// Runs the body in a new context, and releases everything that it locked. If a lock call returned
     /// [`Deadlock`](Error::Deadlock) and the body fails, this waits for the contended mutex and runs the body again.
@@ -286,20 +328,12 @@ impl RawClass {
     /// How many contexts a class may have at a time at most.
     pub const MOST_CONTEXTS: u32 = 4_094;
 
-    /// A class with [`MUTEXES`](Self::MUTEXES) and [`CONTEXTS`](Self::CONTEXTS) at a time.
+    /// A class with at most this many mutexes and contexts at a time, and a name that ends with a zero. What isn't so doesn't
+    /// compile in a `static`.
+    #[doc(hidden)]
     #[must_use]
-    pub const fn new(kind: Kind, name: &'static CStr) -> Self {
-        Self::with_limits(kind, name, Self::MUTEXES, Self::CONTEXTS)
-    }
-
-    /// A class with at most this many mutexes and contexts at a time. It allocates memory for as many.
-    ///
-    /// # Panics
-    ///
-    /// If a number is 0, or more than [`MOST_MUTEXES`](Self::MOST_MUTEXES) and
-    /// [`MOST_CONTEXTS`](Self::MOST_CONTEXTS): in a `static`, as [`class!`](crate::class!) makes it, that doesn't compile.
-    #[must_use]
-    pub const fn with_limits(kind: Kind, name: &'static CStr, mutexes: u32, contexts: u32) -> Self {
+    pub const fn by_class_(kind: Kind, name: &'static str, mutexes: u32, contexts: u32) -> Self {
+        let Ok(name) = CStr::from_bytes_with_nul(name.as_bytes()) else { panic!("a name has one zero, at its end") };
         assert!(mutexes >= 1 && mutexes <= Self::MOST_MUTEXES, "a class has 1 to 16,777,216 mutexes");
         assert!(contexts >= 1 && contexts <= Self::MOST_CONTEXTS, "a class has 1 to 4,094 contexts");
         RawClass {
@@ -460,20 +494,15 @@ macro_rules! class {
     );+ $(;)?) => {
         $(
             $(#[$about])*
-            #[derive(Clone, Copy, Debug)]
+            #[derive(::core::clone::Clone, ::core::marker::Copy, ::core::fmt::Debug)]
             $seen enum $name {}
 
-            impl $crate::Class for $name {
+            impl $crate::ByClass_ for $name {
                 #[inline]
-                fn raw() -> &'static $crate::RawClass {
-                    const NAME: &::core::ffi::CStr =
-                        match ::core::ffi::CStr::from_bytes_with_nul(concat!(stringify!($name), "\0").as_bytes()) {
-                            Ok(name) => name,
-                            Err(_) => panic!("a name has no zero"),
-                        };
-                    static RAW: $crate::RawClass = $crate::RawClass::with_limits(
+                fn raw_() -> &'static $crate::RawClass {
+                    static RAW: $crate::RawClass = $crate::RawClass::by_class_(
                         $crate::Kind::$kind,
-                        NAME,
+                        ::core::concat!(::core::stringify!($name), "\0"),
                         $crate::class!(@limit MUTEXES $($mutexes)?),
                         $crate::class!(@limit CONTEXTS $($contexts)?),
                     );

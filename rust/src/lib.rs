@@ -91,6 +91,8 @@ use core::ffi::{c_char, c_void, CStr};
 
 pub use age::Age;
 pub use cancel::Canceller;
+#[doc(hidden)]
+pub use class::ByClass_;
 pub use class::{Class, Counts, Kind, RawClass};
 pub use error::Error;
 #[cfg(feature = "events")]

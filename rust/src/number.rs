@@ -1,7 +1,7 @@
 //! What a mutex has of its class: one of the library's mutexes, known by its number alone. The library keeps no address
 //! for it, so a [`Mutex`](crate::Mutex) may be moved, forgotten or dropped whenever Rust allows that.
 
-use crate::class::RawClass;
+use crate::class::{OfClass, RawClass};
 use crate::{Class, Error};
 use core::marker::PhantomData;
 use core::sync::atomic::{AtomicU64, Ordering};
@@ -33,7 +33,7 @@ impl Number {
 pub(crate) struct Handle<C: Class> {
     /// 0 before that.
     word: AtomicU64,
-    class: PhantomData<fn() -> C>,
+    class: OfClass<C>,
 }
 
 impl<C: Class> Handle<C> {

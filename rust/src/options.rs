@@ -1,4 +1,5 @@
 use crate::age::Kept;
+use crate::class::OfClass;
 use crate::context::Context;
 use crate::tx::Running;
 use crate::{Canceller, Class, Error, Tx};
@@ -22,7 +23,7 @@ use std::time::{Duration, Instant};
 pub struct Options<'c, C> {
     deadline: Option<Instant>,
     canceller: Option<&'c Canceller>,
-    class: PhantomData<fn() -> C>,
+    class: OfClass<C>,
 }
 
 impl<'c, C: Class> Options<'c, C> {

@@ -101,15 +101,18 @@ mod inner;
 mod lock;
 mod seek;
 mod shared;
+#[doc(hidden)]
+pub mod transaction_;
 mod waker;
 
 pub use guards::Guards;
 pub use lock::{ArcGuard, Guard, Lock, LockArc, LoneGuard};
 pub use shared::SharedGuard;
 
+use crate::class::OfClass;
 use crate::events::{Wait, Watch};
 use crate::{error, ffi, place, Class, Error, Mutex};
-use body::{is_within, Body};
+use body::is_within;
 use core::fmt;
 use core::future::{poll_fn, Future};
 use core::marker::PhantomData;
@@ -146,7 +149,7 @@ use std::sync::Arc;
 pub struct Tx<C: Class> {
     inner: Inner,
     attempts: u32,
-    class: PhantomData<fn() -> C>,
+    class: OfClass<C>,
 }
 
 impl<C: Class> Tx<C> {
@@ -291,37 +294,19 @@ impl<C: Class> Context<C> {
     /// In a forked child, if the class was in use at the fork.
     #[inline]
     pub async fn attempt(&mut self) -> Result<&Tx<C>, Error> {
-        match self.begin_now_() {
+        match self.begin_now() {
             Poll::Ready(begun) => begun?,
-            Poll::Pending => self.wait_().await?,
+            Poll::Pending => self.wait().await?,
         }
         Ok(&self.tx)
     }
 
     // `attempt`, in the parts of which `transaction!` makes it: the future of one that waits for nothing isn't made.
 
-    /// A context that hasn't begun has no `Tx`:
-    ///
-    /// ```compile_fail,E0133
-    /// # ww_mutex::class!(struct Boxes: WoundWait);
-    /// ww_mutex::task::Context::<Boxes>::new().begun_();
-    /// ```
-    ///
-    /// # Safety
-    ///
-    /// Its attempt has begun: `begin_now_` or `wait_` returned `Ok`.
-    #[doc(hidden)]
+    /// Pending: something is to be waited for, by `wait`.
     #[inline]
-    pub unsafe fn begun_(&mut self) -> &Tx<C> {
-        &self.tx
-    }
-
-    /// Pending: something is to be waited for, by `wait_`.
-    #[doc(hidden)]
-    #[inline]
-    #[allow(clippy::missing_errors_doc, reason = "as `attempt`")]
     #[track_caller]
-    pub fn begin_now_(&mut self) -> Poll<Result<(), Error>> {
+    fn begin_now(&mut self) -> Poll<Result<(), Error>> {
         place::said();
         let class = self.tx.inner.class;
         let inside = self.tx.inner.own();
@@ -351,13 +336,11 @@ impl<C: Class> Context<C> {
         Poll::Ready(Ok(()))
     }
 
-    #[doc(hidden)]
     #[cold]
-    #[allow(clippy::missing_errors_doc, reason = "as `attempt`")]
-    pub fn wait_(&mut self) -> impl Future<Output = Result<(), Error>> + use<'_, C> {
-        // The block below is a `Body` as well.
+    fn wait(&mut self) -> impl Future<Output = Result<(), Error>> + use<'_, C> {
+        // The block below is a body as well.
         let is_within = is_within();
-        let block = async move {
+        transaction_::body(async move {
             let Inner { class, .. } = self.tx.inner;
             if !self.tx.inner.own().has_begun() {
                 let (mut seek, mut watch) = (pin!(Seek::new(class, is_within)), Watch::default());
@@ -385,9 +368,7 @@ impl<C: Class> Context<C> {
             }
             self.tx.attempts = self.tx.attempts.saturating_add(1);
             Ok(())
-        };
-        // SAFETY: it is an async block.
-        unsafe { Body::new(block) }
+        })
     }
 
     /// Awaits the body, again after each `Deadlock`, as [`run`] does. If it fails, or its future is dropped, everything is
@@ -401,19 +382,8 @@ impl<C: Class> Context<C> {
     ///
     /// As [`Class::run`].
     pub async fn run<R, E: From<Error>>(&mut self, mut body: impl AsyncFnMut(&Tx<C>) -> Result<R, E>) -> Result<R, E> {
-        let mut kept = Kept_::new(self);
-        loop {
-            match kept.begin_now_() {
-                Poll::Ready(begun) => begun?,
-                Poll::Pending => kept.wait_().await?,
-            }
-            let tx = &kept.0.tx;
-            // SAFETY: it is an async block.
-            let told = unsafe { body_(async { body(tx).await }) }.await;
-            if let ControlFlow::Break(told) = kept.settle(told) {
-                return told;
-            }
-        }
+        let mut kept = transaction_::Kept::new(self);
+        crate::transaction!(@again kept, tx, Result<R, E>, body(tx).await)
     }
 
     /// The result of an attempt; or, if that failed after `Deadlock`, everything is released, and another attempt follows.
@@ -426,9 +396,16 @@ impl<C: Class> Context<C> {
             return ControlFlow::Break(Err(Error::Swallowed.into()));
         }
         drop(told);
-        // SAFETY: as in `release`.
-        drop(unsafe { self.tx.inner.own().release_all() });
+        self.release_all();
         ControlFlow::Continue(())
+    }
+
+    fn release_all(&mut self) {
+        let inside = self.tx.inner.own();
+        if inside.has_begun() {
+            // SAFETY: it has begun, and each guard borrows what this borrows exclusively.
+            drop(unsafe { inside.release_all() });
+        }
     }
 }
 
@@ -484,63 +461,6 @@ impl<C: Class, T: ?Sized> Mutex<C, T> {
 /// As [`Class::run`].
 pub async fn run<C: Class, R, E: From<Error>>(body: impl AsyncFnMut(&Tx<C>) -> Result<R, E>) -> Result<R, E> {
     Context::new().run(body).await
-}
-
-/// A context of the caller's during one transaction, which may be dropped at any point.
-#[doc(hidden)]
-pub struct Kept_<'c, C: Class>(&'c mut Context<C>);
-
-impl<'c, C: Class> Kept_<'c, C> {
-    pub fn new(context: &'c mut Context<C>) -> Self {
-        Kept_(context)
-    }
-
-    #[allow(clippy::missing_errors_doc, reason = "as `attempt`")]
-    #[track_caller]
-    pub fn begin_now_(&mut self) -> Poll<Result<(), Error>> {
-        self.0.begin_now_()
-    }
-
-    #[allow(clippy::missing_errors_doc, reason = "as `attempt`")]
-    pub fn wait_(&mut self) -> impl Future<Output = Result<(), Error>> + use<'_, 'c, C> {
-        self.0.wait_()
-    }
-
-    /// # Safety
-    ///
-    /// That of `Context::begun_`.
-    pub unsafe fn begun_(&mut self) -> &Tx<C> {
-        &self.0.tx
-    }
-
-    pub fn settle<R, E: From<Error>>(&mut self, told: Result<R, E>) -> ControlFlow<Result<R, E>> {
-        let told = self.0.settle(told);
-        if matches!(told, ControlFlow::Break(Ok(_))) {
-            // The next transaction is another one.
-            *self.0 = Context::new();
-        }
-        told
-    }
-}
-
-impl<C: Class> Drop for Kept_<'_, C> {
-    fn drop(&mut self) {
-        let inside = self.0.tx.inner.own();
-        if inside.has_begun() {
-            // SAFETY: it has begun, and each guard borrows what this borrows exclusively.
-            drop(unsafe { inside.release_all() });
-        }
-    }
-}
-
-/// # Safety
-///
-/// It is an async block, or holds nothing either once it is ready: it isn't dropped then.
-#[doc(hidden)]
-#[inline]
-pub unsafe fn body_<F: Future>(block: F) -> impl Future<Output = F::Output> {
-    // SAFETY: the caller's.
-    unsafe { Body::new(block) }
 }
 
 /// Awaits a body in a context of a class, and again after each [`Deadlock`](Error::Deadlock); for use in async functions:
@@ -626,30 +546,29 @@ pub unsafe fn body_<F: Future>(block: F) -> impl Future<Output = F::Output> {
 macro_rules! transaction {
     (@again $context:ident, $tx:ident, $told:ty, $body:expr) => {
         loop {
-            let begun = match $context.begin_now_() {
+            let begun = match $crate::task::transaction_::begin(&mut $context) {
                 ::core::task::Poll::Ready(begun) => begun,
-                ::core::task::Poll::Pending => $context.wait_().await,
+                ::core::task::Poll::Pending => $crate::task::transaction_::wait(&mut $context).await,
             };
-            if let ::core::result::Result::Err(error) = begun {
-                break ::core::result::Result::Err(::core::convert::From::from(error));
-            }
-            // SAFETY: it has begun.
-            let $tx = unsafe { $context.begun_() };
-            let block = async { $body };
-            // SAFETY: it is an async block.
-            let told: $told = unsafe { $crate::task::body_(block) }.await;
-            match $context.settle(told) {
+            let $tx = match begun {
+                ::core::result::Result::Ok(tx) => tx,
+                ::core::result::Result::Err(error) => {
+                    break ::core::result::Result::Err(::core::convert::From::from(error))
+                }
+            };
+            let told: $told = $crate::task::transaction_::body(async { $body }).await;
+            match $crate::task::transaction_::settle(&mut $context, told) {
                 ::core::ops::ControlFlow::Break(told) => break told,
                 ::core::ops::ControlFlow::Continue(()) => {}
             }
         }
     };
     (in $context:expr, |$tx:ident| -> $told:ty $body:block) => {{
-        let mut context = $crate::task::Kept_::new($context);
+        let mut context = $crate::task::transaction_::Kept::new($context);
         $crate::transaction!(@again context, $tx, $told, $body)
     }};
     (in $context:expr, |$tx:ident| $body:expr) => {{
-        let mut context = $crate::task::Kept_::new($context);
+        let mut context = $crate::task::transaction_::Kept::new($context);
         $crate::transaction!(@again context, $tx, ::core::result::Result<_, $crate::Error>, $body)
     }};
     ($class:ty, |$tx:ident| -> $told:ty $body:block) => {{

@@ -1,3 +1,4 @@
+use crate::class::OfClass;
 use crate::context::Context;
 use crate::{ArcMutexGuard, Class, Error, Guards, Mutex, MutexGuard, SharedMutex, SharedMutexGuard, UpgradableGuard};
 use core::cell::Cell;
@@ -52,7 +53,7 @@ use std::sync::Arc;
 pub struct Tx<C: Class> {
     context: Context,
     attempts: Cell<u32>,
-    class: PhantomData<fn() -> C>,
+    class: OfClass<C>,
 }
 
 impl<C: Class> Tx<C> {

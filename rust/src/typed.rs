@@ -167,6 +167,7 @@
 //! std::thread::spawn(move || drop(context));
 //! ```
 
+use crate::class::OfClass;
 use crate::context::Context as Inner;
 use crate::number::Number;
 use crate::{Class, Error, Mutex, MutexGuard};
@@ -181,14 +182,14 @@ use core::ptr::NonNull;
 pub struct Context<C: Class> {
     /// From `Box::leak`: the library has its address, so it is never borrowed exclusively.
     inner: NonNull<Inner>,
-    class: PhantomData<fn() -> C>,
+    class: OfClass<C>,
 }
 
 /// The one permission of a context to lock something more.
 #[must_use = "without it nothing more can be locked"]
 pub struct Acquiring<'x, C: Class> {
     inner: &'x Inner,
-    class: PhantomData<fn() -> C>,
+    class: OfClass<C>,
 }
 
 /// What a lock call returns: the permission to lock more, and what it locked.
@@ -198,7 +199,7 @@ pub type Locked<'x, C, G> = (Acquiring<'x, C>, G);
 #[must_use = "`Context::back_off` waits for the contended mutex"]
 pub struct Deadlock<C: Class> {
     contended: Option<Number>,
-    class: PhantomData<fn() -> C>,
+    class: OfClass<C>,
 }
 
 /// Why a mutex wasn't locked.

@@ -9,7 +9,7 @@ use std::sync::Barrier;
 use std::thread;
 use std::time::{Duration, Instant};
 use ww_mutex::typed::{Context, Refused};
-use ww_mutex::{class, Class, Error, Mutex, MutexGuard, RawClass, Tx};
+use ww_mutex::{class, ByClass_, Class, Error, Mutex, MutexGuard, RawClass, Tx};
 
 const SOON: Duration = Duration::from_millis(20);
 
@@ -297,14 +297,14 @@ fn a_class_that_says_so_has_more_mutexes() {
     assert_eq!(sum, Ok(65_536 + 69_999));
 }
 
-/// `Class::raw` is safe to write, so a wrong one may do no harm.
+/// Only `class!` implements this, but nothing hinders a program that does: a wrong one may do no harm.
 #[test]
 fn a_class_that_is_another_one_at_each_call_panics() {
     class!(struct One: WoundWait; struct Other: WoundWait);
     enum Both {}
     static IS_OTHER: AtomicBool = AtomicBool::new(false);
-    impl Class for Both {
-        fn raw() -> &'static RawClass {
+    impl ByClass_ for Both {
+        fn raw_() -> &'static RawClass {
             if IS_OTHER.fetch_xor(true, Ordering::Relaxed) {
                 One::raw()
             } else {
@@ -325,8 +325,8 @@ fn a_number_goes_back_to_its_class_alone() {
     class!(struct One: WoundWait, mutexes = 1; struct Other: WoundWait, mutexes = 1);
     enum Either {}
     static IS_OTHER: AtomicBool = AtomicBool::new(false);
-    impl Class for Either {
-        fn raw() -> &'static RawClass {
+    impl ByClass_ for Either {
+        fn raw_() -> &'static RawClass {
             if IS_OTHER.load(Ordering::Relaxed) {
                 Other::raw()
             } else {

@@ -1,4 +1,4 @@
-//! Async blocks that cost nothing once they are through.
+//! The bodies that a thread is within.
 
 use core::cell::Cell;
 use core::future::Future;
@@ -34,19 +34,17 @@ pub(super) fn is_within() -> bool {
     BODIES.get() != 0
 }
 
-/// An async block; once it is through it holds nothing, so it isn't dropped then.
+/// A body, or what one waits for: while this thread polls or drops it, it is within that. It drops the block as soon as that is
+/// through, where the compiler knows that an async block then holds nothing.
 #[must_use = "nothing is done until it is awaited"]
-pub struct Body<F> {
+pub(super) struct Body<F> {
     block: ManuallyDrop<F>,
     is_through: bool,
 }
 
 impl<F> Body<F> {
-    /// # Safety
-    ///
-    /// Once it is ready the block holds nothing, as all async blocks.
     #[inline]
-    pub(super) unsafe fn new(block: F) -> Self {
+    pub(super) fn new(block: F) -> Self {
         Body { block: ManuallyDrop::new(block), is_through: false }
     }
 
@@ -54,7 +52,7 @@ impl<F> Body<F> {
     #[inline(never)]
     fn stop(&mut self) {
         let _within = Entered::new();
-        // SAFETY: it is dropped once, where it stands, and isn't used any more.
+        // SAFETY: it isn't through, so it is dropped only here, where it stands.
         unsafe { ManuallyDrop::drop(&mut self.block) };
     }
 }
@@ -66,10 +64,15 @@ impl<F: Future> Future for Body<F> {
     fn poll(self: Pin<&mut Self>, cx: &mut Context<'_>) -> Poll<F::Output> {
         // SAFETY: the block stays in its place.
         let this = unsafe { self.get_unchecked_mut() };
+        assert!(!this.is_through, "a body is polled after its end");
         let _within = Entered::new();
-        // SAFETY: as above; it is dropped there.
+        // SAFETY: as above; it is dropped there, once.
         let told = unsafe { Pin::new_unchecked(&mut *this.block) }.poll(cx);
-        this.is_through = told.is_ready();
+        if told.is_ready() {
+            this.is_through = true;
+            // SAFETY: likewise.
+            unsafe { ManuallyDrop::drop(&mut this.block) };
+        }
         told
     }
 }
