@@ -65,11 +65,10 @@ pub trait Class: ByClass_ {
     }
 
     /// Runs the body in a new context, and releases everything that it locked. If a lock call returned
-    /// [`Deadlock`](Error::Deadlock) and the body fails, this waits for the contended mutex and runs the body again.
+    /// [`Deadlock`](Error::Deadlock), this waits for the contended mutex and runs the body again, whatever the body returned:
+    /// what it returns without all its locks is no result.
     ///
-    /// So the body may run several times, and should change nothing before it has all its locks. Its result is
-    /// returned, unless it got `Deadlock`: a body that returns `Ok` then is wrong, and this returns
-    /// [`Swallowed`](Error::Swallowed).
+    /// So the body may run several times, and should change nothing before it has all its locks.
     ///
     /// ```
     /// # use ww_mutex::{class, Class, Error, Mutex};
@@ -93,8 +92,7 @@ pub trait Class: ByClass_ {
     ///
     /// # Errors
     ///
-    /// The errors of the body, except an [`Error::Deadlock`] that its context got; [`Error::OutOfMemory`], if
-    /// this opens the class; [`Error::Swallowed`].
+    /// The errors of a body whose context got no [`Error::Deadlock`]; [`Error::OutOfMemory`], if this opens the class.
     ///
     /// # Panics
     ///
@@ -308,6 +306,8 @@ pub struct RawClass {
     tag: AtomicU32,
     /// Who holds this takes numbers.
     takes: Lock<()>,
+    /// The greatest number that it has taken.
+    most: AtomicU32,
     hooked: Hooked,
 }
 
@@ -350,6 +350,7 @@ impl RawClass {
             name,
             tag: AtomicU32::new(NO_TAG),
             takes: Lock::new(()),
+            most: AtomicU32::new(0),
             hooked: Hooked::new(),
         }
     }
@@ -408,7 +409,10 @@ impl RawClass {
         let mut index = 0;
         // SAFETY: the class is static, and `index` lives for the call.
         match unsafe { ffi::ww_number_take(&raw mut index, self.get()) } {
-            0 => Ok(Number::new(tag, index)),
+            0 => {
+                self.most.fetch_max(index, Relaxed);
+                Ok(Number::new(tag, index))
+            }
             answer => Err(error::of_making(answer)),
         }
     }
@@ -426,6 +430,35 @@ impl RawClass {
         if number.tag() == self.tag() {
             // SAFETY: the class is static; no mutex has the number, which was taken, and is put back once.
             unsafe { ffi::ww_number_leave(number.index(), self.get()) };
+        }
+    }
+
+    /// Releases all that a context holds but by guards: its reads; the mutex that it has since its back-off; and those of which the
+    /// guards were forgotten. Nothing lists these, so each number of the class is looked at; no other context pays for that.
+    ///
+    /// # Safety
+    ///
+    /// The context, which is of this class, has begun, and no call of it is on its way. Nobody can use a guard of it, or a reference
+    /// that a read gave.
+    pub(crate) unsafe fn release_all(&'static self, context: *mut ffi::ww_acquire_ctx, prelocked: Option<Number>) {
+        // SAFETY: as asked for here, and below.
+        let is_through = || unsafe { *ffi::acquired(context) == 0 };
+        unsafe {
+            if let Some(first) = prelocked {
+                ffi::unlock(first.index(), context);
+            }
+            if !is_through() {
+                ffi::ww_acquire_end_reads(context);
+            }
+            for index in 0..=self.most.load(Relaxed) {
+                if is_through() {
+                    break;
+                }
+                let mutex = ffi::ww_number_at(index, self.get());
+                if !mutex.is_null() && ffi::ww_shared_mutex_is_written_by(mutex, context) {
+                    ffi::unlock(index, context);
+                }
+            }
         }
     }
 

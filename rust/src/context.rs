@@ -7,13 +7,12 @@ use crate::number::Number;
 use crate::{clock, error, ffi, own, place, Canceller, Class, Error, Kind, Mutex, MutexGuard, SharedMutex};
 use core::cell::{Cell, OnceCell, RefCell, UnsafeCell};
 use core::ffi::c_int;
-use core::mem::MaybeUninit;
 use core::ptr;
 use std::time::{Duration, Instant};
 
 /// From `begin` to `end` it isn't moved or borrowed exclusively, since the library has its address.
 pub(crate) struct Context {
-    raw: UnsafeCell<MaybeUninit<ffi::ww_acquire_ctx>>,
+    raw: UnsafeCell<ffi::ww_acquire_ctx>,
     class: &'static RawClass,
     /// While this is `None`, a lock call is just that of the library.
     rare: OnceCell<Box<Rare>>,
@@ -88,7 +87,7 @@ impl Limits {
 impl Context {
     #[inline]
     pub(crate) const fn new(class: &'static RawClass) -> Self {
-        Context { raw: UnsafeCell::new(MaybeUninit::uninit()), class, rare: OnceCell::new() }
+        Context { raw: UnsafeCell::new(ffi::ww_acquire_ctx::uninit()), class, rare: OnceCell::new() }
     }
 
     #[cold]
@@ -103,14 +102,14 @@ impl Context {
 
     #[inline]
     fn raw(&self) -> *mut ffi::ww_acquire_ctx {
-        self.raw.get().cast()
+        self.raw.get()
     }
 
     /// How many mutexes it holds.
     #[inline]
     pub(crate) fn held(&self) -> u32 {
         // SAFETY: the context has begun, and only its own thread, which is this one, writes that field.
-        unsafe { (*self.raw()).acquired }
+        unsafe { *ffi::acquired(self.raw()) }
     }
 
     #[inline]
@@ -500,19 +499,19 @@ impl Context {
         told
     }
 
-    /// Releases whatever it holds, also what was forgotten: for that the library asks about each number of the class.
+    /// Releases whatever it holds, also what was forgotten.
     ///
     /// # Safety
     ///
     /// No guard of the context is left that anybody could use, and no reference that a read gave.
     unsafe fn release_all(&self) {
-        if let Some(rare) = self.rare() {
+        let prelocked = self.rare().and_then(|rare| {
             rare.upgradable.borrow_mut().clear();
-            rare.prelocked.take();
-        }
+            rare.prelocked.take()
+        });
         if self.held() != 0 {
             // SAFETY: the context has begun, and hasn't ended.
-            unsafe { ffi::ww_acquire_unlock_all(self.raw()) };
+            unsafe { self.class.release_all(self.raw(), prelocked) };
         }
     }
 }

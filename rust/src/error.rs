@@ -7,7 +7,7 @@ use core::fmt;
 #[non_exhaustive]
 pub enum Error {
     /// An older context goes first. Drop all guards of this context, and then try again:
-    /// [`Class::run`](crate::Class::run) does so if the body returns this error, as `?` does.
+    /// [`Class::run`](crate::Class::run) does so once the body has returned, as `?` does.
     Deadlock,
     /// The context holds this mutex already. A second guard would be a second `&mut` to one value.
     Duplicate,
@@ -19,9 +19,6 @@ pub enum Error {
     Exhausted,
     /// There is no memory to open the class, at its first use.
     OutOfMemory,
-    /// A lock call of the body returned [`Deadlock`](Error::Deadlock), and yet the body returned `Ok`, without the lock.
-    /// It must fail then, so that it runs again.
-    Swallowed,
 }
 
 impl Error {
@@ -43,7 +40,6 @@ impl fmt::Display for Error {
             Error::TimedOut => "the deadline passed",
             Error::Exhausted => "the class has all mutexes that it may have: 65,536, or as many as `class!` says",
             Error::OutOfMemory => "there is no memory to open the class",
-            Error::Swallowed => "the body got Deadlock, but returned Ok",
         })
     }
 }

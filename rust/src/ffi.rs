@@ -2,7 +2,8 @@
 
 #![allow(non_camel_case_types, reason = "the names are those of the header")]
 
-use core::ffi::{c_char, c_int, c_long, c_uint, c_ulong, c_void};
+use core::ffi::{c_char, c_int, c_long, c_uint, c_void};
+use core::mem::MaybeUninit;
 #[cfg(feature = "async")]
 use core::ptr;
 
@@ -46,21 +47,42 @@ pub struct ww_mutex {
     _inside: [u8; 0],
 }
 
+/// C alone knows its fields, and writes only some of them when it begins: so it is memory, of which this crate accesses the two
+/// fields below. A copy keeps each byte.
 #[repr(C)]
 pub struct ww_acquire_ctx {
-    pub pool: *mut ww_pool,
-    pub own: *mut ww_seat,
-    pub gives: *mut c_void,
-    pub acquired: c_uint,
-    pub state: c_uint,
-    pub contending_lock: *mut ww_mutex,
-    pub newest: *mut ww_mutex,
-    pub prelocked: *mut ww_mutex,
-    pub cancelled: c_uint,
-    pub deadlock_inject_interval: c_uint,
-    pub deadlock_inject_countdown: c_uint,
-    pub stamp: c_ulong,
-    pub empty_: [*mut c_void; 2],
+    _memory: [MaybeUninit<u64>; 12],
+}
+
+const OWN: usize = 8;
+const ACQUIRED: usize = 24;
+
+impl ww_acquire_ctx {
+    pub const fn uninit() -> Self {
+        ww_acquire_ctx { _memory: [MaybeUninit::uninit(); 12] }
+    }
+}
+
+/// Its seat; null before it has begun, and once it has ended.
+///
+/// # Safety
+///
+/// The memory of a context is there.
+#[inline]
+pub unsafe fn own(ctx: *mut ww_acquire_ctx) -> *mut *mut ww_seat {
+    // SAFETY: the field lies there.
+    unsafe { ctx.byte_add(OWN).cast() }
+}
+
+/// How many locks it has.
+///
+/// # Safety
+///
+/// As that of `own`.
+#[inline]
+pub unsafe fn acquired(ctx: *mut ww_acquire_ctx) -> *mut c_uint {
+    // SAFETY: the field lies there.
+    unsafe { ctx.byte_add(ACQUIRED).cast() }
 }
 
 /// That of `c/include/ww_poll.h`.
@@ -135,7 +157,7 @@ extern "C" {
     pub fn ww_acquire_flags(ctx: *mut ww_acquire_ctx, flags: c_uint);
     pub fn ww_acquire_fini(ctx: *mut ww_acquire_ctx);
     pub fn ww_acquire_cancel(ctx: *mut ww_acquire_ctx) -> c_int;
-    pub fn ww_acquire_unlock_all(ctx: *mut ww_acquire_ctx);
+    pub fn ww_acquire_end_reads(ctx: *mut ww_acquire_ctx);
 
     pub fn ww_number_take(number: *mut u32, class: *mut ww_class) -> c_int;
     pub fn ww_number_leave(number: u32, class: *mut ww_class);
@@ -209,10 +231,10 @@ extern "C" {
 pub unsafe fn locks_at_once(number: u32, ctx: *mut ww_acquire_ctx) -> bool {
     // SAFETY: as the caller promises. Only the context's user accesses what is read and written of it here.
     unsafe {
-        if cfg!(ww_no_inline) || ww_try_((*ctx).own, number) != 0 {
+        if cfg!(ww_no_inline) || ww_try_(*own(ctx), number) != 0 {
             return false;
         }
-        (*ctx).acquired += 1;
+        *acquired(ctx) += 1;
     }
     true
 }
@@ -226,10 +248,10 @@ pub unsafe fn locks_at_once(number: u32, ctx: *mut ww_acquire_ctx) -> bool {
 pub unsafe fn lock(number: u32, ctx: *mut ww_acquire_ctx) -> c_int {
     // SAFETY: as the caller promises. Only the context's own thread accesses what is read and written of it here.
     unsafe {
-        if cfg!(ww_no_inline) || ww_try_((*ctx).own, number) != 0 {
+        if cfg!(ww_no_inline) || ww_try_(*own(ctx), number) != 0 {
             return ww_number_lock(number, ctx);
         }
-        (*ctx).acquired += 1;
+        *acquired(ctx) += 1;
     }
     0
 }
@@ -247,12 +269,12 @@ pub unsafe fn unlock(number: u32, ctx: *mut ww_acquire_ctx) {
             ww_number_unlock(number, ctx);
             return;
         }
-        let r = ww_unlock_((*ctx).own, number);
+        let r = ww_unlock_(*own(ctx), number);
         if r != 0 {
             ww_number_unlock_further_(number, ctx, r);
             return;
         }
-        (*ctx).acquired -= 1;
+        *acquired(ctx) -= 1;
     }
 }
 
@@ -260,7 +282,7 @@ pub unsafe fn unlock(number: u32, ctx: *mut ww_acquire_ctx) {
 mod tests {
     #[cfg(feature = "async")]
     use super::ww_seek;
-    use super::{timespec, ww_acquire_ctx, ww_class, ww_class_counts, INTERFACE};
+    use super::{timespec, ww_acquire_ctx, ww_class, ww_class_counts, ACQUIRED, INTERFACE, OWN};
     use std::mem::{align_of, offset_of, size_of};
     use std::process::Command;
     use std::{env, fs};
@@ -288,10 +310,11 @@ mod tests {
             ww_class: pool mutexes contexts is_wait_die permits name;
             ww_class_counts: back_offs lock_waits context_waits permit_waits contexts context_waiters
                 task_contexts;
-            ww_acquire_ctx: pool own gives acquired state contending_lock newest prelocked cancelled
-                deadlock_inject_interval deadlock_inject_countdown stamp empty_;
+            ww_acquire_ctx: ;
             timespec: tv_sec tv_nsec;
         };
+        let fields = "PLACE(struct ww_acquire_ctx, own)\nPLACE(struct ww_acquire_ctx, acquired)\n";
+        let (asked, here) = (asked + fields, here + &format!("{OWN}\n{ACQUIRED}\n"));
         #[cfg(feature = "async")]
         let (asked, here) = {
             let (more, too) = layouts! {

@@ -116,7 +116,6 @@ use body::is_within;
 use core::fmt;
 use core::future::{poll_fn, Future};
 use core::marker::PhantomData;
-use core::mem::MaybeUninit;
 use core::ops::ControlFlow;
 use core::pin::pin;
 use core::ptr;
@@ -324,9 +323,8 @@ impl<C: Class> Context<C> {
     /// Pending: the mutex at which the attempt before got `Deadlock` is to be waited for.
     #[cold]
     fn begin_again(&mut self) -> Poll<Result<(), Error>> {
+        self.release_all();
         let inside = self.tx.inner.own();
-        // SAFETY: it has begun, and each guard borrows what this borrows exclusively.
-        drop(unsafe { inside.release_all() });
         let rare = inside.rare();
         rare.is_over = false;
         if rare.contended.is_some() {
@@ -352,7 +350,7 @@ impl<C: Class> Context<C> {
                     told
                 })
                 .await;
-                let told = told.map(|raw| self.tx.inner.own().raw = MaybeUninit::new(raw));
+                let told = told.map(|raw| self.tx.inner.own().raw = raw);
                 watch.ends(told);
                 return told;
             }
@@ -386,14 +384,12 @@ impl<C: Class> Context<C> {
         crate::transaction!(@again kept, tx, Result<R, E>, body(tx).await)
     }
 
-    /// The result of an attempt; or, if that failed after `Deadlock`, everything is released, and another attempt follows.
+    /// The result of an attempt; or, if a lock call of it returned `Deadlock`, whatever the attempt returned then, everything is
+    /// released, and another attempt follows.
     #[inline]
     pub fn settle<R, E: From<Error>>(&mut self, told: Result<R, E>) -> ControlFlow<Result<R, E>> {
         if !self.tx.inner.own().is_over() {
             return ControlFlow::Break(told);
-        }
-        if told.is_ok() {
-            return ControlFlow::Break(Err(Error::Swallowed.into()));
         }
         drop(told);
         self.release_all();
@@ -401,10 +397,11 @@ impl<C: Class> Context<C> {
     }
 
     fn release_all(&mut self) {
+        let class = self.tx.inner.class;
         let inside = self.tx.inner.own();
         if inside.has_begun() {
             // SAFETY: it has begun, and each guard borrows what this borrows exclusively.
-            drop(unsafe { inside.release_all() });
+            drop(unsafe { inside.release_all(class) });
         }
     }
 }

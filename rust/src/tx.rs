@@ -294,9 +294,6 @@ impl<C: Class> Tx<C> {
             if !self.context.is_over() {
                 return result;
             }
-            if result.is_ok() {
-                return Err(Error::Swallowed.into());
-            }
             drop(result);
             // SAFETY: a guard lives no longer than the borrow with which the body was called, whose lifetime the body
             // doesn't choose: so where one was forgotten, nothing can reach it any more.

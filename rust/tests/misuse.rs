@@ -9,7 +9,7 @@ use std::sync::Barrier;
 use std::thread;
 use std::time::{Duration, Instant};
 use ww_mutex::typed::{Context, Refused};
-use ww_mutex::{class, ByClass_, Class, Error, Mutex, MutexGuard, RawClass, Tx};
+use ww_mutex::{class, ByClass_, Class, Error, Mutex, MutexGuard, RawClass};
 
 const SOON: Duration = Duration::from_millis(20);
 
@@ -36,40 +36,29 @@ fn panics<R>(what: impl FnOnce() -> R) -> bool {
     catch_unwind(AssertUnwindSafe(|| drop(what()))).is_err()
 }
 
-/// A younger context, which gets `Deadlock` in its first attempt, does this with what its lock call returned.
-fn told_deadlock<C: Class, R>(
-    mut then: impl FnMut(&Tx<C>, MutexGuard<'_, C, u64>, Error) -> Result<R, Error>,
-) -> Result<R, Error> {
-    let (a, b): (Mutex<C, u64>, Mutex<C, u64>) = (Mutex::new(1), Mutex::new(2));
-    let mut older = Context::begin().unwrap();
-    let mut tx = Some(older.start());
-    let told = C::run(|younger| {
-        let held = younger.lock(&b)?;
-        let Ok((_, held_by_older)) = tx.take().expect("the body runs once").lock(&a) else { panic!() };
-        let error = younger.lock(&a).map(|_| ()).unwrap_err();
-        drop(held_by_older);
-        then(younger, held, error)
-    });
-    assert!(!a.is_locked() && !b.is_locked());
-    told
-}
-
+/// Until the body has returned, and runs again, whatever it returned.
 #[test]
 fn a_lock_after_deadlock_is_told_so_again() {
     class!(struct Boxes: WaitDie);
-    let other: Mutex<Boxes, u64> = Mutex::new(0);
-    let told = told_deadlock::<Boxes, _>(|tx, held, error| {
-        assert_eq!(error, Error::Deadlock);
-        assert_eq!(tx.lock(&other).map(|_| ()), Err(Error::Deadlock));
-        assert_eq!(tx.lock(MutexGuard::mutex(&held)).map(|_| ()), Err(Error::Deadlock));
-        assert!(tx.try_lock(&other).is_none());
+    let [a, b, other]: [Mutex<Boxes, u64>; 3] = [Mutex::new(1), Mutex::new(2), Mutex::new(3)];
+    let mut older = Context::begin().unwrap();
+    let mut tx = Some(older.start());
+    let told = Boxes::run(|younger| {
+        let held = younger.lock(&b)?;
+        let Some(tx) = tx.take() else { return Ok(*younger.lock(&a)? + *held) };
+        let Ok((_, held_by_older)) = tx.lock(&a) else { panic!() };
+        assert_eq!(younger.lock(&a).map(|_| ()), Err(Error::Deadlock));
+        drop(held_by_older);
+        assert_eq!(younger.lock(&other).map(|_| ()), Err(Error::Deadlock));
+        assert_eq!(younger.lock(MutexGuard::mutex(&held)).map(|_| ()), Err(Error::Deadlock));
+        assert!(younger.try_lock(&other).is_none());
         // Though it holds nothing.
         drop(held);
-        assert_eq!(tx.lock(&other).map(|_| ()), Err(Error::Deadlock));
-        assert!(tx.try_lock(&other).is_none());
+        assert_eq!(younger.lock(&other).map(|_| ()), Err(Error::Deadlock));
+        assert!(younger.try_lock(&other).is_none());
         Ok(5)
     });
-    assert_eq!(told, Err(Error::Swallowed));
+    assert_eq!((told, a.is_locked(), b.is_locked()), (Ok(3), false, false));
 }
 
 #[test]
@@ -111,21 +100,27 @@ fn a_duplicate_is_told() {
     assert!(!m.is_locked());
 }
 
+/// A body that swallows `Deadlock`, and returns a value or an error of its own, made neither with all its locks: it runs again.
 #[test]
-fn a_deadlock_that_a_body_swallows_is_an_error() {
+fn a_body_that_swallows_deadlock_runs_again() {
     class!(struct Boxes: WaitDie);
     let (a, b): (Mutex<Boxes, u64>, Mutex<Boxes, u64>) = (Mutex::new(1), Mutex::new(2));
-    let mut older = Context::begin().unwrap();
-    let Ok((_, held)) = older.start().lock(&a) else { panic!() };
-    let mut runs = 0;
-    let told = Boxes::run(|tx| {
-        runs += 1;
-        let _first = tx.lock(&b)?;
-        Ok(tx.lock(&a).is_ok())
-    });
-    assert_eq!((told, runs, b.is_locked()), (Err(Error::Swallowed), 1, false));
-    drop(held);
-    assert_eq!(Boxes::run(|tx| Ok(tx.lock_all([&a, &b]).is_ok())), Ok(true));
+    for fails in [false, true] {
+        let mut older = Context::begin().unwrap();
+        let Ok((_, held)) = older.start().lock(&a) else { panic!() };
+        let (mut held, mut runs) = (Some(held), 0);
+        let told = Boxes::run(|tx| {
+            runs += 1;
+            let _first = tx.lock(&b)?;
+            let has_both = tx.lock(&a).is_ok();
+            drop(held.take());
+            if fails && !has_both {
+                return Err(Error::TimedOut);
+            }
+            Ok(has_both)
+        });
+        assert!(told == Ok(true) && runs > 1 && !a.is_locked() && !b.is_locked());
+    }
 }
 
 #[test]

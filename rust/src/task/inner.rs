@@ -30,7 +30,7 @@ unsafe impl Sync for Inner {}
 
 pub(super) struct Inside {
     /// As long as it hasn't begun, only `own` is there. The library keeps no address of it.
-    pub(super) raw: MaybeUninit<ffi::ww_acquire_ctx>,
+    pub(super) raw: ffi::ww_acquire_ctx,
     /// As long as there is none of it, a lock call or a release is the library's and nothing else. `Inner` drops it.
     pub(super) rare: ManuallyDrop<Option<Rare>>,
 }
@@ -130,7 +130,7 @@ impl Inner {
             (&raw mut (*at).class).write(class);
             let inside = UnsafeCell::raw_get(&raw const (*at).inside);
             (&raw mut (*inside).rare).write(ManuallyDrop::new(None));
-            (&raw mut (*(*inside).raw.as_mut_ptr()).own).write(ptr::null_mut());
+            ffi::own(&raw mut (*inside).raw).write(ptr::null_mut());
             inner.assume_init()
         }
     }
@@ -191,12 +191,12 @@ impl Inside {
     #[inline]
     pub(super) fn has_begun(&self) -> bool {
         // SAFETY: `own` is always there.
-        unsafe { !(*self.raw.as_ptr()).own.is_null() }
+        unsafe { !(*ffi::own((&raw const self.raw).cast_mut())).is_null() }
     }
 
     #[inline]
     pub(super) fn raw(&mut self) -> *mut ffi::ww_acquire_ctx {
-        self.raw.as_mut_ptr()
+        &raw mut self.raw
     }
 
     pub(super) fn rare(&mut self) -> &mut Rare {
@@ -317,19 +317,20 @@ impl Inside {
         Poll::Ready(self.told(asked, answer))
     }
 
-    /// Whatever the context holds, also what was forgotten, for which the library asks for each number. A lock future that was
-    /// forgotten may have left a call, whose waker this returns.
+    /// Whatever the context, which is of this class, holds, also what was forgotten. A lock future that was forgotten may have left
+    /// a call, whose waker this returns.
     ///
     /// # Safety
     ///
     /// It has begun, and nobody has a guard of it any more.
-    pub(super) unsafe fn release_all(&mut self) -> Option<Waker> {
+    pub(super) unsafe fn release_all(&mut self, class: &'static RawClass) -> Option<Waker> {
         let back = self.end_wait();
-        if let Some(rare) = self.rare.as_mut() {
-            (rare.call, rare.prelocked) = (Call::None, None);
-        }
+        let prelocked = self.rare.as_mut().and_then(|rare| {
+            rare.call = Call::None;
+            rare.prelocked.take()
+        });
         // SAFETY: as asked for here.
-        unsafe { ffi::ww_acquire_unlock_all(self.raw()) };
+        unsafe { class.release_all(self.raw(), prelocked) };
         back
     }
 
@@ -341,7 +342,7 @@ impl Inside {
     #[inline]
     unsafe fn held(&mut self) -> u32 {
         // SAFETY: as asked for here.
-        unsafe { (*self.raw()).acquired }
+        unsafe { *ffi::acquired(self.raw()) }
     }
 
     /// # Safety
@@ -375,10 +376,11 @@ impl Inner {
     /// It has begun, and isn't used any more.
     #[cold]
     unsafe fn end_rarely(&mut self) {
+        let class = self.class;
         let inside = self.inside.get_mut();
         // SAFETY: as asked for here; guards borrow it, and none is left.
         unsafe {
-            let back = inside.release_all();
+            let back = inside.release_all(class);
             inside.end();
             drop(back);
             ManuallyDrop::drop(&mut inside.rare);

@@ -6,13 +6,12 @@ use crate::class::RawClass;
 use crate::{error, ffi, Error};
 use core::cell::UnsafeCell;
 use core::marker::PhantomPinned;
-use core::mem::MaybeUninit;
 use core::pin::Pin;
 use core::task::{Poll, Waker};
 
 /// A wait for a context: it stays where it is until it is dropped.
 pub(super) struct Seek {
-    raw: UnsafeCell<MaybeUninit<ffi::ww_acquire_ctx>>,
+    raw: UnsafeCell<ffi::ww_acquire_ctx>,
     inside: UnsafeCell<ffi::ww_seek>,
     class: &'static RawClass,
     /// Its one call, which waits or hasn't begun.
@@ -27,7 +26,7 @@ impl Seek {
     /// Within another context: by a task that has one.
     pub(super) fn new(class: &'static RawClass, is_within: bool) -> Self {
         Seek {
-            raw: UnsafeCell::new(MaybeUninit::uninit()),
+            raw: UnsafeCell::new(ffi::ww_acquire_ctx::uninit()),
             inside: ffi::ww_seek::new(is_within).into(),
             class,
             call: Call::None,
@@ -40,7 +39,7 @@ impl Seek {
         let Call::Waits(lent) = &mut self.call else { return None };
         let lent = lent.take()?;
         // SAFETY: a wait is on its way; if the library says so, it has the waker no more.
-        unsafe { ffi::ww_poll_take_back(self.raw.get().cast(), self.inside.get()).then(|| lent.back()) }
+        unsafe { ffi::ww_poll_take_back(self.raw.get(), self.inside.get()).then(|| lent.back()) }
     }
 
     pub(super) fn poll(self: Pin<&mut Self>, waker: &Waker) -> Poll<Result<ffi::ww_acquire_ctx, Error>> {
@@ -52,7 +51,7 @@ impl Seek {
         let lent = Lent::lend(waker);
         // SAFETY: the class is static, and the wait stays where it is.
         let answer = unsafe {
-            ffi::ww_acquire_init_poll(this.raw.get().cast(), this.class.get(), this.inside.get(), &raw const lent.0)
+            ffi::ww_acquire_init_poll(this.raw.get(), this.class.get(), this.inside.get(), &raw const lent.0)
         };
         if answer == -ffi::EINPROGRESS {
             this.call = Call::Waits(Some(lent));
@@ -62,8 +61,8 @@ impl Seek {
         // SAFETY: the library hasn't taken it.
         drop(unsafe { lent.back() });
         match answer {
-            // SAFETY: it has begun. The library keeps no address of it.
-            0 => Poll::Ready(Ok(unsafe { (*this.raw.get()).assume_init_read() })),
+            // SAFETY: it is of this, exclusively. It has begun, and the library keeps no address of it.
+            0 => Poll::Ready(Ok(unsafe { this.raw.get().read() })),
             _ => Poll::Ready(Err(error::of_making(answer))),
         }
     }
