@@ -440,9 +440,11 @@ impl RawClass {
     ///
     /// The context, which is of this class, has begun, and no call of it is on its way. Nobody can use a guard of it, or a reference
     /// that a read gave.
+    #[inline(never)]
     pub(crate) unsafe fn release_all(&'static self, context: *mut ffi::ww_acquire_ctx, prelocked: Option<Number>) {
-        // SAFETY: as asked for here, and below.
+        // SAFETY: as asked for here.
         let is_through = || unsafe { *ffi::acquired(context) == 0 };
+        // SAFETY: likewise.
         unsafe {
             if let Some(first) = prelocked {
                 ffi::unlock(first.index(), context);
@@ -450,10 +452,20 @@ impl RawClass {
             if !is_through() {
                 ffi::ww_acquire_end_reads(context);
             }
-            for index in 0..=self.most.load(Relaxed) {
-                if is_through() {
-                    break;
-                }
+            if !is_through() {
+                self.release_forgotten(context);
+            }
+        }
+    }
+
+    /// # Safety
+    ///
+    /// That of `release_all`, of a context that reads nothing.
+    #[cold]
+    unsafe fn release_forgotten(&'static self, context: *mut ffi::ww_acquire_ctx) {
+        for index in 0..=self.most.load(Relaxed) {
+            // SAFETY: as asked for here; a number that was ever taken has a mutex, also one that was put back.
+            unsafe {
                 let mutex = ffi::ww_number_at(index, self.get());
                 if !mutex.is_null() && ffi::ww_shared_mutex_is_written_by(mutex, context) {
                     ffi::unlock(index, context);

@@ -265,17 +265,60 @@ pub unsafe fn lock(number: u32, ctx: *mut ww_acquire_ctx) -> c_int {
 pub unsafe fn unlock(number: u32, ctx: *mut ww_acquire_ctx) {
     // SAFETY: as above.
     unsafe {
-        if cfg!(ww_no_inline) {
-            ww_number_unlock(number, ctx);
-            return;
-        }
-        let r = ww_unlock_(*own(ctx), number);
+        let r = unlock_at_once(number, ctx);
         if r != 0 {
-            ww_number_unlock_further_(number, ctx, r);
-            return;
+            unlock_and_wake(number, ctx, r);
         }
-        *acquired(ctx) -= 1;
     }
+}
+
+/// Its first step: 0, or what `unlock_further` takes.
+///
+/// # Safety
+///
+/// That of `unlock`.
+#[inline]
+pub unsafe fn unlock_at_once(number: u32, ctx: *mut ww_acquire_ctx) -> c_int {
+    // SAFETY: as above.
+    unsafe {
+        let r = if cfg!(ww_no_inline) { NOTHING_WAS_DONE } else { ww_unlock_(*own(ctx), number) };
+        if r == 0 {
+            *acquired(ctx) -= 1;
+        }
+        r
+    }
+}
+
+/// A first step that wasn't made.
+pub const NOTHING_WAS_DONE: c_int = -1;
+
+/// The other steps. They may call wakers, but don't block.
+///
+/// # Safety
+///
+/// That of `unlock`; the first step returned this.
+pub unsafe fn unlock_further(number: u32, ctx: *mut ww_acquire_ctx, r: c_int) {
+    // SAFETY: as asked for here.
+    unsafe {
+        if r == NOTHING_WAS_DONE {
+            ww_number_unlock(number, ctx);
+        } else {
+            ww_number_unlock_further_(number, ctx, r);
+        }
+    }
+}
+
+/// # Safety
+///
+/// That of `unlock_further`.
+#[cold]
+unsafe fn unlock_and_wake(number: u32, ctx: *mut ww_acquire_ctx, r: c_int) {
+    // SAFETY: as asked for here.
+    let further = || unsafe { unlock_further(number, ctx, r) };
+    #[cfg(feature = "async")]
+    crate::task::waking_after(further);
+    #[cfg(not(feature = "async"))]
+    further();
 }
 
 #[cfg(test)]

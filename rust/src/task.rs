@@ -88,6 +88,12 @@
 //! are, so that any thread may poll the task next. For this each lock and each release has one atomic exchange more than
 //! those of a thread.
 //!
+//! # Wakers
+//!
+//! Whoever ends a task's wait calls its waker: any thread or task that releases, locks, cancels, or ends a context or a wait. By
+//! then it uses none of its contexts, so the waker may use any, except in a call of a thread that itself waits. A waker that
+//! panics ends nothing of whoever calls it.
+//!
 //! # Dropped futures
 //!
 //! A future may be dropped at any point, so tasks need no deadlines or cancellers. Dropping a [`Lock`], a read or a write leaves
@@ -108,6 +114,7 @@ mod waker;
 pub use guards::Guards;
 pub use lock::{ArcGuard, Guard, Lock, LockArc, LoneGuard};
 pub use shared::SharedGuard;
+pub(crate) use waker::waking_after;
 
 use crate::class::OfClass;
 use crate::events::{Wait, Watch};
@@ -181,7 +188,7 @@ impl<C: Class> Tx<C> {
     /// lock call of this `Tx` waits.
     pub fn try_lock<'x, T: ?Sized>(&'x self, mutex: &'x Mutex<C, T>) -> Option<Guard<'x, C, T>> {
         let number = mutex.number(self.inner.class).ok()?;
-        self.inner.enter().tries(number).then(|| Guard::of(mutex, &self.inner))
+        self.inner.tries(number).then(|| Guard::of(mutex, &self.inner))
     }
 
     /// Locks all of them, in this order. If one can't be locked, or the future is dropped, it keeps none of them.

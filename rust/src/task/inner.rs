@@ -1,11 +1,11 @@
 //! What the parts of a context share.
 
 use super::shared::Asked;
-use super::waker::Lent;
+use super::waker::{Lent, Wakers};
 use crate::class::RawClass;
 use crate::number::Number;
 use crate::{error, ffi, Error};
-use core::cell::UnsafeCell;
+use core::cell::{Cell, UnsafeCell};
 use core::ffi::c_int;
 use core::hint;
 use core::mem::{ManuallyDrop, MaybeUninit};
@@ -78,17 +78,12 @@ pub(super) enum Call {
     Ended,
 }
 
-/// What is done when the context isn't used any more: wakers are other programs'.
+/// What is done when the context isn't used any more: wakers are other programs', also where they are dropped. A drop that panics
+/// comes after all wake-ups.
 #[derive(Default)]
 pub(super) struct Later {
-    pub(super) back: Option<Waker>,
-    pub(super) others: Vec<Waker>,
-}
-
-impl Later {
-    pub(super) fn wake(self) {
-        self.back.into_iter().chain(self.others).for_each(Waker::wake);
-    }
+    pub(super) wakers: Wakers,
+    pub(super) dropped: [Option<Waker>; 2],
 }
 
 pub(super) struct Entered<'i>(&'i Inner);
@@ -111,9 +106,22 @@ impl DerefMut for Entered<'_> {
     }
 }
 
+std::thread_local! {
+    /// How many contexts this thread is using. Only with debug assertions.
+    static USED: Cell<u32> = const { Cell::new(0) };
+}
+
+/// Wakers may use any context, so none is called meanwhile.
+pub(super) fn is_using() -> bool {
+    cfg!(debug_assertions) && USED.get() != 0
+}
+
 impl Drop for Entered<'_> {
     #[inline]
     fn drop(&mut self) {
+        if cfg!(debug_assertions) {
+            USED.set(USED.get() - 1);
+        }
         self.0.is_used.store(false, Ordering::Release);
     }
 }
@@ -146,6 +154,9 @@ impl Inner {
         if self.is_used.swap(true, Ordering::Acquire) {
             self.await_others();
         }
+        if cfg!(debug_assertions) {
+            USED.set(USED.get() + 1);
+        }
         Entered(self)
     }
 
@@ -169,20 +180,34 @@ impl Inner {
     #[inline]
     pub(super) fn release(&self, index: u32) {
         let mut inside = self.enter();
-        if inside.rare.is_some() {
-            return Self::release_rarely(inside, index);
+        let mut answer = ffi::NOTHING_WAS_DONE;
+        if inside.rare.is_none() {
+            // SAFETY: the context holds it, and no call of it is on its way.
+            answer = unsafe { ffi::unlock_at_once(index, inside.raw()) };
         }
-        // SAFETY: the context holds it, and no call of it is on its way.
-        unsafe { ffi::unlock(index, inside.raw()) };
+        if answer != 0 {
+            Self::release_rarely(inside, index, answer);
+        }
+    }
+
+    /// Acquires it if that can be at once.
+    pub(super) fn tries(&self, number: Number) -> bool {
+        let mut wakers = Wakers::default();
+        let mut inside = self.enter();
+        wakers.collect(|| inside.tries(number))
     }
 
     #[cold]
-    fn release_rarely(mut inside: Entered<'_>, index: u32) {
-        let back = inside.end_wait();
-        // SAFETY: as above.
-        unsafe { ffi::unlock(index, inside.raw()) };
+    fn release_rarely(mut inside: Entered<'_>, index: u32, answer: c_int) {
+        let mut wakers = Wakers::default();
+        let back = wakers.collect(|| {
+            let back = inside.end_wait();
+            // SAFETY: as above.
+            unsafe { ffi::unlock_further(index, inside.raw(), answer) };
+            back
+        });
+        wakers.extend(back);
         drop(inside);
-        Later { back, ..Later::default() }.wake();
     }
 }
 
@@ -242,8 +267,17 @@ impl Inside {
         back
     }
 
-    /// Acquires it if that can be at once.
-    pub(super) fn tries(&mut self, number: Number) -> bool {
+    /// Whether this lock call needs no more than its first step.
+    #[inline]
+    pub(super) fn locks_at_once(&mut self, asked: Asked) -> bool {
+        match asked {
+            // SAFETY: the context has begun, and no call of it is on its way.
+            Asked::Lock(number) if self.rare.is_none() => unsafe { ffi::locks_at_once(number.index(), self.raw()) },
+            _ => false,
+        }
+    }
+
+    fn tries(&mut self, number: Number) -> bool {
         // SAFETY: the context has begun, and no call of it is on its way.
         let tries = |inside: &mut Self| unsafe { ffi::ww_number_trylock(number.index(), inside.raw()) == 1 };
         match self.rare.as_mut() {
@@ -253,7 +287,6 @@ impl Inside {
     }
 
     /// The call, if it needn't wait; else `-ETIMEDOUT`.
-    #[inline]
     pub(super) fn poll_once(&mut self, class: &'static RawClass, asked: Asked) -> c_int {
         if let Some(rare) = self.rare.as_mut() {
             if !rare.is_free() {
@@ -287,7 +320,7 @@ impl Inside {
         if let Call::Waits(old) = &mut self.rare().call {
             match old.take().and_then(|old| self.take_back(old)) {
                 Some(back) if back.will_wake(waker) => lent = Some(Lent::lend(back)),
-                back => later.back = back,
+                back => later.dropped[0] = back, // The task runs, and has another one.
             }
         } else if self.is_over() {
             return Poll::Ready(Err(Error::Deadlock));
@@ -297,23 +330,24 @@ impl Inside {
         }
         // If the clone panics, the call is as it was, but for its waker.
         let lent = lent.unwrap_or_else(|| Lent::lend(waker.clone()));
-        // SAFETY: the context has begun; what is on its way is this call, or nothing.
-        let mut answer = unsafe { asked.poll(class, self.raw(), &raw const lent.0) };
-        let is_shared = !matches!(asked, Asked::Lock(_));
-        if let Some(first) = self.rare().prelocked.take_if(|_| is_shared && answer == -ffi::EALREADY) {
+        let answer = later.wakers.collect(|| {
+            // SAFETY: the context has begun; what is on its way is this call, or nothing.
+            let answer = unsafe { asked.poll(class, self.raw(), &raw const lent.0) };
+            let is_shared = !matches!(asked, Asked::Lock(_));
+            let first = self.rare().prelocked.take_if(|_| is_shared && answer == -ffi::EALREADY);
             // SAFETY: as in `poll_once`; the call has ended.
-            unsafe {
+            first.map_or(answer, |first| unsafe {
                 ffi::unlock(first.index(), self.raw());
-                answer = asked.poll(class, self.raw(), &raw const lent.0);
-            }
-        }
+                asked.poll(class, self.raw(), &raw const lent.0)
+            })
+        });
         if answer == -ffi::EINPROGRESS {
             self.rare().call = Call::Waits(Some(lent));
             return Poll::Pending;
         }
         self.rare().call = Call::None;
         // SAFETY: the library hasn't taken it.
-        drop(unsafe { lent.back() });
+        later.dropped[1] = Some(unsafe { lent.back() });
         Poll::Ready(self.told(asked, answer))
     }
 

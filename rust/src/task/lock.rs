@@ -2,9 +2,9 @@
 
 use super::inner::{Call, Entered, Inner, Later};
 use super::shared::Asked;
+use super::waker::Wakers;
 use crate::events::{Event, Wait, Watch};
 use crate::{ffi, Class, Error, Mutex};
-use core::ffi::c_int;
 use core::fmt;
 use core::future::Future;
 use core::marker::PhantomData;
@@ -30,23 +30,41 @@ impl<'x> Acquire<'x> {
     #[inline]
     pub(super) fn poll(&mut self, asked: Asked, waker: &Waker) -> Poll<Result<(), Error>> {
         let mut inside = self.inner.enter();
-        match inside.poll_once(self.inner.class, asked) {
+        if inside.locks_at_once(asked) {
+            return Poll::Ready(Ok(()));
+        }
+        self.poll_on(inside, asked, waker)
+    }
+
+    /// Where more is to be done than the first step of a lock.
+    fn poll_on(&mut self, inside: Entered<'_>, asked: Asked, waker: &Waker) -> Poll<Result<(), Error>> {
+        // In this order: wakers are called, also by a panic, once the context isn't used.
+        let mut wakers = Wakers::default();
+        let mut inside = inside;
+        match wakers.collect(|| inside.poll_once(self.inner.class, asked)) {
             0 => Poll::Ready(Ok(())),
-            answer => self.poll_on(inside, asked, answer, waker),
+            answer if answer == -ffi::ETIMEDOUT => self.poll_further(wakers, inside, asked, waker),
+            answer => {
+                let told = Poll::Ready(inside.told(asked, answer));
+                drop(inside);
+                drop(wakers);
+                self.tell(told)
+            }
         }
     }
 
-    /// Once a first look has returned this.
+    /// Where it waits, or goes on with a wait.
     #[cold]
-    fn poll_on(&mut self, inside: Entered<'_>, asked: Asked, answer: c_int, waker: &Waker) -> Poll<Result<(), Error>> {
-        // In this order: a panic leaves the context before it drops a waker, which may use it.
-        let mut later = Later::default();
+    fn poll_further(
+        &mut self,
+        wakers: Wakers,
+        inside: Entered<'_>,
+        asked: Asked,
+        waker: &Waker,
+    ) -> Poll<Result<(), Error>> {
+        // In this order, as above.
+        let mut later = Later { wakers, dropped: [None, None] };
         let mut inside = inside;
-        if answer != -ffi::ETIMEDOUT {
-            let told = Poll::Ready(inside.told(asked, answer));
-            drop(inside);
-            return self.tell(told);
-        }
         let rare = inside.rare();
         if !self.is_under_way && !matches!(rare.call, Call::None) {
             if !rare.others.iter().any(|other| other.will_wake(waker)) {
@@ -57,11 +75,10 @@ impl<'x> Acquire<'x> {
         let told = inside.poll(self.inner.class, asked, waker, &mut later);
         self.is_under_way = told.is_pending();
         if told.is_ready() {
-            later.others = mem::take(&mut inside.rare().others);
+            later.wakers.extend(mem::take(&mut inside.rare().others));
         }
         drop(inside);
-        drop(later.back.take()); // The task runs, and has another one.
-        later.wake();
+        drop(later);
         self.tell(told)
     }
 
@@ -93,14 +110,12 @@ impl Acquire<'_> {
     /// It is dropped under way: the call ends, and has acquired nothing.
     #[cold]
     fn stop(&mut self) {
+        let mut later = Later::default();
         let mut inside = self.inner.enter();
-        let back = inside.end_wait();
+        later.dropped[0] = later.wakers.collect(|| inside.end_wait());
         let rare = inside.rare();
         rare.call = Call::None;
-        let later = Later { back: None, others: mem::take(&mut rare.others) };
-        drop(inside);
-        drop(back);
-        later.wake();
+        later.wakers.extend(mem::take(&mut rare.others));
     }
 }
 
