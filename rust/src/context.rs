@@ -404,6 +404,16 @@ impl Context {
         Ok(())
     }
 
+    /// Reads or writes it if that needs no wait, and if no guard or reference of the context is in its way.
+    pub(crate) fn tries_shared<C: Class, T: ?Sized>(&self, mutex: &SharedMutex<C, T>, writes: bool) -> bool {
+        let Ok(number) = mutex.number(self.class) else { return false };
+        if self.rare().is_some_and(|rare| rare.is_over.get() || rare.upgradable.borrow().contains(&number)) {
+            return false;
+        }
+        // SAFETY: as in `lock_with`.
+        unsafe { ffi::tries_shared(self.class.at(number), self.raw(), writes) }
+    }
+
     /// Writes what it reads by a guard, which is used no more.
     #[track_caller]
     pub(crate) fn upgrade<C: Class, T: ?Sized>(&self, mutex: &SharedMutex<C, T>) -> Result<(), Error> {

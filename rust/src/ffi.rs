@@ -181,6 +181,9 @@ extern "C" {
         ctx: *mut ww_acquire_ctx,
         monotonic: *const timespec,
     ) -> c_int;
+    pub fn ww_shared_mutex_trylock_shared(mutex: *mut ww_mutex, ctx: *mut ww_acquire_ctx) -> c_int;
+    pub fn ww_shared_mutex_trylock(mutex: *mut ww_mutex, ctx: *mut ww_acquire_ctx) -> c_int;
+    pub fn ww_shared_mutex_downgrade(mutex: *mut ww_mutex, ctx: *mut ww_acquire_ctx);
     pub fn ww_shared_mutex_is_locked(mutex: *const ww_mutex) -> bool;
     pub fn ww_shared_mutex_is_written_by(mutex: *const ww_mutex, ctx: *const ww_acquire_ctx) -> bool;
     pub fn ww_shared_mutex_is_read_by(mutex: *const ww_mutex, ctx: *const ww_acquire_ctx) -> bool;
@@ -219,6 +222,25 @@ extern "C" {
     pub fn ww_seek_end(seek: *mut ww_seek);
     pub fn ww_acquire_end_wait(ctx: *mut ww_acquire_ctx) -> c_int;
     pub fn ww_poll_take_back(ctx: *mut ww_acquire_ctx, seek: *mut ww_seek) -> bool;
+}
+
+/// Acquires a shared mutex, to write it or to read it, if that can be at once. It doesn't where the caller may have references that
+/// this excludes: to what the context writes, or to what it reads and would write.
+///
+/// # Safety
+///
+/// The mutex is of the context's class; the context has begun, and no call of it is on its way.
+pub unsafe fn tries_shared(mutex: *mut ww_mutex, ctx: *mut ww_acquire_ctx, writes: bool) -> bool {
+    // SAFETY: as asked for here.
+    unsafe {
+        if ww_shared_mutex_is_written_by(mutex, ctx) {
+            false
+        } else if writes {
+            !ww_shared_mutex_is_read_by(mutex, ctx) && ww_shared_mutex_trylock(mutex, ctx) == 1
+        } else {
+            ww_shared_mutex_trylock_shared(mutex, ctx) == 1
+        }
+    }
 }
 
 /// Whether the first step of a lock is enough, if it is compiled into the caller.
@@ -314,11 +336,26 @@ pub unsafe fn unlock_further(number: u32, ctx: *mut ww_acquire_ctx, r: c_int) {
 #[cold]
 unsafe fn unlock_and_wake(number: u32, ctx: *mut ww_acquire_ctx, r: c_int) {
     // SAFETY: as asked for here.
-    let further = || unsafe { unlock_further(number, ctx, r) };
-    #[cfg(feature = "async")]
-    crate::task::waking_after(further);
-    #[cfg(not(feature = "async"))]
-    further();
+    waking_after(|| unsafe { unlock_further(number, ctx, r) });
+}
+
+#[cfg(feature = "async")]
+use crate::task::waking_after;
+
+/// Without tasks there are no wakers.
+#[cfg(not(feature = "async"))]
+fn waking_after(call: impl FnOnce()) {
+    call();
+}
+
+/// `ww_shared_mutex_downgrade`, after which wakers are called.
+///
+/// # Safety
+///
+/// The context writes the mutex, and no call of it is on its way.
+pub unsafe fn downgrade(mutex: *mut ww_mutex, ctx: *mut ww_acquire_ctx) {
+    // SAFETY: as asked for here.
+    waking_after(|| unsafe { ww_shared_mutex_downgrade(mutex, ctx) });
 }
 
 #[cfg(test)]

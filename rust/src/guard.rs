@@ -37,6 +37,16 @@ impl Holder {
     }
 }
 
+impl Holder {
+    /// # Safety
+    ///
+    /// It is a context, of this thread, and writes this shared mutex.
+    pub(crate) unsafe fn downgrade(self, mutex: *mut ww_mutex) {
+        // SAFETY: as asked for here.
+        unsafe { ffi::downgrade(mutex, self.0) };
+    }
+}
+
 /// A locked mutex, with access to its value. Its drop releases the mutex, in the thread that locked it.
 ///
 /// ```compile_fail,E0277

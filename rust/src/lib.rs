@@ -101,7 +101,7 @@ pub use guard::{ArcMutexGuard, MutexGuard};
 pub use guards::Guards;
 pub use mutex::Mutex;
 pub use options::Options;
-pub use shared::{SharedMutex, SharedMutexGuard, UpgradableGuard};
+pub use shared::{ArcRead, ArcSharedMutexGuard, SharedMutex, SharedMutexGuard, UpgradableGuard};
 pub use tx::Tx;
 
 /// The version of `libww`: 10,000 times its first number, 100 times the second one, and the third one.

@@ -12,9 +12,13 @@ use std::time::{Duration, Instant};
 ///
 /// A context locks it by [`Tx::lock`](crate::Tx::lock); [`lock`](Mutex::lock) does so without a context.
 ///
-/// It may be a `static`, and may be moved while nobody borrows it. From its first lock until it is dropped it is one of
-/// the mutexes that its class may have in use, 65,536 unless [`class!`](crate::class!) says another number. There is no
-/// poison: a guard that a panic drops releases its mutex.
+/// **A class has at most 65,536 mutexes at a time, unless [`class!`](crate::class!) says another number**: each from its first
+/// lock, or from [`try_new`](Mutex::try_new), until it is dropped. Of one too many a `try_` call returns `None`, a context gets
+/// [`Exhausted`](Error::Exhausted), and only `lock`, which has no answer for that, panics. So a program that may come to that
+/// makes its mutexes by `try_new`, which says so while nothing is locked.
+///
+/// It may be a `static`, and may be moved while nobody borrows it. There is no poison: a guard that a panic drops releases its
+/// mutex.
 ///
 /// It isn't moved while it is locked:
 ///
@@ -100,17 +104,12 @@ impl<C: Class, T: ?Sized> Mutex<C, T> {
         }
     }
 
-    /// Locks it without a context if nobody holds it or waits for it, and a context of the class is free.
-    ///
-    /// # Panics
-    ///
-    /// If the class has all mutexes that it may have, or no memory to open.
+    /// Locks it without a context if nobody holds it or waits for it, and a context of the class is free. `None` also where the
+    /// class has all mutexes that it may have, or no memory to open.
     #[inline]
-    #[track_caller]
     pub fn try_lock(&self) -> Option<MutexGuard<'_, C, T>> {
         let class = C::raw();
-        let number = self.number_or_panic(class);
-        let it = class.at(number);
+        let it = class.at(self.number(class).ok()?);
         // SAFETY: the number is one of the class.
         let is_locked = unsafe { ffi::ww_mutex_trylock(it, ptr::null_mut()) } == 1;
         // SAFETY: it locked the mutex, for this guard.
@@ -118,34 +117,40 @@ impl<C: Class, T: ?Sized> Mutex<C, T> {
     }
 
     /// As [`lock`](Mutex::lock), but waits at most until this time, or [`Class::cancel`]. A mutex that is free is locked, however late
-    /// it is, if a context of the class is free.
+    /// it is, if a context of the class is free. `None` immediately where the class has all mutexes that it may have, or no memory
+    /// to open.
     ///
     /// # Panics
     ///
-    /// If the class has all mutexes that it may have, or no memory to open; in a forked child, if the class was in
-    /// use at the fork.
+    /// In a forked child, if the class was in use at the fork.
     #[track_caller]
     pub fn try_lock_until(&self, deadline: Instant) -> Option<MutexGuard<'_, C, T>> {
+        self.try_lock_at_most(Some(&clock::monotonic(deadline)))
+    }
+
+    #[track_caller]
+    fn try_lock_at_most(&self, until: Option<&ffi::timespec>) -> Option<MutexGuard<'_, C, T>> {
         let class = C::raw();
-        let number = self.number_or_panic(class);
-        match self.lock_alone(number, class, Some(&clock::monotonic(deadline))) {
+        let number = self.number(class).ok()?;
+        if until.is_none() {
+            own::check_wait(number, ptr::null(), true);
+        }
+        match self.lock_alone(number, class, until) {
             Ok(guard) => Some(guard),
             Err(answer) if answer == -ffi::ETIMEDOUT || answer == -ffi::EINTR => None,
             Err(_) => error::in_child(),
         }
     }
 
-    /// As [`try_lock_until`](Mutex::try_lock_until), with a time from now on.
+    /// As [`try_lock_until`](Mutex::try_lock_until), with a time from now on; one beyond the clock's is no limit.
     ///
     /// # Panics
     ///
     /// As [`try_lock_until`](Mutex::try_lock_until).
     #[track_caller]
     pub fn try_lock_for(&self, timeout: Duration) -> Option<MutexGuard<'_, C, T>> {
-        match Instant::now().checked_add(timeout) {
-            Some(deadline) => self.try_lock_until(deadline),
-            None => Some(self.lock()),
-        }
+        let deadline = Instant::now().checked_add(timeout);
+        self.try_lock_at_most(deadline.map(clock::monotonic).as_ref())
     }
 
     /// Whether somebody holds it; that may be out of date when it returns. A mutex that is free is taken for a moment,

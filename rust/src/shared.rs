@@ -5,7 +5,10 @@ use crate::number::{Handle, Number};
 use crate::{ffi, Class, Error};
 use core::cell::UnsafeCell;
 use core::fmt;
+use core::marker::PhantomData;
+use core::mem::ManuallyDrop;
 use core::ops::{Deref, DerefMut};
+use std::sync::Arc;
 
 /// A mutex around a value that transactions read beside each other ([`Tx::read`](crate::Tx::read)), or one of them writes
 /// ([`Tx::write`](crate::Tx::write)): for what is read much more often than written.
@@ -69,6 +72,20 @@ impl<C: Class, T> SharedMutex<C, T> {
         SharedMutex { handle: Handle::new(), value: UnsafeCell::new(value) }
     }
 
+    /// As [`new`](SharedMutex::new), but it takes a number of its class immediately, so that no call of it returns `Exhausted` for
+    /// want of one. A class has [as many](crate::Mutex) as `class!` says.
+    ///
+    /// # Errors
+    ///
+    /// `Exhausted` or `OutOfMemory`, with the value.
+    pub fn try_new(value: T) -> Result<Self, (T, Error)> {
+        let mutex = Self::new(value);
+        match mutex.number(C::raw()) {
+            Ok(_) => Ok(mutex),
+            Err(error) => Err((mutex.into_inner(), error)),
+        }
+    }
+
     /// The value. Nobody reads or writes it, since nobody borrows it.
     #[inline]
     pub fn into_inner(self) -> T {
@@ -93,6 +110,14 @@ impl<C: Class, T: ?Sized> SharedMutex<C, T> {
         number.is_some_and(|number| unsafe { ffi::ww_shared_mutex_is_locked(class.at(number)) })
     }
 
+    /// For one who writes it by this holder, and is no task.
+    fn downgrade_by(&self, holder: Holder) {
+        let class = C::raw();
+        let number = self.number(class).expect("it is locked");
+        // SAFETY: the holder writes it.
+        unsafe { holder.downgrade(class.at(number)) };
+    }
+
     #[inline]
     pub(crate) fn value(&self) -> *mut T {
         self.value.get()
@@ -101,6 +126,18 @@ impl<C: Class, T: ?Sized> SharedMutex<C, T> {
     #[inline]
     pub(crate) fn number(&self, class: &'static RawClass) -> Result<Number, Error> {
         self.handle.number(class)
+    }
+}
+
+impl<C: Class, T: Default> Default for SharedMutex<C, T> {
+    fn default() -> Self {
+        SharedMutex::new(T::default())
+    }
+}
+
+impl<C: Class, T> From<T> for SharedMutex<C, T> {
+    fn from(value: T) -> Self {
+        SharedMutex::new(value)
     }
 }
 
@@ -119,8 +156,14 @@ pub struct SharedMutexGuard<'g, C: Class, T: ?Sized> {
     holder: Holder,
 }
 
-// SAFETY: threads that share it get `&T`.
-unsafe impl<C: Class, T: ?Sized + Send + Sync> Sync for SharedMutexGuard<'_, C, T> {}
+/// As [`SharedMutexGuard`], but it shares the mutex instead of borrowing it ([`Tx::write_arc`](crate::Tx::write_arc)).
+#[must_use = "the mutex is released as soon as its guard is dropped"]
+#[clippy::has_significant_drop]
+pub struct ArcSharedMutexGuard<'x, C: Class, T: ?Sized> {
+    mutex: Arc<SharedMutex<C, T>>,
+    holder: Holder,
+    of_this_context: PhantomData<&'x ()>,
+}
 
 impl<'g, C: Class, T: ?Sized> SharedMutexGuard<'g, C, T> {
     /// # Safety
@@ -131,35 +174,111 @@ impl<'g, C: Class, T: ?Sized> SharedMutexGuard<'g, C, T> {
     pub(crate) unsafe fn of(mutex: &'g SharedMutex<C, T>, holder: Holder) -> Self {
         SharedMutexGuard { mutex, holder }
     }
+
+    /// From now on it only reads it, as by [`Tx::read`](crate::Tx::read), to the end of the attempt; nobody writes it in between.
+    ///
+    /// ```
+    /// # use ww_mutex::{class, Class, Error, SharedMutex, SharedMutexGuard};
+    /// # class!(struct Cache: WoundWait);
+    /// # static PRICE: SharedMutex<Cache, u64> = SharedMutex::new(6);
+    /// let price = Cache::run(|tx| {
+    ///     let mut price = tx.write(&PRICE)?;
+    ///     *price += 1;
+    ///     let price: &u64 = SharedMutexGuard::downgrade(price); // others may read it, too
+    ///     Ok(*price)
+    /// })?;
+    /// assert_eq!(price, 7);
+    /// # Ok::<(), Error>(())
+    /// ```
+    #[must_use = "a guard that isn't needed any more is dropped"]
+    #[track_caller]
+    pub fn downgrade(guard: Self) -> &'g T {
+        let guard = ManuallyDrop::new(guard);
+        guard.mutex.downgrade_by(guard.holder);
+        // SAFETY: the context reads it until `'g` has ended, or goes on writing it; and while it does nobody has `&mut T`: the guard is
+        // used up, and no other context can write it, nor this one (`Duplicate`).
+        unsafe { &*guard.mutex.value() }
+    }
 }
 
-impl<C: Class, T: ?Sized> Deref for SharedMutexGuard<'_, C, T> {
+impl<C: Class, T: ?Sized> ArcSharedMutexGuard<'_, C, T> {
+    /// # Safety
+    ///
+    /// As that of [`SharedMutexGuard::of`], for `'x`.
+    #[inline]
+    pub(crate) unsafe fn of(mutex: Arc<SharedMutex<C, T>>, holder: Holder) -> Self {
+        ArcSharedMutexGuard { mutex, holder, of_this_context: PhantomData }
+    }
+}
+
+macro_rules! writes {
+    ($($guard:ident)*) => { $(
+        // SAFETY: threads that share it get `&T`, and maybe clones of the `Arc`, which demands the same of T.
+        unsafe impl<C: Class, T: ?Sized + Send + Sync> Sync for $guard<'_, C, T> {}
+
+        impl<C: Class, T: ?Sized> Deref for $guard<'_, C, T> {
+            type Target = T;
+
+            #[inline]
+            fn deref(&self) -> &T {
+                // SAFETY: the mutex is held, and the guard is borrowed.
+                unsafe { &*self.mutex.value() }
+            }
+        }
+
+        impl<C: Class, T: ?Sized> DerefMut for $guard<'_, C, T> {
+            #[inline]
+            fn deref_mut(&mut self) -> &mut T {
+                // SAFETY: the mutex is held, nobody reads it, and this is its one guard, borrowed exclusively.
+                unsafe { &mut *self.mutex.value() }
+            }
+        }
+
+        impl<C: Class, T: ?Sized> Drop for $guard<'_, C, T> {
+            #[inline]
+            fn drop(&mut self) {
+                // SAFETY: each guard is for one lock by its holder, and is dropped once.
+                unsafe { self.holder.release(self.mutex.handle.index()) };
+            }
+        }
+
+        impl<C: Class, T: ?Sized + fmt::Debug> fmt::Debug for $guard<'_, C, T> {
+            fn fmt(&self, f: &mut fmt::Formatter<'_>) -> fmt::Result {
+                (**self).fmt(f)
+            }
+        }
+    )* };
+}
+writes!(SharedMutexGuard ArcSharedMutexGuard);
+
+/// A shared mutex that a transaction reads, to the end of the attempt, and that this keeps, instead of borrowing it
+/// ([`Tx::read_arc`](crate::Tx::read_arc)).
+pub struct ArcRead<'x, C: Class, T: ?Sized> {
+    mutex: Arc<SharedMutex<C, T>>,
+    of_this_context: PhantomData<&'x ()>,
+}
+
+impl<C: Class, T: ?Sized> ArcRead<'_, C, T> {
+    /// # Safety
+    ///
+    /// A context reads the mutex, and gives nobody a guard that writes it, until `'x` has ended.
+    #[inline]
+    pub(crate) unsafe fn of(mutex: Arc<SharedMutex<C, T>>) -> Self {
+        ArcRead { mutex, of_this_context: PhantomData }
+    }
+}
+
+impl<C: Class, T: ?Sized> Deref for ArcRead<'_, C, T> {
     type Target = T;
 
     #[inline]
     fn deref(&self) -> &T {
-        // SAFETY: the mutex is held, and the guard is borrowed.
+        // SAFETY: the context reads it, as `of` asked for; the mutex is there as long as this is.
         unsafe { &*self.mutex.value() }
     }
 }
 
-impl<C: Class, T: ?Sized> DerefMut for SharedMutexGuard<'_, C, T> {
-    #[inline]
-    fn deref_mut(&mut self) -> &mut T {
-        // SAFETY: the mutex is held, nobody reads it, and this is its one guard, borrowed exclusively.
-        unsafe { &mut *self.mutex.value() }
-    }
-}
-
-impl<C: Class, T: ?Sized> Drop for SharedMutexGuard<'_, C, T> {
-    #[inline]
-    fn drop(&mut self) {
-        // SAFETY: each guard is for one lock by its holder, and is dropped once.
-        unsafe { self.holder.release(self.mutex.handle.index()) };
-    }
-}
-
-impl<C: Class, T: ?Sized + fmt::Debug> fmt::Debug for SharedMutexGuard<'_, C, T> {
+impl<C: Class, T: ?Sized + fmt::Debug> fmt::Debug for ArcRead<'_, C, T> {
     fn fmt(&self, f: &mut fmt::Formatter<'_>) -> fmt::Result {
         (**self).fmt(f)
     }

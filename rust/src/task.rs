@@ -113,7 +113,7 @@ mod waker;
 
 pub use guards::Guards;
 pub use lock::{ArcGuard, Guard, Lock, LockArc, LoneGuard};
-pub use shared::SharedGuard;
+pub use shared::{ArcSharedGuard, SharedGuard};
 pub(crate) use waker::waking_after;
 
 use crate::class::OfClass;
@@ -188,7 +188,7 @@ impl<C: Class> Tx<C> {
     /// lock call of this `Tx` waits.
     pub fn try_lock<'x, T: ?Sized>(&'x self, mutex: &'x Mutex<C, T>) -> Option<Guard<'x, C, T>> {
         let number = mutex.number(self.inner.class).ok()?;
-        self.inner.tries(number).then(|| Guard::of(mutex, &self.inner))
+        self.inner.tries(Asked::Lock(number)).then(|| Guard::of(mutex, &self.inner))
     }
 
     /// Locks all of them, in this order. If one can't be locked, or the future is dropped, it keeps none of them.

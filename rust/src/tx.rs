@@ -1,6 +1,7 @@
 use crate::class::OfClass;
 use crate::context::Context;
-use crate::{ArcMutexGuard, Class, Error, Guards, Mutex, MutexGuard, SharedMutex, SharedMutexGuard, UpgradableGuard};
+use crate::{ArcMutexGuard, ArcRead, ArcSharedMutexGuard, Class, Error, Guards, Mutex, MutexGuard};
+use crate::{SharedMutex, SharedMutexGuard, UpgradableGuard};
 use core::cell::Cell;
 use core::fmt;
 use core::marker::PhantomData;
@@ -220,6 +221,80 @@ impl<C: Class> Tx<C> {
         self.context.write(mutex)?;
         // SAFETY: it writes the mutex, for this guard, and doesn't read it.
         Ok(unsafe { SharedMutexGuard::of(mutex, self.context.holder()) })
+    }
+
+    /// As [`read`](Self::read), for a mutex that the result shares: one that was found while others were read, and whose `Arc` is
+    /// dropped before.
+    ///
+    /// ```
+    /// # use ww_mutex::{class, Class, Error, SharedMutex};
+    /// # use std::sync::Arc;
+    /// class!(struct Nodes: WoundWait);
+    /// struct Node {
+    ///     value: u64,
+    ///     next: Option<Arc<SharedMutex<Nodes, Node>>>,
+    /// }
+    ///
+    /// fn sum(first: &Arc<SharedMutex<Nodes, Node>>) -> Result<u64, Error> {
+    ///     Nodes::run(|tx| {
+    ///         let (mut node, mut sum) = (tx.read_arc(first)?, 0);
+    ///         loop {
+    ///             sum += node.value;
+    ///             let Some(next) = node.next.clone() else { return Ok(sum) };
+    ///             node = tx.read_arc(&next)?;
+    ///         }
+    ///     })
+    /// }
+    /// # let last = Arc::new(SharedMutex::new(Node { value: 2, next: None }));
+    /// # assert_eq!(sum(&Arc::new(SharedMutex::new(Node { value: 40, next: Some(last) }))), Ok(42));
+    /// ```
+    ///
+    /// # Errors
+    ///
+    /// As [`read`](Self::read).
+    ///
+    /// # Panics
+    ///
+    /// As [`read`](Self::read).
+    #[track_caller]
+    pub fn read_arc<'g, T: ?Sized>(&'g self, mutex: &Arc<SharedMutex<C, T>>) -> Result<ArcRead<'g, C, T>, Error> {
+        self.context.read(mutex)?;
+        // SAFETY: as in `read`.
+        Ok(unsafe { ArcRead::of(Arc::clone(mutex)) })
+    }
+
+    /// As [`write`](Self::write), for a mutex that the guard shares.
+    ///
+    /// # Errors
+    ///
+    /// As [`write`](Self::write).
+    ///
+    /// # Panics
+    ///
+    /// As [`read`](Self::read).
+    #[track_caller]
+    pub fn write_arc<'g, T: ?Sized>(
+        &'g self,
+        mutex: &Arc<SharedMutex<C, T>>,
+    ) -> Result<ArcSharedMutexGuard<'g, C, T>, Error> {
+        self.context.write(mutex)?;
+        // SAFETY: as in `write`; the guard doesn't outlive the context.
+        Ok(unsafe { ArcSharedMutexGuard::of(Arc::clone(mutex), self.context.holder()) })
+    }
+
+    /// Reads it if nobody writes it or waits to. `None` also for what a guard writes, or may come to, and after `Deadlock`.
+    pub fn try_read<'g, T: ?Sized>(&'g self, mutex: &'g SharedMutex<C, T>) -> Option<&'g T> {
+        let reads = self.context.tries_shared(mutex, false);
+        // SAFETY: as in `read`.
+        reads.then(|| unsafe { &*mutex.value() })
+    }
+
+    /// Writes it if nobody reads or writes it, or waits for it. `None` also for what the attempt reads or has a guard of, and after
+    /// `Deadlock`.
+    pub fn try_write<'g, T: ?Sized>(&'g self, mutex: &'g SharedMutex<C, T>) -> Option<SharedMutexGuard<'g, C, T>> {
+        let writes = self.context.tries_shared(mutex, true);
+        // SAFETY: as in `write`.
+        writes.then(|| unsafe { SharedMutexGuard::of(mutex, self.context.holder()) })
     }
 
     /// Reads it by a guard, which may come to write it.

@@ -9,7 +9,7 @@ use std::sync::Barrier;
 use std::thread;
 use std::time::{Duration, Instant};
 use ww_mutex::typed::{Context, Refused};
-use ww_mutex::{class, ByClass_, Class, Error, Mutex, MutexGuard, RawClass};
+use ww_mutex::{class, ByClass_, Class, Error, Mutex, MutexGuard, RawClass, SharedMutex};
 
 const SOON: Duration = Duration::from_millis(20);
 
@@ -247,7 +247,15 @@ fn more_mutexes_than_there_may_be_are_told() {
         let c: Mutex<Few, u64> = Mutex::new(8);
         assert_eq!(Few::run(|tx| tx.lock(&c).map(|_| ())), Err(Error::Exhausted));
         assert!(Few::run(|tx| Ok(tx.try_lock(&c).is_none())).unwrap());
-        assert!(panics(|| drop(c.lock())) && panics(|| drop(c.try_lock())));
+        assert!(c.try_lock().is_none() && c.try_lock_until(Instant::now()).is_none());
+        assert!(c.try_lock_for(SOON).is_none() && c.try_lock_for(Duration::MAX).is_none());
+        // It has no answer.
+        assert!(panics(|| drop(c.lock())));
+        let (value, error) = SharedMutex::<Few, u64>::try_new(9).unwrap_err();
+        assert_eq!((value, error), (9, Error::Exhausted));
+        let shared: SharedMutex<Few, u64> = SharedMutex::new(9);
+        assert_eq!(Few::run(|tx| tx.write(&shared).map(drop)), Err(Error::Exhausted));
+        assert!(Few::run(|tx| Ok(tx.try_read(&shared).is_none() && tx.try_write(&shared).is_none())).unwrap());
         // Its place is free again once it is gone.
         assert_eq!(b.into_inner(), k);
     }

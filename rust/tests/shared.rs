@@ -5,7 +5,7 @@ use std::sync::{Arc, Barrier};
 use std::thread;
 use std::time::Duration;
 use ww_mutex::typed::Context;
-use ww_mutex::{class, Class, Error, Mutex, Options, SharedMutex, UpgradableGuard};
+use ww_mutex::{class, Class, Error, Mutex, Options, SharedMutex, SharedMutexGuard, UpgradableGuard};
 
 #[test]
 fn readers_stand_beside_each_other() {
@@ -129,6 +129,88 @@ fn what_is_read_by_a_guard_may_be_written() {
     // The next attempt reads it as it likes; and what is forgotten is released.
     Boxes::run(|tx| UpgradableGuard::upgrade(tx.read_upgradable(&ONE)?).map(std::mem::forget)).unwrap();
     assert_eq!(Boxes::run(|tx| tx.read(&ONE).copied()), Ok(8));
+}
+
+/// A try waits for nobody, and is refused where the attempt may have a reference or a guard that it would stand beside.
+#[test]
+fn tries_wait_for_nobody() {
+    class!(struct Boxes: WaitDie);
+    static ONE: SharedMutex<Boxes, u64> = SharedMutex::new(7);
+    static OTHER: SharedMutex<Boxes, u64> = SharedMutex::new(0);
+    let elsewhere = |mutex: &'static SharedMutex<Boxes, u64>| {
+        let tries = || {
+            let writes = Boxes::run(|tx| Ok(tx.try_write(mutex).is_some())).unwrap();
+            (writes, Boxes::run(|tx| Ok(tx.try_read(mutex).copied())).unwrap())
+        };
+        thread::scope(|scope| scope.spawn(tries).join().unwrap())
+    };
+    Boxes::run(|tx| {
+        let value = tx.try_read(&ONE).expect("it is free");
+        assert_eq!((tx.try_read(&ONE), tx.try_write(&ONE).is_none()), (Some(&7), true));
+        assert_eq!(elsewhere(&ONE), (false, Some(7)));
+        let mut guard = tx.try_write(&OTHER).expect("it is free");
+        *guard = *value;
+        assert!(tx.try_read(&OTHER).is_none() && tx.try_write(&OTHER).is_none());
+        assert_eq!(elsewhere(&OTHER), (false, None));
+        drop(guard);
+        let guard = tx.read_upgradable(&OTHER)?;
+        assert!(tx.try_read(&OTHER).is_none() && tx.try_write(&OTHER).is_none());
+        let guard = UpgradableGuard::upgrade(guard)?;
+        assert!(tx.try_read(&OTHER).is_none() && tx.try_write(&OTHER).is_none());
+        assert_eq!(*guard, 7);
+        Ok(())
+    })
+    .unwrap();
+    assert_eq!(elsewhere(&OTHER), (true, Some(7)));
+}
+
+/// Of one that writes: from then on others read beside it, also who waited for that, and nobody writes before the attempt's end.
+#[test]
+fn who_writes_may_go_on_as_a_reader() {
+    class!(struct Boxes: WoundWait);
+    static ONE: SharedMutex<Boxes, u64> = SharedMutex::new(7);
+    let soon = Options::<Boxes>::new().timeout(Duration::from_millis(5));
+    thread::scope(|scope| {
+        let reader = Boxes::run(|tx| {
+            let mut guard = tx.write(&ONE)?;
+            *guard += 1;
+            let reader = scope.spawn(|| Boxes::run(|tx| tx.read(&ONE).copied()));
+            while Boxes::counts().lock_waits == 0 {
+                thread::sleep(Duration::from_millis(1));
+            }
+            let value = SharedMutexGuard::downgrade(guard);
+            let read = reader.join().unwrap();
+            assert_eq!(scope.spawn(|| soon.run(|tx| tx.write(&ONE).map(drop))).join().unwrap(), Err(Error::TimedOut));
+            assert_eq!((tx.write(&ONE).err(), tx.try_write(&ONE).is_none()), (Some(Error::Duplicate), true));
+            assert_eq!((*value, tx.read(&ONE)), (8, Ok(&8)));
+            Ok(read)
+        });
+        assert_eq!(reader, Ok(Ok(8)));
+    });
+    assert!(!ONE.is_locked() && Boxes::run(|tx| Ok(tx.try_write(&ONE).is_some())).unwrap());
+}
+
+/// What is found on the way may be dropped on the way.
+#[test]
+fn a_read_may_keep_its_mutex() {
+    class!(struct Boxes: WoundWait, mutexes = 8);
+    type Shared<T> = Arc<SharedMutex<Boxes, T>>;
+    for _ in 0..20 {
+        let inner: Shared<u64> = Arc::default();
+        let weak = Arc::downgrade(&inner);
+        let outer: Shared<Option<Shared<u64>>> = Arc::new(Some(inner).into());
+        let told = Boxes::run(|tx| {
+            let mut guard = tx.write_arc(&outer)?;
+            let Some(found) = guard.take() else { return Ok(0) };
+            *tx.write_arc(&found)? += 1;
+            let value = tx.read_arc(&found)?;
+            drop(found);
+            assert_eq!((weak.strong_count(), tx.write(&outer).err()), (1, Some(Error::Duplicate)));
+            Ok(*value)
+        });
+        assert!(told == Ok(1) && weak.strong_count() == 0 && !outer.is_locked());
+        assert_eq!(Boxes::run(|tx| Ok(tx.read_arc(&outer)?.is_none())), Ok(true));
+    }
 }
 
 #[test]

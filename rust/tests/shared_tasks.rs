@@ -11,7 +11,7 @@ use std::pin::{pin, Pin};
 use std::sync::atomic::{AtomicU64, Ordering::Relaxed};
 use std::sync::Arc;
 use std::task::Poll;
-use ww_mutex::task::{Context, Tx};
+use ww_mutex::task::{Context, SharedGuard, Tx};
 use ww_mutex::{class, transaction, Class, Error, Mutex, SharedMutex};
 
 type Cells<C> = Arc<[SharedMutex<C, (u64, u64)>]>;
@@ -64,6 +64,63 @@ fn writes_after_readers<C: Class>(one: &SharedMutex<C, u64>) {
     drop(guard);
     assert_eq!(block_on(writer.read(one)), Ok(&8));
     assert!(!is_free(one));
+}
+
+/// Tries wait for nobody; and who writes may go on as a reader, beside who waited for that.
+#[test]
+#[cfg_attr(feature = "debug-library", ignore = "that makes up Deadlocks")]
+fn tries_and_downgrades() {
+    class!(struct Boxes: WoundWait; struct Others: WaitDie);
+    tries::<Boxes>();
+    tries::<Others>();
+}
+
+fn tries<C: Class>() {
+    let (one, own) = (Arc::new(SharedMutex::<C, u64>::new(7)), Arc::new(SharedMutex::<C, u64>::default()));
+    let flag = Arc::new(Flag::default());
+    let [mut older, mut younger] = [(); 2].map(|()| Context::<C>::new());
+    let (waits, tx) = (block_on(older.attempt()).unwrap(), block_on(younger.attempt()).unwrap());
+    let mut guard = tx.try_write(&one).expect("it is free");
+    *guard += 1;
+    assert!(tx.try_read(&one).is_none() && tx.try_write(&one).is_none());
+    assert!(waits.try_read(&one).is_none() && waits.try_write(&one).is_none());
+    {
+        let mut read = pin!(waits.read_arc(&one));
+        assert!(poll(read.as_mut(), &flag).is_pending());
+        assert!(waits.try_read(&own).is_none(), "a call of the context waits");
+        let value = SharedGuard::downgrade(guard);
+        assert!(flag.is_set());
+        let Poll::Ready(Ok(same)) = poll(read.as_mut(), &flag) else { panic!("it is free to read") };
+        assert_eq!((*value, *same), (8, 8));
+    }
+    assert_eq!((block_on(tx.write(&one)).err(), tx.try_read(&one)), (Some(Error::Duplicate), Some(&8)));
+    assert!(tx.try_write(&one).is_none() && waits.try_write(&one).is_none());
+    *block_on(waits.write_arc(&own)).unwrap() += 1;
+    assert_eq!(waits.try_read(&own), Some(&1));
+    drop(younger);
+    drop(older);
+    assert!(is_free(&one) && is_free(&own));
+}
+
+/// A guard that goes on as a read amid a wait of its context ends that wait, which is begun again.
+#[test]
+#[cfg_attr(feature = "debug-library", ignore = "that makes up Deadlocks")]
+fn a_downgrade_amid_a_wait() {
+    class!(struct Boxes: WoundWait);
+    static ONE: SharedMutex<Boxes, u64> = SharedMutex::new(7);
+    static BOX: Mutex<Boxes, u64> = Mutex::new(3);
+    let flag = Arc::new(Flag::default());
+    let mut context = Context::<Boxes>::new();
+    let tx = block_on(context.attempt()).unwrap();
+    let (guard, held) = (block_on(tx.write(&ONE)).unwrap(), BOX.lock());
+    let mut lock = pin!(tx.lock(&BOX));
+    assert!(poll(lock.as_mut(), &flag).is_pending());
+    let value = SharedGuard::downgrade(guard);
+    assert!(flag.is_set() && poll(lock.as_mut(), &flag).is_pending());
+    drop(held);
+    assert!(flag.is_set());
+    let Poll::Ready(Ok(locked)) = poll(lock.as_mut(), &flag) else { panic!("it is free") };
+    assert_eq!((*value, *locked), (7, 3));
 }
 
 /// A read that is dropped amid its wait leaves nothing either.

@@ -190,11 +190,11 @@ impl Inner {
         }
     }
 
-    /// Acquires it if that can be at once.
-    pub(super) fn tries(&self, number: Number) -> bool {
+    /// Makes the call if it can be made at once, and returns whether it did.
+    pub(super) fn tries(&self, asked: Asked) -> bool {
         let mut wakers = Wakers::default();
         let mut inside = self.enter();
-        wakers.collect(|| inside.tries(number))
+        wakers.collect(|| inside.tries(self.class, asked))
     }
 
     #[cold]
@@ -277,12 +277,24 @@ impl Inside {
         }
     }
 
-    fn tries(&mut self, number: Number) -> bool {
-        // SAFETY: the context has begun, and no call of it is on its way.
-        let tries = |inside: &mut Self| unsafe { ffi::ww_number_trylock(number.index(), inside.raw()) == 1 };
-        match self.rare.as_mut() {
-            None => tries(self),
-            Some(rare) => rare.is_free() && (rare.takes_first(number) || tries(self)),
+    fn tries(&mut self, class: &'static RawClass, asked: Asked) -> bool {
+        if let Some(rare) = self.rare.as_mut() {
+            if !rare.is_free() {
+                return false;
+            }
+            if matches!(asked, Asked::Lock(number) if rare.takes_first(number)) {
+                return true;
+            }
+        }
+        let raw = self.raw();
+        // SAFETY: the context has begun, and no call of it is on its way; the number is one of its class.
+        unsafe {
+            match asked {
+                Asked::Lock(number) => ffi::ww_number_trylock(number.index(), raw) == 1,
+                Asked::Read(number) => ffi::tries_shared(class.at(number), raw, false),
+                Asked::Write(number) => ffi::tries_shared(class.at(number), raw, true),
+                Asked::Await => false,
+            }
         }
     }
 

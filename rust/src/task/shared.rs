@@ -2,16 +2,19 @@
 
 use super::inner::Inner;
 use super::lock::Acquire;
+use super::waker::Wakers;
 use super::Tx;
 use crate::class::RawClass;
 use crate::number::Number;
-use crate::{ffi, place, Class, Error, SharedMutex};
+use crate::{ffi, place, ArcRead, Class, Error, SharedMutex};
 use core::ffi::c_int;
 use core::fmt;
 use core::future::{poll_fn, Future};
 use core::marker::PhantomData;
+use core::mem::ManuallyDrop;
 use core::ops::{Deref, DerefMut};
 use core::ptr;
+use std::sync::Arc;
 
 /// What a call asks for: a mutex, or to read or to write a shared one; or that what a call collided with is through, which
 /// acquires nothing.
@@ -81,6 +84,19 @@ impl Asked {
 }
 
 impl Inner {
+    /// Of one that it writes. A wait ends for that, as for a release.
+    fn downgrade(&self, number: Number) {
+        let mut wakers = Wakers::default();
+        let mut inside = self.enter();
+        let back = wakers.collect(|| {
+            let back = inside.end_wait();
+            // SAFETY: the context writes it, and no call of it is on its way.
+            unsafe { ffi::downgrade(self.class.at(number), inside.raw()) };
+            back
+        });
+        wakers.extend(back);
+    }
+
     pub(super) async fn asks(&self, asked: Asked) -> Result<(), Error> {
         let mut acquire = Acquire::new(self);
         poll_fn(|cx| acquire.poll(asked, cx.waker())).await
@@ -143,8 +159,71 @@ impl<C: Class> Tx<C> {
         async {
             let number = mutex.number(self.inner.class)?;
             self.inner.asks(Asked::Write(number)).await?;
-            Ok(SharedGuard { mutex, index: number.index(), inner: &self.inner, value: PhantomData })
+            Ok(SharedGuard { mutex, number, inner: &self.inner, value: PhantomData })
         }
+    }
+
+    /// As [`read`](Self::read), for a mutex that the result shares, as [`Tx::read_arc`](crate::Tx::read_arc).
+    ///
+    /// # Errors
+    ///
+    /// As [`Tx::read`](crate::Tx::read).
+    ///
+    /// # Panics
+    ///
+    /// As [`lock`](Self::lock).
+    #[track_caller]
+    pub fn read_arc<'x, T: ?Sized>(
+        &'x self,
+        mutex: &Arc<SharedMutex<C, T>>,
+    ) -> impl Future<Output = Result<ArcRead<'x, C, T>, Error>> + use<'x, C, T> {
+        place::said();
+        let mutex = Arc::clone(mutex);
+        async {
+            self.inner.asks(Asked::Read(mutex.number(self.inner.class)?)).await?;
+            // SAFETY: as in `read`.
+            Ok(unsafe { ArcRead::of(mutex) })
+        }
+    }
+
+    /// As [`write`](Self::write), for a mutex that the guard shares.
+    ///
+    /// # Errors
+    ///
+    /// As [`Tx::write`](crate::Tx::write).
+    ///
+    /// # Panics
+    ///
+    /// As [`lock`](Self::lock).
+    #[track_caller]
+    pub fn write_arc<'x, T: ?Sized>(
+        &'x self,
+        mutex: &Arc<SharedMutex<C, T>>,
+    ) -> impl Future<Output = Result<ArcSharedGuard<'x, C, T>, Error>> + use<'x, C, T> {
+        place::said();
+        let mutex = Arc::clone(mutex);
+        async {
+            let number = mutex.number(self.inner.class)?;
+            self.inner.asks(Asked::Write(number)).await?;
+            Ok(ArcSharedGuard { mutex, number, inner: &self.inner, value: PhantomData })
+        }
+    }
+
+    /// Reads it if nobody writes it or waits to, as [`Tx::try_read`](crate::Tx::try_read). `None` also while a lock call of this `Tx`
+    /// waits.
+    pub fn try_read<'x, T: ?Sized>(&'x self, mutex: &'x SharedMutex<C, T>) -> Option<&'x T> {
+        let number = mutex.number(self.inner.class).ok()?;
+        let reads = self.inner.tries(Asked::Read(number));
+        // SAFETY: as in `read`.
+        reads.then(|| unsafe { &*mutex.value() })
+    }
+
+    /// Writes it if nobody reads or writes it, or waits for it, as [`Tx::try_write`](crate::Tx::try_write). `None` also while a lock
+    /// call of this `Tx` waits.
+    pub fn try_write<'x, T: ?Sized>(&'x self, mutex: &'x SharedMutex<C, T>) -> Option<SharedGuard<'x, C, T>> {
+        let number = mutex.number(self.inner.class).ok()?;
+        let writes = self.inner.tries(Asked::Write(number));
+        writes.then(|| SharedGuard { mutex, number, inner: &self.inner, value: PhantomData })
     }
 }
 
@@ -153,44 +232,74 @@ impl<C: Class> Tx<C> {
 #[clippy::has_significant_drop]
 pub struct SharedGuard<'x, C: Class, T: ?Sized> {
     mutex: &'x SharedMutex<C, T>,
-    index: u32,
+    number: Number,
     inner: &'x Inner,
     /// It is shared and sent only as the lines below say.
     value: PhantomData<*mut T>,
 }
 
+/// As [`SharedGuard`], but it shares the mutex instead of borrowing it ([`Tx::write_arc`]).
+#[must_use = "the mutex is released as soon as its guard is dropped"]
+#[clippy::has_significant_drop]
+pub struct ArcSharedGuard<'x, C: Class, T: ?Sized> {
+    mutex: Arc<SharedMutex<C, T>>,
+    number: Number,
+    inner: &'x Inner,
+    value: PhantomData<*mut T>,
+}
+
+impl<'x, C: Class, T: ?Sized> SharedGuard<'x, C, T> {
+    /// From now on it only reads it, as by [`Tx::read`], to the end of the attempt; nobody writes it in between.
+    #[must_use = "a guard that isn't needed any more is dropped"]
+    pub fn downgrade(guard: Self) -> &'x T {
+        let guard = ManuallyDrop::new(guard);
+        guard.inner.downgrade(guard.number);
+        // SAFETY: the context reads it as long as `'x` may last, or goes on writing it; and while it does nobody has `&mut T`: the guard
+        // is used up, and no other context can write it, nor this one (`Duplicate`).
+        unsafe { &*guard.mutex.value() }
+    }
+}
+
 // SAFETY: it leads to a value that may be sent, and releases its mutex in any thread.
 unsafe impl<C: Class, T: ?Sized + Send> Send for SharedGuard<'_, C, T> {}
-// SAFETY: threads that share it get `&T`.
-unsafe impl<C: Class, T: ?Sized + Send + Sync> Sync for SharedGuard<'_, C, T> {}
+// SAFETY: likewise; and so may the `Arc`.
+unsafe impl<C: Class, T: ?Sized + Send + Sync> Send for ArcSharedGuard<'_, C, T> {}
 
-impl<C: Class, T: ?Sized> Deref for SharedGuard<'_, C, T> {
-    type Target = T;
+macro_rules! writes {
+    ($($guard:ident)*) => { $(
+        // SAFETY: threads that share it get `&T`.
+        unsafe impl<C: Class, T: ?Sized + Send + Sync> Sync for $guard<'_, C, T> {}
 
-    #[inline]
-    fn deref(&self) -> &T {
-        // SAFETY: the mutex is held, and the guard is borrowed.
-        unsafe { &*self.mutex.value() }
-    }
+        impl<C: Class, T: ?Sized> Deref for $guard<'_, C, T> {
+            type Target = T;
+
+            #[inline]
+            fn deref(&self) -> &T {
+                // SAFETY: the mutex is held, and the guard is borrowed.
+                unsafe { &*self.mutex.value() }
+            }
+        }
+
+        impl<C: Class, T: ?Sized> DerefMut for $guard<'_, C, T> {
+            #[inline]
+            fn deref_mut(&mut self) -> &mut T {
+                // SAFETY: the mutex is held, nobody reads it, and this is its one guard, borrowed exclusively.
+                unsafe { &mut *self.mutex.value() }
+            }
+        }
+
+        impl<C: Class, T: ?Sized> Drop for $guard<'_, C, T> {
+            #[inline]
+            fn drop(&mut self) {
+                self.inner.release(self.number.index());
+            }
+        }
+
+        impl<C: Class, T: ?Sized + fmt::Debug> fmt::Debug for $guard<'_, C, T> {
+            fn fmt(&self, f: &mut fmt::Formatter<'_>) -> fmt::Result {
+                (**self).fmt(f)
+            }
+        }
+    )* };
 }
-
-impl<C: Class, T: ?Sized> DerefMut for SharedGuard<'_, C, T> {
-    #[inline]
-    fn deref_mut(&mut self) -> &mut T {
-        // SAFETY: the mutex is held, nobody reads it, and this is its one guard, borrowed exclusively.
-        unsafe { &mut *self.mutex.value() }
-    }
-}
-
-impl<C: Class, T: ?Sized> Drop for SharedGuard<'_, C, T> {
-    #[inline]
-    fn drop(&mut self) {
-        self.inner.release(self.index);
-    }
-}
-
-impl<C: Class, T: ?Sized + fmt::Debug> fmt::Debug for SharedGuard<'_, C, T> {
-    fn fmt(&self, f: &mut fmt::Formatter<'_>) -> fmt::Result {
-        (**self).fmt(f)
-    }
-}
+writes!(SharedGuard ArcSharedGuard);
