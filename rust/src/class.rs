@@ -432,7 +432,7 @@ impl RawClass {
     }
 
     /// The library's mutex of a number of this class, or null, if it has none.
-    pub(crate) fn at(&'static self, number: Number) -> *mut ffi::ww_mutex {
+    pub(crate) fn at(&'static self, number: Number) -> *mut ffi::ww_shared_mutex {
         // SAFETY: the class is static.
         unsafe { ffi::ww_number_at(number.index(), self.get()) }
     }

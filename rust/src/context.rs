@@ -253,7 +253,7 @@ impl Context {
             return Ok(());
         }
         // SAFETY: as above; the time lives for the call.
-        let lock = |until| unsafe { ffi::ww_mutex_lock_until(self.class.at(number), self.raw(), until) };
+        let lock = |until| unsafe { ffi::ww_mutex_lock_until(self.class.at(number).cast(), self.raw(), until) };
         match self.ask(Some((number, true)), lock) {
             0 => Ok(()),
             answer => self.lock_refused(number, answer),

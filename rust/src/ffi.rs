@@ -47,6 +47,12 @@ pub struct ww_mutex {
     _inside: [u8; 0],
 }
 
+/// It begins with a `ww_mutex`.
+#[repr(C)]
+pub struct ww_shared_mutex {
+    _inside: [u8; 0],
+}
+
 /// C alone knows its fields, and writes only some of them when it begins: so it is memory, of which this crate accesses the two
 /// fields below. A copy keeps each byte.
 #[repr(C)]
@@ -161,8 +167,8 @@ extern "C" {
 
     pub fn ww_number_take(number: *mut u32, class: *mut ww_class) -> c_int;
     pub fn ww_number_leave(number: u32, class: *mut ww_class);
-    /// Where that mutex of the library is, which is a shared one too, as long as the class is open.
-    pub fn ww_number_at(number: u32, class: *mut ww_class) -> *mut ww_mutex;
+    /// Where that mutex of the library is, as long as the class is open.
+    pub fn ww_number_at(number: u32, class: *mut ww_class) -> *mut ww_shared_mutex;
     fn ww_number_lock(number: u32, ctx: *mut ww_acquire_ctx) -> c_int;
     pub fn ww_number_trylock(number: u32, ctx: *mut ww_acquire_ctx) -> c_int;
     fn ww_number_unlock(number: u32, ctx: *mut ww_acquire_ctx) -> c_int;
@@ -172,21 +178,21 @@ extern "C" {
     pub fn ww_mutex_unlock(mutex: *mut ww_mutex);
     pub fn ww_mutex_is_locked(mutex: *mut ww_mutex) -> bool;
     pub fn ww_shared_mutex_lock_shared_until(
-        mutex: *mut ww_mutex,
+        mutex: *mut ww_shared_mutex,
         ctx: *mut ww_acquire_ctx,
         monotonic: *const timespec,
     ) -> c_int;
     pub fn ww_shared_mutex_lock_until(
-        mutex: *mut ww_mutex,
+        mutex: *mut ww_shared_mutex,
         ctx: *mut ww_acquire_ctx,
         monotonic: *const timespec,
     ) -> c_int;
-    pub fn ww_shared_mutex_trylock_shared(mutex: *mut ww_mutex, ctx: *mut ww_acquire_ctx) -> c_int;
-    pub fn ww_shared_mutex_trylock(mutex: *mut ww_mutex, ctx: *mut ww_acquire_ctx) -> c_int;
-    pub fn ww_shared_mutex_downgrade(mutex: *mut ww_mutex, ctx: *mut ww_acquire_ctx);
-    pub fn ww_shared_mutex_is_locked(mutex: *const ww_mutex) -> bool;
-    pub fn ww_shared_mutex_is_written_by(mutex: *const ww_mutex, ctx: *const ww_acquire_ctx) -> bool;
-    pub fn ww_shared_mutex_is_read_by(mutex: *const ww_mutex, ctx: *const ww_acquire_ctx) -> bool;
+    pub fn ww_shared_mutex_trylock_shared(mutex: *mut ww_shared_mutex, ctx: *mut ww_acquire_ctx) -> c_int;
+    pub fn ww_shared_mutex_trylock(mutex: *mut ww_shared_mutex, ctx: *mut ww_acquire_ctx) -> c_int;
+    pub fn ww_shared_mutex_downgrade(mutex: *mut ww_shared_mutex, ctx: *mut ww_acquire_ctx);
+    pub fn ww_shared_mutex_is_locked(mutex: *const ww_shared_mutex) -> bool;
+    pub fn ww_shared_mutex_is_written_by(mutex: *const ww_shared_mutex, ctx: *const ww_acquire_ctx) -> bool;
+    pub fn ww_shared_mutex_is_read_by(mutex: *const ww_shared_mutex, ctx: *const ww_acquire_ctx) -> bool;
     pub fn ww_shared_mutex_await(ctx: *mut ww_acquire_ctx, monotonic: *const timespec) -> c_int;
 
     // The calls of which those are made that the header compiles into its callers.
@@ -213,11 +219,15 @@ extern "C" {
     ) -> c_int;
     pub fn ww_mutex_lock_poll(mutex: *mut ww_mutex, ctx: *mut ww_acquire_ctx, waker: *const ww_waker) -> c_int;
     pub fn ww_shared_mutex_lock_shared_poll(
-        mutex: *mut ww_mutex,
+        mutex: *mut ww_shared_mutex,
         ctx: *mut ww_acquire_ctx,
         waker: *const ww_waker,
     ) -> c_int;
-    pub fn ww_shared_mutex_lock_poll(mutex: *mut ww_mutex, ctx: *mut ww_acquire_ctx, waker: *const ww_waker) -> c_int;
+    pub fn ww_shared_mutex_lock_poll(
+        mutex: *mut ww_shared_mutex,
+        ctx: *mut ww_acquire_ctx,
+        waker: *const ww_waker,
+    ) -> c_int;
     pub fn ww_shared_mutex_await_poll(ctx: *mut ww_acquire_ctx, waker: *const ww_waker) -> c_int;
     pub fn ww_seek_end(seek: *mut ww_seek);
     pub fn ww_acquire_end_wait(ctx: *mut ww_acquire_ctx) -> c_int;
@@ -230,7 +240,7 @@ extern "C" {
 /// # Safety
 ///
 /// The mutex is of the context's class; the context has begun, and no call of it is on its way.
-pub unsafe fn tries_shared(mutex: *mut ww_mutex, ctx: *mut ww_acquire_ctx, writes: bool) -> bool {
+pub unsafe fn tries_shared(mutex: *mut ww_shared_mutex, ctx: *mut ww_acquire_ctx, writes: bool) -> bool {
     // SAFETY: as asked for here.
     unsafe {
         if ww_shared_mutex_is_written_by(mutex, ctx) {
@@ -353,7 +363,7 @@ fn waking_after(call: impl FnOnce()) {
 /// # Safety
 ///
 /// The context writes the mutex, and no call of it is on its way.
-pub unsafe fn downgrade(mutex: *mut ww_mutex, ctx: *mut ww_acquire_ctx) {
+pub unsafe fn downgrade(mutex: *mut ww_shared_mutex, ctx: *mut ww_acquire_ctx) {
     // SAFETY: as asked for here.
     waking_after(|| unsafe { ww_shared_mutex_downgrade(mutex, ctx) });
 }
@@ -363,8 +373,9 @@ mod tests {
     #[cfg(feature = "async")]
     use super::ww_seek;
     use super::{timespec, ww_acquire_ctx, ww_class, ww_class_counts, ACQUIRED, INTERFACE, OWN};
+    use std::io::Write;
     use std::mem::{align_of, offset_of, size_of};
-    use std::process::Command;
+    use std::process::{Command, Stdio};
     use std::{env, fs};
 
     /// What a program in C has to print, and the same as it is here.
@@ -411,20 +422,102 @@ mod tests {
         let work = env::temp_dir().join(format!("ww_mutex_layouts_{}", std::process::id()));
         fs::create_dir_all(&work).unwrap();
         fs::write(work.join("layouts.c"), source).unwrap();
-        let compiled = Command::new(env::var("CC").unwrap_or_else(|_| "cc".into()))
-            .args([
-                "-I",
-                concat!(env!("CARGO_MANIFEST_DIR"), "/c/include"),
-                "-I",
-                concat!(env!("CARGO_MANIFEST_DIR"), "/../c/include"),
-            ])
-            .args(["layouts.c", "-o", "layouts"])
-            .current_dir(&work)
-            .status();
+        let compiled = compiler().args(["layouts.c", "-o", "layouts"]).current_dir(&work).status();
         assert!(compiled.unwrap().success());
         let there = Command::new(work.join("layouts")).output().unwrap().stdout;
         fs::remove_dir_all(&work).unwrap();
         assert_eq!(here, String::from_utf8(there).unwrap());
+    }
+
+    fn compiler() -> Command {
+        let mut compiler = Command::new(env::var("CC").unwrap_or_else(|_| "cc".into()));
+        let (packed, beside) = ("/c/include", "/../c/include");
+        compiler.args([packed, beside].map(|include| concat!("-I", env!("CARGO_MANIFEST_DIR")).to_owned() + include));
+        compiler
+    }
+
+    /// A type in C.
+    fn in_c(rust: &str) -> String {
+        if let Some(pointee) = rust.strip_prefix("*mut ") {
+            return in_c(pointee) + " *";
+        }
+        if let Some(pointee) = rust.strip_prefix("*const ") {
+            return format!("const {} *", in_c(pointee));
+        }
+        match rust {
+            "" => "void",
+            "c_int" => "int",
+            "c_uint" => "unsigned int",
+            "c_char" => "char",
+            "c_void" => "void",
+            "i32" => "int32_t",
+            "u32" => "uint32_t",
+            "u64" => "uint64_t",
+            "bool" | "reports" => rust,
+            other => return format!("struct {other}"),
+        }
+        .into()
+    }
+
+    /// For each function that this file declares a pointer of its type, to which that of the header is assigned. How many there
+    /// are. Those of the proved core are compared by `check_prototypes`.
+    fn signatures(rust: &str) -> (String, usize) {
+        let reports = "Option<unsafe extern \"C\" fn(data: *mut c_void, message: *const c_char)>";
+        let rust: Vec<_> = rust.lines().filter(|line| !line.trim_start().starts_with("//")).map(str::trim).collect();
+        let rust = rust.join("\n").replace(reports, "reports");
+        let mut source = String::from(
+            "#define WW_NO_INLINE\n#include \"ww_poll.h\"\n#include \"ww_shared.h\"\n#include \"ww_number.h\"\n\
+             #include \"ww_mutex_debug.h\"\n#include <time.h>\ntypedef void (*reports)(void *, const char *);\n",
+        );
+        let mut count = 0;
+        for block in rust.split("\nextern \"C\" {\n").skip(1) {
+            let block = block[..block.find("\n}").unwrap()].replace('\n', " ");
+            for function in block.split(';').filter_map(|it| it.split_once("fn ")).map(|(_, it)| it) {
+                let (name, rest) = function.split_once('(').unwrap();
+                let (taken, told) = rest.split_once(')').unwrap();
+                if ["ww_try_", "ww_unlock_"].contains(&name) {
+                    continue;
+                }
+                let types = taken.split(',').filter_map(|it| it.split_once(": ")).map(|(_, it)| in_c(it.trim()));
+                let taken = types.collect::<Vec<_>>().join(", ");
+                let told = in_c(told.trim().trim_start_matches("-> "));
+                source +=
+                    &format!("{told} (*p_{name})({}) = {name};\n", if taken.is_empty() { "void" } else { &taken });
+                count += 1;
+            }
+        }
+        (source, count)
+    }
+
+    #[test]
+    fn the_signatures_are_those_of_the_header() {
+        let fits = |source: &str| {
+            let mut compiler = compiler();
+            compiler.args(["-std=gnu11", "-Werror", "-fsyntax-only", "-xc", "-"]);
+            let mut compiler = compiler.stdin(Stdio::piped()).stderr(Stdio::piped()).spawn().unwrap();
+            compiler.stdin.take().unwrap().write_all(source.as_bytes()).unwrap();
+            let ended = compiler.wait_with_output().unwrap();
+            if ended.status.success() {
+                Ok(())
+            } else {
+                Err(String::from_utf8(ended.stderr).unwrap())
+            }
+        };
+        let here = include_str!("ffi.rs");
+        let (source, count) = signatures(here);
+        assert_eq!((fits(&source), count > 30), (Ok(()), true));
+        // Planted faults are found.
+        for (right, wrong) in [
+            ("fn ww_number_lock(number: u32", "fn ww_number_lock(number: u64"),
+            ("fn ww_acquire_fini(ctx: *mut ww_acquire_ctx)", "fn ww_acquire_fini(ctx: *mut ww_class)"),
+            (
+                "fn ww_mutex_is_locked(mutex: *mut ww_mutex) -> bool",
+                "fn ww_mutex_is_locked(mutex: *mut ww_mutex) -> c_int",
+            ),
+            ("fn ww_class_open(class: *mut ww_class)", "fn ww_class_open(class: *mut ww_class, more: c_int)"),
+        ] {
+            assert!(here.contains(right) && fits(&signatures(&here.replacen(right, wrong, 1)).0).is_err(), "{wrong}");
+        }
     }
 
     #[test]

@@ -1,4 +1,4 @@
-use crate::ffi::{self, ww_acquire_ctx, ww_mutex};
+use crate::ffi::{self, ww_acquire_ctx, ww_mutex, ww_shared_mutex};
 use crate::{Class, Mutex};
 use core::fmt;
 use core::marker::PhantomData;
@@ -41,7 +41,7 @@ impl Holder {
     /// # Safety
     ///
     /// It is a context, of this thread, and writes this shared mutex.
-    pub(crate) unsafe fn downgrade(self, mutex: *mut ww_mutex) {
+    pub(crate) unsafe fn downgrade(self, mutex: *mut ww_shared_mutex) {
         // SAFETY: as asked for here.
         unsafe { ffi::downgrade(mutex, self.0) };
     }

@@ -109,7 +109,7 @@ impl<C: Class, T: ?Sized> Mutex<C, T> {
     #[inline]
     pub fn try_lock(&self) -> Option<MutexGuard<'_, C, T>> {
         let class = C::raw();
-        let it = class.at(self.number(class).ok()?);
+        let it = class.at(self.number(class).ok()?).cast();
         // SAFETY: the number is one of the class.
         let is_locked = unsafe { ffi::ww_mutex_trylock(it, ptr::null_mut()) } == 1;
         // SAFETY: it locked the mutex, for this guard.
@@ -160,7 +160,7 @@ impl<C: Class, T: ?Sized> Mutex<C, T> {
         let class = C::raw();
         let number = self.existing().filter(|number| number.tag() == class.tag());
         // SAFETY: the number is one of the class.
-        number.is_some_and(|number| unsafe { ffi::ww_mutex_is_locked(class.at(number)) })
+        number.is_some_and(|number| unsafe { ffi::ww_mutex_is_locked(class.at(number).cast()) })
     }
 
     /// The value. Nobody holds the mutex, since nobody else borrows it.
@@ -216,7 +216,7 @@ impl<C: Class, T: ?Sized> Mutex<C, T> {
     ) -> Result<MutexGuard<'_, C, T>, c_int> {
         place::said();
         let until = until.map_or(ptr::null(), ptr::from_ref);
-        let it = class.at(number);
+        let it = class.at(number).cast();
         // SAFETY: the number is one of the class; the time, if there is one, lives for the call.
         match unsafe { ffi::ww_mutex_lock_until(it, ptr::null_mut(), until) } {
             // SAFETY: it locked the mutex, for this guard.

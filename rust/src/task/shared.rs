@@ -41,7 +41,7 @@ impl Asked {
         // SAFETY: as asked for here.
         unsafe {
             match self {
-                Asked::Lock(number) => ffi::ww_mutex_lock_poll(class.at(number), raw, waker),
+                Asked::Lock(number) => ffi::ww_mutex_lock_poll(class.at(number).cast(), raw, waker),
                 Asked::Read(number) => ffi::ww_shared_mutex_lock_shared_poll(class.at(number), raw, waker),
                 Asked::Write(number) => ffi::ww_shared_mutex_lock_poll(class.at(number), raw, waker),
                 Asked::Await => ffi::ww_shared_mutex_await_poll(raw, waker),
