@@ -3,7 +3,7 @@
 //! asks for it, links an installed one: that in the folder `WW_LIB_DIR`, or with `WW_USE_PKG_CONFIG=1` the one that
 //! pkg-config finds. These are archives, or with `WW_STATIC=0` shared libraries.
 //!
-//! `CC`, `AR` and `CFLAGS` are heeded, also in the form `CC_x86_64_unknown_linux_gnu`.
+//! `CC`, `AR` and `CFLAGS` are heeded, in each form that the crate `cc` knows.
 
 use std::path::{Path, PathBuf};
 use std::process::Command;
@@ -85,12 +85,10 @@ fn ask_pkg_config(name: &str) -> Answer<PathBuf> {
 const FOLDERS: [&str; 6] = ["core", "base", "admit", "lock", "doors", "debug"];
 
 fn build(is_debug: bool, name: &str) -> Answer<()> {
-    let (os, processor) = (cargo("CARGO_CFG_TARGET_OS"), cargo("CARGO_CFG_TARGET_ARCH"));
+    let processor = cargo("CARGO_CFG_TARGET_ARCH");
+    check_target(&cargo("CARGO_CFG_TARGET_OS"), &processor, &cargo("CARGO_CFG_TARGET_POINTER_WIDTH"))?;
     let sources = sources();
     let core = sources.join(format!("core/{processor}.s"));
-    if os != "linux" || !core.is_file() {
-        return Err(format!("libww isn't there for {os} on {processor}"));
-    }
     println!("cargo:rerun-if-changed={}", sources.display());
     let out = PathBuf::from(cargo("OUT_DIR"));
     let compiler = Tools::find();
@@ -115,6 +113,17 @@ fn build(is_debug: bool, name: &str) -> Answer<()> {
     println!("cargo:rustc-link-search=native={}", out.display());
     println!("cargo:rustc-link-lib=static={name}");
     Ok(())
+}
+
+/// Whether the library is there for a system.
+pub(crate) fn check_target(os: &str, processor: &str, width: &str) -> Answer<()> {
+    if os == "linux" && ["x86_64", "aarch64"].contains(&processor) && width == "64" {
+        return Ok(());
+    }
+    Err(format!(
+        "this crate is for 64-bit Linux on x86_64 and aarch64, and not for {os} on {processor} with {width} bits. A crate that is for \
+         other systems as well has it under [target.'cfg(target_os = \"linux\")'.dependencies]"
+    ))
 }
 
 fn sources() -> PathBuf {
@@ -142,11 +151,16 @@ struct Tools {
     flags: Vec<String>,
 }
 
+/// The variables that say a tool, from the first one that counts on.
+pub(crate) fn forms(name: &str, host: &str, target: &str) -> [String; 4] {
+    let of = if host == target { "HOST" } else { "TARGET" };
+    [format!("{name}_{target}"), format!("{name}_{}", target.replace('-', "_")), format!("{of}_{name}"), name.into()]
+}
+
 impl Tools {
     fn find() -> Self {
         let (host, target) = (cargo("HOST"), cargo("TARGET"));
-        let of_target = format!("_{}", target.replace('-', "_"));
-        let chosen = |name: &str| told(&format!("{name}{of_target}")).or_else(|| told(name));
+        let chosen = |name: &str| forms(name, &host, &target).iter().find_map(|form| told(form));
         // As Debian and Fedora call them: aarch64-linux-gnu-gcc, for aarch64-unknown-linux-gnu.
         let prefix = target.replace("-unknown-", "-");
         let usual = |own: &str, other: &str| if host == target { own.into() } else { format!("{prefix}-{other}") };

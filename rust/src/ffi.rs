@@ -373,6 +373,7 @@ mod tests {
     #[cfg(feature = "async")]
     use super::ww_seek;
     use super::{timespec, ww_acquire_ctx, ww_class, ww_class_counts, ACQUIRED, INTERFACE, OWN};
+    use std::fmt::Write as _;
     use std::io::Write;
     use std::mem::{align_of, offset_of, size_of};
     use std::process::{Command, Stdio};
@@ -445,11 +446,10 @@ mod tests {
             return format!("const {} *", in_c(pointee));
         }
         match rust {
-            "" => "void",
             "c_int" => "int",
             "c_uint" => "unsigned int",
             "c_char" => "char",
-            "c_void" => "void",
+            "" | "c_void" => "void",
             "i32" => "int32_t",
             "u32" => "uint32_t",
             "u64" => "uint64_t",
@@ -473,16 +473,16 @@ mod tests {
         for block in rust.split("\nextern \"C\" {\n").skip(1) {
             let block = block[..block.find("\n}").unwrap()].replace('\n', " ");
             for function in block.split(';').filter_map(|it| it.split_once("fn ")).map(|(_, it)| it) {
-                let (name, rest) = function.split_once('(').unwrap();
-                let (taken, told) = rest.split_once(')').unwrap();
+                let (name, types) = function.split_once('(').unwrap();
+                let (taken, told) = types.split_once(')').unwrap();
                 if ["ww_try_", "ww_unlock_"].contains(&name) {
                     continue;
                 }
                 let types = taken.split(',').filter_map(|it| it.split_once(": ")).map(|(_, it)| in_c(it.trim()));
                 let taken = types.collect::<Vec<_>>().join(", ");
                 let told = in_c(told.trim().trim_start_matches("-> "));
-                source +=
-                    &format!("{told} (*p_{name})({}) = {name};\n", if taken.is_empty() { "void" } else { &taken });
+                let taken = if taken.is_empty() { "void" } else { &taken };
+                writeln!(source, "{told} (*p_{name})({taken}) = {name};").unwrap();
                 count += 1;
             }
         }

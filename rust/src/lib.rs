@@ -17,8 +17,8 @@
 //! # Ok::<(), Error>(())
 //! ```
 //!
-//! - A [`Class`] is a type: the mutexes among which deadlocks are detected. It is Wound-Wait or Wait-Die, and has up to
-//!   65,536 mutexes at a time, and 1,024 contexts besides one for each thread, or as many as [`class!`] says: up to 2^24
+//! - A [`Class`] is a type: the mutexes among which deadlocks are detected. It is Wound-Wait or Wait-Die, and has **up to
+//!   65,536 mutexes at a time**, and 1,024 contexts besides one for each thread, or as many as [`class!`] says: up to 2^24
 //!   and 4,094.
 //! - A [`Mutex`] belongs to a class, and guards a value. It may be a `static`, and may be moved while nobody borrows
 //!   it.
@@ -54,14 +54,18 @@
 //! that it may leave half changed has to say so itself. As those of `parking_lot`, mutexes aren't `RefUnwindSafe`.
 //!
 //! A guard of a context that is forgotten ([`std::mem::forget`]) is released with the context's next attempt, or at its
-//! end: by then nothing can reach the value. One that was locked without a context keeps its mutex locked, and one of
-//! the contexts of the class in use, forever.
+//! end: by then nothing can reach the value. That takes a look at each mutex that the class has had at a time, which is
+//! milliseconds for 65,536 of them. A guard without a context keeps its mutex locked, and one of the contexts of the class in
+//! use, forever.
 //!
 //! # What it is built on
 //!
 //! The locks are those of `libww`, whose core is proved: mutual exclusion, that each cycle of waits contains a victim,
 //! and that a context has to back off only because of an older one. What `libww` adds to its core in C (waits, wake-ups,
 //! deadlines, cancels), and what this crate adds, is tested. It runs on Linux.
+
+// docs.rs says of each item which feature it needs.
+#![cfg_attr(docsrs, feature(doc_cfg))]
 
 mod age;
 mod cancel;
@@ -129,7 +133,7 @@ pub fn report_to(function: impl Fn(&str) + Send + Sync + 'static) {
 }
 
 /// The page for readers is tested, too.
-#[cfg(doctest)]
+#[cfg(all(doctest, feature = "async"))]
 #[doc = include_str!("../README.md")]
 struct Readme;
 
