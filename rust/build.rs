@@ -9,24 +9,31 @@ use std::path::{Path, PathBuf};
 use std::process::Command;
 use std::{env, fs};
 
-/// The first number of `ww_version`, with which the binary interface changes.
-const INTERFACE: u32 = 5;
-
 type Answer<T> = Result<T, String>;
 
 fn main() {
-    // Documents need no library.
-    if told("DOCS_RS").is_some() {
-        return;
-    }
-    if let Err(why) = provide() {
+    if let Err(why) = interface().and_then(provide) {
         eprintln!("ww-mutex: {why}");
         std::process::exit(1);
     }
 }
 
-fn provide() -> Answer<()> {
+/// The first number of the library's version, with which the binary interface changes: that of the headers beside this crate.
+fn interface() -> Answer<u32> {
+    let header = sources().join("include/ww_steps.h");
+    println!("cargo:rerun-if-changed={}", header.display());
+    let text = fs::read_to_string(&header).map_err(|why| format!("{}: {why}", header.display()))?;
+    let number = text.lines().find_map(|line| line.strip_prefix("#define WW_VERSION_MAJOR ")?.trim().parse().ok());
+    number.ok_or(format!("{} has no version", header.display()))
+}
+
+fn provide(interface: u32) -> Answer<()> {
     println!("cargo:rerun-if-changed=build.rs");
+    println!("cargo:rustc-env=WW_INTERFACE={interface}");
+    // Documents need no library.
+    if told("DOCS_RS").is_some() {
+        return Ok(());
+    }
     let is_debug = env::var_os("CARGO_FEATURE_DEBUG_LIBRARY").is_some();
     let name = if is_debug { "ww_debug" } else { "ww" };
     if is_debug || sanitizes_threads() {
@@ -35,7 +42,7 @@ fn provide() -> Answer<()> {
     if let Some(folder) = told("WW_LIB_DIR") {
         link(Path::new(&folder), name).map_err(|why| format!("WW_LIB_DIR: {why}"))
     } else if told("WW_USE_PKG_CONFIG").is_some_and(|word| word != "0") {
-        link(&ask_pkg_config(name)?, name)
+        link(&ask_pkg_config(name, interface)?, name)
     } else {
         build(is_debug, name)
     }
@@ -71,10 +78,10 @@ fn link(folder: &Path, name: &str) -> Answer<()> {
     Ok(())
 }
 
-fn ask_pkg_config(name: &str) -> Answer<PathBuf> {
+fn ask_pkg_config(name: &str, interface: u32) -> Answer<PathBuf> {
     told("PKG_CONFIG_PATH");
     let tool = told("PKG_CONFIG").unwrap_or_else(|| "pkg-config".into());
-    let (least, below) = (format!("{name} >= {INTERFACE}.0"), format!("{name} < {}", INTERFACE + 1));
+    let (least, below) = (format!("{name} >= {interface}.0"), format!("{name} < {}", interface + 1));
     run(Command::new(&tool).args(["--print-errors", &least, &below]))?;
     run(Command::new(&tool).args(["--variable=libdir", name])).map(|folder| folder.trim().into())
 }

@@ -7,8 +7,12 @@ use core::mem::MaybeUninit;
 #[cfg(feature = "async")]
 use core::ptr;
 
-/// The first number of the library's version, which changes with its binary interface.
-pub const INTERFACE: u32 = 5;
+/// The first number of the library's version, which changes with its binary interface: that of the headers with which the tests
+/// below compare this file.
+pub const INTERFACE: u32 = match u32::from_str_radix(env!("WW_INTERFACE"), 10) {
+    Ok(number) => number,
+    Err(_) => panic!("it is a number"),
+};
 
 #[repr(C)]
 pub struct ww_pool {
