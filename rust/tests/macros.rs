@@ -1,5 +1,6 @@
-//! The exported macros are expanded among names that aren't the crate's. So they hold no `unsafe`, which would trust these names;
-//! call nothing by method syntax, where a trait of the caller's may come first; and begin each path with `$crate` or `::core`.
+//! What the sources may not say. The exported macros are expanded among names that aren't the crate's. So they hold no `unsafe`,
+//! which would trust these names; call nothing by method syntax, where a trait of the caller's may come first; and begin each path
+//! with `$crate` or `::core`. And each type of a class is invariant in it.
 
 #![forbid(unsafe_code)]
 
@@ -81,13 +82,31 @@ fn sources(folder: &Path, found: &mut Vec<PathBuf>) {
     }
 }
 
-#[test]
-fn nothing_is_left_to_the_callers_names() {
+fn texts() -> Vec<String> {
     let mut files = Vec::new();
     sources(&Path::new(env!("CARGO_MANIFEST_DIR")).join("src"), &mut files);
+    files.into_iter().map(|file| fs::read_to_string(file).unwrap()).collect()
+}
+
+/// A `PhantomData` of a class by which a type isn't invariant in it.
+fn lends(text: &str) -> bool {
+    let once = text.replace("OfClass<C> = PhantomData<fn(C) -> C>", "");
+    once.split("PhantomData<").skip(1).any(|it| {
+        let end = it.find(['\n', ';', ',']).unwrap_or(it.len());
+        it[..end].split(|c: char| !c.is_alphanumeric()).any(|word| word == "C")
+    })
+}
+
+#[test]
+fn each_type_of_a_class_is_invariant() {
+    assert!(!texts().iter().any(|text| lends(text)));
+    assert!(lends("class: PhantomData<fn() -> C>,") && lends("PhantomData<*mut C>") && !lends("PhantomData<*mut T>,"));
+}
+
+#[test]
+fn nothing_is_left_to_the_callers_names() {
     let (mut names, mut all) = (Vec::new(), Vec::new());
-    for file in files {
-        let text = fs::read_to_string(&file).unwrap();
+    for text in texts() {
         for (name, tokens) in exported(&text) {
             names.push(name.to_string());
             all.extend(faults(&tokens).into_iter().map(|fault| format!("{name}!: {fault}")));
