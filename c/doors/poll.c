@@ -79,6 +79,14 @@ int ww_acquire_end_wait(struct ww_acquire_ctx *x)
 	return r == -ETIMEDOUT ? 0 : r;
 }
 
+/* Each of the three does nothing to a context that has ended.  A late cancel wakes the seat's next user, who looks again. */
+int ww_acquire_end(struct ww_acquire_ctx *x)
+{
+	(void)ww_acquire_end_wait(x);
+	ww_acquire_unlock_all(x);
+	return ww_acquire_fini_checked(x);
+}
+
 /* ---- contexts ---- */
 
 /* Waits for a seat, or goes on with that.  Without a waker it ends the wait, or begins none. */

@@ -48,7 +48,8 @@
  *	lock, trylock, unlock,            these of the same mutex, and one ww_mutex_destroy, as long as that returns
  *	is_locked, is_held_by             -EBUSY
  *	ww_mutex_init                     no call of the same mutex
- *	ww_acquire_cancel                 any call of the same context between ww_acquire_init and ww_acquire_fini
+ *	ww_acquire_cancel                 any call of the same context between ww_acquire_init and ww_acquire_fini;
+ *	                                  and ww_acquire_end
  *	ww_class_cancel                   any call of the same class except ww_class_free
  *	all else of a context             no call of the same context except ww_acquire_cancel
  *	ww_class_init, ww_class_limit,    no call of the same class: they come before its first use
@@ -120,6 +121,12 @@ void ww_acquire_init(struct ww_acquire_ctx *ctx, struct ww_class *ww_class);
 void ww_acquire_done(struct ww_acquire_ctx *ctx);
 /* Ends it. The program ends with a message if it still holds a mutex, or has ended already. */
 void ww_acquire_fini(struct ww_acquire_ctx *ctx);
+/*
+ * Ends it in whatever state it is, for destructors and languages with exceptions: ends a poll's wait and all reads, and does what
+ * ww_acquire_unlock_all and ww_acquire_fini do.  -EINVAL: it has ended before, or never began.  ww_acquire_cancel may come at the
+ * same time, or later, if no other context begins in this memory and the class isn't freed.
+ */
+int ww_acquire_end(struct ww_acquire_ctx *ctx);
 /*
  * Acquires the mutex, and waits for it.  -EDEADLK: release all that the context holds, then call ww_mutex_lock_slow with this
  * mutex; -EALREADY: the context holds it.  -EINVAL: the context has ended, it got -EDEADLK and still holds a mutex, it is of

@@ -78,6 +78,7 @@ void ww_debug_line_(const char *file, int line);
 #define ww_acquire_done(...) (WW_HERE_, ww_acquire_done(__VA_ARGS__))
 #define ww_acquire_end_try(...) (WW_HERE_, ww_acquire_end_try(__VA_ARGS__))
 #define ww_acquire_unlock_all(...) (WW_HERE_, ww_acquire_unlock_all(__VA_ARGS__))
+#define ww_acquire_end(...) (WW_HERE_, ww_acquire_end(__VA_ARGS__))
 #define ww_acquire_fini(...) (WW_HERE_, ww_acquire_fini(__VA_ARGS__))
 #define ww_mutex_lock(lock, ctx) (WW_HERE_, WW_LOCK_(lock, ctx))
 #define ww_mutex_lock_interruptible(...) (WW_HERE_, ww_mutex_lock_interruptible(__VA_ARGS__))

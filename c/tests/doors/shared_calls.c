@@ -695,6 +695,48 @@ static void a_poll_backs_off(void)
 	end_both();
 }
 
+/* One call ends a context in whatever state it is, and the same call again changes nothing. */
+static void begins_anew(struct ww_acquire_ctx *ctx)
+{
+	MUST(!ww_acquire_end(ctx) && !ctx->acquired && ww_acquire_end(ctx) == -EINVAL);
+	begins(ctx);
+	ww_acquire_flags(ctx, 8); /* WW_LISTED */
+}
+
+static void is_ended(struct ww_acquire_ctx *ctx, struct ww_acquire_ctx *other)
+{
+	begins_anew(ctx);
+	MUST(can_write(&m, other) && can_write(&n, other) && !ww_mutex_is_locked(&plain));
+}
+
+static void one_call_ends_it(void)
+{
+	begin_both();
+	begins_anew(&x);
+	is_ended(&y, &x);
+	MUST(!reads(&m, &y) && !writes(&n, &y) && !ww_mutex_lock(&plain, &y));
+	is_ended(&y, &x);
+	MUST(!ww_acquire_cancel(&y) && !ww_acquire_done_checked(&y));
+	is_ended(&y, &x);
+	MUST(!reads(&m, &x) && !reads(&m, &y) && polls_write(&m, &x) == -EINPROGRESS);
+	begins_anew(&x);
+	is_ended(&y, &x); /* the younger one again */
+	calls = 0;
+	ww_until_all_locked(&y) MUST(!reads(&m, &y) && !ww_mutex_lock(&plain, &y));
+	is_ended(&y, &x);
+	for (unsigned k = 0; k < 2 && c->is_wait_die; k++) {
+		MUST(!writes(&n, &x) && ww_tries_begin_(&y) == &y && !reads(&m, &y) && writes(&n, &y) == -EDEADLK);
+		if (k) { /* it isn't told any more, but waits first, in vain */
+			ww_back_off_(&y);
+			MUST(ww_shared_mutex_lock_until(&m, &y, &past) == -ETIMEDOUT);
+		}
+		begins_anew(&y);
+		MUST(can_write(&m, &x));
+		unlocks(&n, &x);
+	}
+	end_both();
+}
+
 /* By numbers a context may lie elsewhere; where it was is of no use then. */
 static struct ww_acquire_ctx moved;
 
@@ -1250,6 +1292,7 @@ static void of(struct ww_class *class)
 		mutexes_stay_while_tasks_come_to_read();
 		moved_writers_leave_no_name();
 	}
+	one_call_ends_it();
 	moved_contexts_read_on();
 	numbers_are_polled();
 	each_call_refuses();

@@ -62,7 +62,7 @@ static void is_no_context(struct ww_acquire_ctx *x, struct ww_mutex *a, struct w
 		MUST(ww_mutex_lock_all(x, list, count) == -EINVAL);
 	MUST(ww_mutex_lock(a, x) == -EINVAL && ww_mutex_lock_interruptible(a, x) == -EINVAL);
 	MUST(ww_mutex_trylock_checked(a, x) == -EINVAL && ww_mutex_lock_slow_checked(a, x) == -EINVAL);
-	MUST(ww_acquire_fini_checked(x) == -EINVAL && ww_acquire_done_checked(x) == -EINVAL);
+	MUST(ww_acquire_fini_checked(x) == -EINVAL && ww_acquire_done_checked(x) == -EINVAL && ww_acquire_end(x) == -EINVAL);
 	MUST(ww_acquire_cancel(x) == -EINVAL && !ww_mutex_is_held_by(a, x) && !ww_mutex_is_locked(a));
 }
 

@@ -4,7 +4,7 @@
  * A thread is a text, of which each letter is a call.  Mutexes are a, b and m, a context is the thread's own.
  *
  *	( [ {	begins a context: waits for it; until a time; at once.  Where it has none, all up to ) is left out
- *	)	ends it			$	the next context is that which others cancel
+ *	)	ends it; ]: whatever it holds, by ww_acquire_end, and once more	$	the next context is that which others cancel
  *	> <	gives the context away, and goes on with a second one; takes one	^	goes on with the second one
  *	a b m	locks, and backs off	A B M	unlocks
  *	?	the next lock is tried; t: until a time; i: it, or (, is interruptible; where it has none, all up to its unlock is left out
@@ -19,7 +19,7 @@
  *	-	under m: one user less	D	whoever was the last one destroys m, and its memory goes
  *	d	destroys m where nobody has it or waits for it, and makes it anew
  *	C	cancels the class: ends i( and what is i, by a poll too
- *	c	cancels			1-9	something has happened	~1	waits for that, which orders	_1	which doesn't	=1	it has
+ *	c	cancels; k: or that has ended, or hasn't begun	1-9	something has happened	~1	waits for that, which orders	_1	which doesn't	=1	it has
  *	s w	waits until somebody waits for a context or a permit, unless 4 has happened; until somebody waits for m
  *	e E	the lease of the thread's permit is over; at the next look the crowd is of no use
  *	W N	at the next look at the limiter tasks may claim two seats; one		k	tasks that were called haven't come for a lease
@@ -725,6 +725,15 @@ static void end_context(struct user *u)
 	u->x = &u->own[u->x == &u->own[1]];
 }
 
+static void end_all(struct user *u)
+{
+	for (unsigned k = 0; k < 3; k++)
+		if (u->held[k] == BY_LOOP)
+			is_held_no_more(u, k);
+	leave(u->x->own);
+	MUST(!ww_acquire_end(u->x) && ww_acquire_end(u->x) == -EINVAL);
+}
+
 /* For m; of a number's count the highest bit says that it is taken. */
 static bool are_waiting(void) { return numbered ? SEEN(c.pool->numbered[numbers[2]].mutex_.waiters) << 3 : SEEN(mutexes[2].waiters); }
 
@@ -744,11 +753,13 @@ static void act(struct user *u, char what, const char *how)
 	case '^': u->x = &u->own[1]; break;
 	case '<': u->x = given; break;
 	case ')': end_context(u); break;
+	case ']': end_all(u); break;
 	case 'U': unlock_loop(u); break;
 	case '-': u->last = !--refs; break;
 	case 'D': if (u->last) destroy_last(); break;
 	case 'd': destroy_beside(); break;
 	case 'c': ADD(cancels, 1); MUST(!ww_acquire_cancel(shared)); break;
+	case 'k': ADD(cancels, !ww_acquire_cancel(shared)); break;
 	case 'C': ADD(cancels, IL_THREADS); MUST(!ww_class_cancel(&c)); break;
 	case 's': while (!is_sought() && !SEEN(happened[4])) il_yield(); break;
 	case 'w': while (!are_waiting()) il_yield(); break;
@@ -898,6 +909,10 @@ const struct il_program il_programs[] = {
 	{ "cancel-once", { "na1~2A", "~1$(3!iaA2.iaA)", "~3c" }, CONTEXTS(2), WHOLE },
 	{ "cancel-slow", { "(abAB)", "$(1ibiaAB~2)", "~1c2" }, CONTEXTS(4), 2 },
 	{ "cancel-deadline", { "(aA)", "$(1tiaA~2)", "~1c2" }, CONTEXTS(4), 2 },
+	{ "end", { "(Lab;]", "(Lba;]" }, CONTEXTS(4), WHOLE },
+	{ "end-cancelled", { "$(La;]", "k", "(aA)" }, CONTEXTS(4), 2 },
+	{ "end-cancelled-few", { "$(La;]", "k", "(aA)(aA)" }, CONTEXTS(1), 2 },
+	{ "end-cancelled-poll", { "$(La;]", "k", "(yaA)" }, CONTEXTS(4), 2 },
 	{ "class-cancel", { "na1~2A", "~1(3!iaA2)", "~3C" }, CONTEXTS(2), WHOLE },
 	{ "class-cancel-soon", { "(aA)(aA)", "(1iaA~2)i(iaA)", "~1C2" }, CONTEXTS(4), 2 },
 	{ "class-cancel-seek", { "(1~2)", "~13!i()2", "~3C" }, CONTEXTS(1), WHOLE },

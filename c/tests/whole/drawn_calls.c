@@ -1141,9 +1141,17 @@ static void end_context(struct task *t)
 	bool is_lent = t->of_tasks && draw(2);
 	int r;
 
+	if (t->polled != NOBODY && t->count)
+		return; /* nothing lists what it holds */
 	if (t->of_tasks)
 		seat->lease = is_lent ? UINT64_MAX : 0;
-	if (draw(2) || t->count) {
+	if (t->polled != NOBODY || ((t->loop || !t->count) && rarely(3))) {
+		CALL(r, t, 0, ww_acquire_end(t->x));
+		IS(!r && ww_acquire_end(t->x) == -EINVAL);
+		t->polled = NOBODY;
+		t->waker = NOT_LENT;
+		lost_all(t);
+	} else if (draw(2) || t->count) {
 		CALL(r, t, 0, ww_acquire_fini_checked(t->x));
 		IS(r == (t->count ? -EINVAL : 0));
 	} else {
@@ -1242,7 +1250,7 @@ static void with_none(struct task *t)
 
 	if (!t->is_ended)
 		return;
-	switch (draw(20)) {
+	switch (draw(21)) {
 	case 0: CALL(r, t, k, ww_mutex_lock(object(k), t->x)); break;
 	case 1: CALL(r, t, k, lock_of(object(k), t->x)); break;
 	case 2: CALL(r, t, k, ww_mutex_lock_until(object(k), t->x, &past)); break;
@@ -1262,6 +1270,7 @@ static void with_none(struct task *t)
 	case 16: CALL(r, t, s, ww_shared_mutex_lock_until(shared(s), t->x, &past)); break;
 	case 17: CALL(r, t, s, ww_shared_mutex_lock_poll(shared(s), t->x, draw(2) ? &refused : NULL)); break;
 	case 18: CALL(r, t, s, ww_shared_mutex_lock_shared_poll(shared(s), t->x, draw(2) ? &refused : NULL)); break;
+	case 19: CALL(r, t, 0, ww_acquire_end(t->x)); break;
 	default: CALL(r, t, 0, ww_poll_take_back(t->x, NULL) ? 1 : -EINVAL); break;
 	}
 	IS(r == -EINVAL);
@@ -1448,7 +1457,7 @@ static void step(void)
 		switch (draw(8)) {
 		case 0: case 1: amid_a_wait(t); break;
 		case 2: takes_back(t); break;
-		case 3: if (rarely(3)) cancel(t); else if (rarely(3)) ends_wait(t); break;
+		case 3: if (rarely(3)) cancel(t); else if (rarely(3)) ends_wait(t); else if (rarely(3)) end_context(t); break;
 		default: if (t->waker != LENT || rarely(3)) polls_on(t); break;
 		}
 	} else if (t->loop && t->told && draw(2)) {
