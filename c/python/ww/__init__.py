@@ -24,13 +24,16 @@ __all__ = ["WOUND_WAIT", "WAIT_DIE", "Class", "Mutex", "SharedMutex", "Context",
 __version__: str
 
 
-def __getattr__(name: str) -> object:
-    """`__version__` is that of the library; and asyncio is loaded for those who use it."""
-    if name == "TaskContext":
-        from .tasks import TaskContext
+if not TYPE_CHECKING:
 
-        return TaskContext
-    if name != "__version__":
-        raise AttributeError(f"module {__name__!r} has no attribute {name!r}")
-    version = opened(None).ww_version()
-    return f"{version // 10000}.{version // 100 % 100}.{version % 100}"
+    def __getattr__(name: str) -> object:
+        """`__version__` is that of the library; and asyncio is loaded for those who use it. A type checker knows both by name, so
+        that it finds any other name that isn't there."""
+        if name == "TaskContext":
+            from .tasks import TaskContext
+
+            return TaskContext
+        if name != "__version__":
+            raise AttributeError(f"module {__name__!r} has no attribute {name!r}")
+        version = opened(None).ww_version()
+        return f"{version // 10000}.{version // 100 % 100}.{version % 100}"

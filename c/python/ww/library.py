@@ -1,11 +1,13 @@
 """libww.so by ctypes: where it is, the types of its calls, and which error each return value raises."""
-import collections
+from __future__ import annotations
+
 import ctypes
 import errno
 import functools
 import operator
 import os
 import sys
+from typing import Any, Callable, Dict, NamedTuple, Optional, Tuple
 
 WOUND_WAIT, WAIT_DIE = 0, 1
 _VERSION = 5
@@ -28,7 +30,16 @@ class Time(ctypes.Structure):
     _fields_ = [("seconds", ctypes.c_int64), ("nanoseconds", ctypes.c_int64)]
 
 
-Counts = collections.namedtuple("Counts", "back_offs lock_waits context_waits permit_waits contexts context_waiters task_contexts")
+class Counts(NamedTuple):
+    """What ww_class_stats tells: how often, since the class was opened; and of the last three how many there are now."""
+
+    back_offs: int
+    lock_waits: int
+    context_waits: int
+    permit_waits: int
+    contexts: int
+    context_waiters: int
+    task_contexts: int
 
 
 class Counted(ctypes.Structure):
@@ -41,13 +52,13 @@ class _Number:
     """A number of 32 bits. Any other number becomes the largest one, which no class may have."""
 
     @classmethod
-    def from_param(cls, number):
+    def from_param(cls, number: Any) -> ctypes.c_uint32:
         number = operator.index(number)
         return ctypes.c_uint32(number if 0 <= number <= _LARGEST else _LARGEST)
 
 
 _AT = ctypes.c_void_p
-_CALLS = {
+_CALLS: Dict[str, Tuple[Any, ...]] = {
     "ww_version": (ctypes.c_uint32,),
     "ww_class_init": (None, _AT, ctypes.c_int, ctypes.c_char_p),
     "ww_class_limit": (ctypes.c_int, _AT, _Number, _Number),
@@ -62,6 +73,7 @@ _CALLS |= {
     "ww_number_at": (_AT, _NUMBER, _AT),
     "ww_number_leave": (None, _NUMBER, _AT),
     "ww_number_unlock": (ctypes.c_int, _NUMBER, _AT),
+    "ww_acquire_flags": (None, _AT, ctypes.c_uint),
     "ww_acquire_mark": (ctypes.c_size_t, _AT),
     "ww_acquire_unlock_to": (None, _AT, ctypes.c_size_t),
     "ww_acquire_end_wait": (ctypes.c_int, _AT),
@@ -76,7 +88,7 @@ _CALLS |= {
 _REPORTS = ctypes.CFUNCTYPE(None, _AT, ctypes.c_char_p)
 _CALLS["ww_report_to"] = (None, _REPORTS, _AT)
 _CALLS |= {f"ww_{it}_size": (ctypes.c_size_t,) for it in ("class", "acquire")}
-_ALONE = ("class_free", "class_cancel", "acquire_done_checked", "acquire_fini_checked", "acquire_cancel")
+_ALONE = ("class_free", "class_cancel", "acquire_done_checked", "acquire_cancel", "acquire_end")
 _CALLS |= {f"ww_{it}": (ctypes.c_int, _AT) for it in _ALONE}
 _PAIRS = ("acquire_init_checked", "mutex_trylock", "shared_mutex_trylock", "shared_mutex_trylock_shared")
 _CALLS |= {f"ww_{it}": (ctypes.c_int, _AT, _AT) for it in _PAIRS}
@@ -87,12 +99,37 @@ _CALLS |= {"ww_shared_mutex_downgrade": (None, _AT, _AT)}
 _CALLS |= {f"ww_shared_mutex_{it}": _CALLS["ww_mutex_lock_poll"] for it in ("lock_poll", "lock_shared_poll")}
 _CALLS |= {"ww_shared_mutex_await_poll": (ctypes.c_int, _AT, _AT)}
 _CALLS |= {f"ww_{it}": (None, _AT) for it in ("tries_begin_", "back_off_", "acquire_unlock_all", "acquire_end_reads")}
-# A context makes these calls under a lock of its own. During them Python keeps its lock, too, if it has one: then nobody ever
-# waits for the context's.
-_ALONE_IN_PYTHON = ("ww_acquire_cancel", "ww_acquire_fini_checked")
+# During these, which wait for nothing, Python keeps its lock, if it has one.
+_SHORT = ("ww_acquire_cancel", "ww_acquire_end", "ww_acquire_end_wait")
 
 
-def _found():
+class Library(ctypes.CDLL):
+    """libww.so, and what is made of it once."""
+
+    is_debug: bool
+    context: Any  # the type of a context's memory: see _memory_of
+
+
+def _short(library: Library, name: str) -> Any:
+    return ctypes.PYFUNCTYPE(*_CALLS[name])((name, library))
+
+
+def _was_locked(code: int, *_: object) -> int:
+    told(code, "it isn't locked")
+    return code
+
+
+def _memory_of(library: Library) -> Any:
+    """The type of a context's memory. Who looks up its `end` ends the context, if it hasn't ended; who looks up its `release` gets an
+    error if it has. Both are calls of C: so str.format ends a context by such a look-up without a line of Python, which a signal
+    could interrupt."""
+    releases = _short(library, "ww_acquire_end")
+    releases.errcheck = _was_locked
+    words = ctypes.c_uint64 * -(-library.ww_acquire_size() // 8)
+    return type("Memory", (words,), {"end": property(library.ww_acquire_end), "release": property(releases)})
+
+
+def _found() -> str:
     """Where libww.so is: beside this module, below the prefix that both were installed in, where make puts it, or where the
     loader looks."""
     name = f"libww{'_debug' * _DEBUGS}.so.{_VERSION}"
@@ -102,32 +139,36 @@ def _found():
 
 
 @functools.lru_cache(maxsize=None)
-def opened(path):
+def opened(path: Optional[str]) -> Library:
     """The library at this path, or the installed one (None), with the types of its calls. With WW_DEBUG it is the debug library,
     which lies beside the one at that path."""
     folder, name = os.path.split(path or "")
     path = os.path.join(folder, name.replace("libww.so", "libww_debug.so")) if path and _DEBUGS else path or _found()
-    library = ctypes.CDLL(path)
+    library = Library(path)
     library.is_debug = hasattr(library, "ww_debug_at_")
     for name, (result, *words) in _CALLS.items():
         call = getattr(library, name)
         call.restype, call.argtypes = result, words
-    library.context = ctypes.c_uint64 * -(-library.ww_acquire_size() // 8)  # its memory
-    for name in _ALONE_IN_PYTHON:
-        setattr(library, name, ctypes.PYFUNCTYPE(*_CALLS[name])((name, library)))
+    for name in _SHORT:
+        setattr(library, name, _short(library, name))
+    library.context = _memory_of(library)
     if library.ww_version() // 10000 != _VERSION:
         raise OSError(errno.ELIBACC, f"{path} has another interface")
     return library
 
 
-_told = {}  # By libraries: as the function is called.
+_told: Dict[Optional[str], Any] = {}  # By libraries: as the function is called.
 
 
-def report_to(function, library=None):
+def _passes(function: Callable[[str], object], _: object, message: bytes) -> None:
+    function(message.decode(errors="replace"))
+
+
+def report_to(function: Optional[Callable[[str], object]], library: Optional[str] = None) -> None:
     """From now on this function gets each message with which the library ends the program, and each of the debug library's,
     instead of standard error, to which None returns. Any thread calls it. Call this before threads use the package; `library`
     is as of Class."""
-    calls = _REPORTS(lambda _, message: function(message.decode(errors="replace"))) if function else _REPORTS()
+    calls = _REPORTS(functools.partial(_passes, function)) if function else _REPORTS()
     opened(library).ww_report_to(calls, None)
     _told[library] = calls
 
@@ -144,17 +185,18 @@ _WHY = {
 }
 
 
-def told(code, why=None):
+def told(code: int, why: Optional[str] = None) -> None:
     """Raises the error that a call returned, if that isn't 0, with the usual reason or this one."""
     if code:
-        kind = {-errno.EALREADY: Already, -errno.EDEADLK: Deadlock}.get(code, OSError)
+        kinds: Dict[int, Any] = {-errno.EALREADY: Already, -errno.EDEADLK: Deadlock}
+        kind = kinds.get(code, OSError)
         raise kind(-code, why or _WHY.get(-code) or os.strerror(-code))
 
 
-_files = {}  # As the debug library keeps their names.
+_files: Dict[str, ctypes.c_char_p] = {}  # As the debug library keeps their names.
 
 
-def at_caller(library):
+def at_caller(library: Library) -> Callable[[], object]:
     """Says to the debug library at which line of the program a call of this package was made. Returns what says it again."""
     frame = sys._getframe(1)
     while frame.f_back and frame.f_globals.get("__package__") == __package__:

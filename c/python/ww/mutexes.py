@@ -5,7 +5,6 @@ to be closed: when a mutex is garbage-collected its number is put back, and then
 """
 from __future__ import annotations
 
-import collections
 import ctypes
 import errno
 import functools
@@ -13,10 +12,11 @@ import gc
 import sys
 import threading
 import time
+import types
 import weakref
-from typing import TYPE_CHECKING, Any, Awaitable, Callable, Optional, TypeVar
+from typing import TYPE_CHECKING, Any, Awaitable, Callable, Dict, Iterable, List, Optional, Set, TypeVar, Union
 
-from .library import WAIT_DIE, WOUND_WAIT, Already, Counted, Counts, Deadlock, Time, at_caller, opened, told
+from .library import WAIT_DIE, WOUND_WAIT, Already, Counted, Counts, Deadlock, Library, Time, at_caller, opened, told
 
 if TYPE_CHECKING:
     from .tasks import TaskContext
@@ -29,9 +29,8 @@ _SLICE = 100_000_000
 _NEVER = 2**62  # A time of the clock, in nanoseconds too.
 _NONE = 2**32 - 1  # The number of no mutex.
 # By its address, the call that ends each structure of the library. They are made until the program's last moment.
-_ends = {}
+_ends: Dict[int, Any] = {}
 ctypes.pythonapi.Py_IncRef(ctypes.py_object(_ends))
-_LOOK_UPS = [f"{{{k}[0]!s:.0}}" for k in range(9)]  # of 0 in so many arguments of str.format, for `_once`
 
 
 class _End(int):
@@ -43,7 +42,7 @@ class _End(int):
     __del__ = property(_ends.pop)
 
 
-def _ending(end, *kept):
+def _ending(end: Any, *kept: object) -> _End:
     """An end by this call, which keeps what may only be freed after it.  From Python 3.11 on the garbage collector would finalize it
     in any order: before a generator or a coroutine of the same cycle ends a block, which then were under no lock any more."""
     end.kept = kept
@@ -54,31 +53,27 @@ def _ending(end, *kept):
     return it
 
 
-def _once(*calls):
-    """A callable that makes these calls, in this order and each once, whatever its arguments are, and ignores what they
-    return; and a mapping that is true once it was called. str.format looks up 0 in each dictionary, which lacks it and so
-    makes it by its call: no line of Python is run, which a signal could interrupt."""
-    made = [collections.defaultdict(call) for call in calls]
-    return functools.partial("".join(_LOOK_UPS[: len(made)]).format, *made), made[0]
-
-
 class _Exit:
-    """A context's `__exit__`: `with` fetches it from the context before the context begins, and what `with` calls at the end
-    of its block is no function of Python. Others, such as contextlib.ExitStack, fetch it from the class."""
+    """An `__exit__`: `with` fetches it before its block begins, and what `with` calls at the end of the block is no function of
+    Python, but the format of a text that looks up what ends the context: see library._memory_of. Its result is empty, so that
+    exceptions pass. Others, such as contextlib.ExitStack, fetch it from the class."""
 
-    def __get__(self, context: Any, _: Any = None) -> Callable[..., None]:
-        return self if context is None else context._end
+    def __init__(self, looked_up: str) -> None:
+        self._format = f"{{0.{looked_up}!s:.0}}".format
 
-    def __call__(self, context: Context, *_: Any) -> None:
-        context._end()
+    def __get__(self, it: Any, _: Any = None) -> Callable[..., Any]:
+        return self if it is None else functools.partial(self._format, it)
+
+    def __call__(self, it: Any, *_: object) -> None:
+        self._format(it)
 
 
-def _memory(size):
+def _memory(size: int) -> Any:
     """So many bytes, all 0, and aligned for words."""
     return (ctypes.c_uint64 * -(-size // 8))()
 
 
-def _until(timeout):
+def _until(timeout: Optional[float]) -> Optional[int]:
     """The time of the monotonic clock so many seconds from now, in nanoseconds."""
     if timeout is None:
         return None
@@ -90,41 +85,44 @@ def _until(timeout):
 class _Thread(threading.local):
     """Contexts that a thread began. It uses no callbacks, since what a signal raises in one is lost."""
 
-    contexts = ()
+    contexts: List[weakref.ref[Context]] = []
 
-    def begins(self, context):
-        self.contexts = [it for it in self.contexts if it()] + [weakref.ref(context)]
+    def _go_on(self) -> List[Context]:
+        return [it for ref in self.contexts if (it := ref()) and not it._is_over]
 
-    def holds(self, mutex):
-        return any(mutex in (it() or ()) for it in self.contexts)
+    def begins(self, context: Context) -> None:
+        self.contexts = [*map(weakref.ref, self._go_on()), weakref.ref(context)]
+
+    def holds(self, mutex: Mutex) -> bool:
+        return any(mutex in it for it in self._go_on())
 
 
 _mine = _Thread()
 
 
-def _wrong(why):
+def _wrong(why: str) -> OSError:
     return OSError(errno.EINVAL, why)
 
 
 @functools.lru_cache(maxsize=None)
-def _tasks():
+def _tasks() -> Any:
     """asyncio is loaded for those who use it."""
     from . import tasks
 
     return tasks
 
 
-def _is_main():
+def _is_main() -> bool:
     return threading.get_ident() == threading.main_thread().ident
 
 
-def _runs_loop():
+def _runs_loop() -> bool:
     """Whether this thread is running a loop of asyncio."""
     events = sys.modules.get("asyncio.events")
     return events is not None and events._get_running_loop() is not None
 
 
-def _may_wait(until):
+def _may_wait(until: Optional[int]) -> None:
     """Raises where a wait would stop a loop: what it waits for may be held by one of the loop's tasks."""
     if _runs_loop() and (until is None or time.monotonic_ns() < until):
         raise RuntimeError("this would stop the running event loop: begin the context by `async with`, and await its lock")
@@ -145,6 +143,7 @@ class Class:
         self._its_end = _ending(functools.partial(self._library.ww_class_free, self._at), c_name)
         self._library.ww_class_init(self._at, kind, c_name)
         told(self._library.ww_class_limit(self._at, mutexes, contexts), "a class has at most 16,777,216 mutexes and 4,094 contexts")
+        self._nobody: Any = types.SimpleNamespace(_at=self._library.context())  # a context that never begins
 
     def __repr__(self) -> str:
         return f"<ww.Class {self.name!r}>"
@@ -183,7 +182,7 @@ class Class:
         finally:
             context.end()
 
-    def _check(self, *mutexes):
+    def _check(self, *mutexes: Mutex) -> None:
         for mutex in mutexes:
             if not isinstance(mutex, Mutex):
                 raise TypeError(f"{mutex!r} is no ww.Mutex")
@@ -207,47 +206,63 @@ class Class:
 
 
 class Mutex:
-    """A mutex of a class. `with mutex:` holds only this one, with a context of its own, as do acquire and release, which are those
-    of threading.Lock; but the thread that acquired it releases it. Already: this thread holds it. If the handler of a signal raises just as that block ends, it may stay held; a block of Class.context() always releases
-    (except in Python 3.9, which itself may raise between the block and its end)."""
+    """A mutex of a class. `with mutex:` holds only this one, in a context of its own, and in a task `async with mutex:` does.
+    acquire, release and locked are those of threading.Lock, so threading.Condition takes a Mutex. One thing differs: a thread that
+    would wait for itself without a limit gets Already. A block always releases, also where the handler of a signal raises in it or
+    at its end (except in Python 3.9, which itself may raise between the block and its end)."""
 
     _calls = "ww_mutex_"
 
     def __init__(self, of: Class) -> None:
         if not isinstance(of, Class):
             raise TypeError("a mutex is of a ww.Class")
-        self._class, self._library, self._alone = of, of._library, None
+        self._class, self._library = of, of._library
+        # The context by which it is held, or was held last; at first one that never begins.
+        self._alone: Union[Context, TaskContext] = of._nobody
         # A number of the class, and where the library's mutex of this number is: it keeps no address of ours.
         self._number = number = ctypes.c_uint32(_NONE)
         self._its_end = _ending(functools.partial(self._library.ww_number_leave, number, of._at), of._its_end)
         told(self._library.ww_number_take(ctypes.byref(number), of._at))
         self._at = self._library.ww_number_at(number, of._at)
 
-    def _call(self, name):
+    def _call(self, name: str) -> Any:
         """The library's call of this name for such a mutex."""
         return getattr(self._library, self._calls + name)
 
     def __repr__(self) -> str:
-        return f"<ww.{type(self).__name__} of {self._class.name!r}, {'locked' if self.locked() else 'unlocked'}>"
+        state = "locked" if self.locked() else "unlocked"
+        return f"<{state} ww.{type(self).__name__} object of {self._class.name!r} at {id(self):#x}>"
 
     def __enter__(self, timeout: Optional[float] = None) -> Mutex:
-        if _mine.holds(self):
+        if timeout is None and _mine.holds(self):
             raise Already(errno.EALREADY, "this thread holds it already")
         context, until = Context(self._class), _until(timeout)
         try:
             context._begin(until)
             context._lock_until((self,), until)
         except BaseException:
-            if not context._begun or context._begun.is_set():
-                context._end()
+            context._leave()
             raise
         self._alone = context  # After the last call no signal is handled before the block.
         return self
+
+    __exit__ = _Exit("_alone._at.release")
+
+    async def __aenter__(self) -> Mutex:
+        self._alone = await _tasks().TaskContext.holding(self)
+        return self
+
+    async def __aexit__(self, *_: object) -> None:
+        self._alone.end()
 
     def acquire(self, blocking: bool = True, timeout: float = -1) -> bool:
         """Acquires it, at most for `timeout` seconds, or with blocking=False only if it is free; returns whether it did."""
         if not blocking and timeout != -1:
             raise ValueError("a call that doesn't block has no timeout")
+        if timeout < 0 and timeout != -1:
+            raise ValueError("a timeout is a number of seconds, or -1")
+        if timeout > threading.TIMEOUT_MAX:
+            raise OverflowError("a timeout is at most threading.TIMEOUT_MAX")
         try:
             self.__enter__((None if timeout == -1 else timeout) if blocking else 0)
         except TimeoutError:
@@ -255,18 +270,12 @@ class Mutex:
         return True
 
     def release(self) -> None:
-        """Releases it; in the thread that acquired it."""
+        """Releases it, in whichever thread. EINVAL: it isn't locked by acquire or a block."""
         self.__exit__()
-
-    def __exit__(self, *_: Any) -> None:
-        alone, self._alone = self._alone, None
-        if not alone:
-            raise _wrong("it isn't locked")
-        alone._end()
 
     def locked(self) -> bool:
         """Whether somebody holds or reads it: that may be out of date when it returns."""
-        return self._call("is_locked")(self._at)
+        return bool(self._call("is_locked")(self._at))
 
 
 class SharedMutex(Mutex):
@@ -282,11 +291,24 @@ class Holder:
     so `_reads` has the numbers of what the program hasn't unlocked, and the last unlock ends the reads. Where an exception comes
     between two lines it may have one too many, and then the reads last until the block ends."""
 
-    def _has(self, mutex):
-        """Whether it was asked for, and is held: the library's mutexes with a number are all shared ones."""
-        return self._library.ww_shared_mutex_is_written_by(mutex._at, self._at)
+    def __init__(self, of: Class, timeout: Optional[float]) -> None:
+        self._class, self._library, self._timeout = of, of._library, timeout
+        self._at = self._library.context()
+        self._reads: Set[int] = set()
 
-    def _told(self, code):
+    def _check(self, *mutexes: Mutex) -> None:
+        """Raises if a call here and now would be misuse."""
+        raise NotImplementedError
+
+    def _is_contended(self) -> bool:
+        """Whether it got Deadlock, and hasn't backed off since."""
+        raise NotImplementedError
+
+    def _has(self, mutex: Mutex) -> bool:
+        """Whether it was asked for, and is held: the library's mutexes with a number are all shared ones."""
+        return bool(self._library.ww_shared_mutex_is_written_by(mutex._at, self._at))
+
+    def _told(self, code: int) -> None:
         """As told, of a lock call."""
         is_misuse = code == -errno.EINVAL and self._is_contended()
         told(code, "the context got Deadlock and still holds a mutex: release all, or let the body return" if is_misuse else None)
@@ -301,7 +323,7 @@ class Holder:
     def try_lock(self, mutex: Mutex) -> bool:
         """Acquires it if nobody has it or waits for it; returns whether it did."""
         self._check(mutex)
-        return mutex._call("trylock")(mutex._at, self._at) == 1
+        return bool(mutex._call("trylock")(mutex._at, self._at) == 1)
 
     def unlock(self, mutex: Mutex) -> None:
         """Releases it; of a SharedMutex ends its read, too."""
@@ -312,7 +334,7 @@ class Holder:
             told(self._library.ww_number_unlock(mutex._number, self._at))
         self._end_reads({mutex._number.value})
 
-    def _end_reads(self, numbers):
+    def _end_reads(self, numbers: Set[int]) -> None:
         if self._reads & numbers:
             self._reads -= numbers
             if not self._reads:
@@ -325,29 +347,21 @@ class Context(Holder):
     thread that runs a loop of asyncio, it raises RuntimeError."""
 
     def __init__(self, of: Class, timeout: Optional[float] = None) -> None:
-        self._class, self._library, self._timeout = of, of._library, timeout
-        self._thread = self._of_task = None
-        self._begun = None  # If another thread begins it, the event that it has.
-        self._reads = set()
+        super().__init__(of, timeout)
+        self._thread: Optional[int] = None
+        self._of_task: Optional[TaskContext] = None
+        # Who comes first says what is done after an exception: the thread by which it has begun, or whoever leaves it before.
+        self._came_first = {"": "begun"}
+        self._its_end = _ending(functools.partial(self._library.ww_acquire_end, self._at), of._its_end)
 
-    def __getattr__(self, name):
-        """What a thread's context has besides, made at its first use: one of a task never uses it."""
-        if name not in ("_at", "_lock", "_end", "_is_over", "_its_end"):
-            raise AttributeError(f"a context has no attribute {name!r}")
-        at = self._library.context()
-        # Its end comes once, in a block or when it is dropped, and other threads may cancel it until then: so the end and each
-        # cancel are made under a lock.
-        lock = threading.Lock()
-        release, fini = (functools.partial(call, at) for call in (self._library.ww_acquire_unlock_all, self._library.ww_acquire_fini_checked))
-        end, is_over = _once(lock.acquire, release, fini, lock.release)
-        made = {"_at": at, "_lock": lock, "_end": end, "_is_over": is_over, "_its_end": _ending(end, self._class._its_end)}
-        # If threads use it first at once, all get what one of them has made.
-        self.__dict__.update(self.__dict__.setdefault("_made", made))
-        return self.__dict__[name]
+    __exit__ = _Exit("_at.end")
 
-    __exit__ = _Exit()
+    @property
+    def _is_over(self) -> bool:
+        """Whether it has ended, or hasn't begun: no wait of a poll goes on by a thread's context."""
+        return self._library.ww_acquire_end_wait(self._at) != 0
 
-    def _begins_once(self):
+    def _begins_once(self) -> None:
         """Whichever thread or task comes first, and whatever becomes of that; Python makes the call in one step."""
         if self.__dict__.setdefault("_is_taken", mine := object()) is not mine:
             raise _wrong("a context begins once")
@@ -357,24 +371,24 @@ class Context(Holder):
         try:
             self._begin(_until(self._timeout))
         except BaseException:
-            if not self._begun or self._begun.is_set():
-                self._end()
+            self._leave()
             raise
         return self  # After the last call no signal is handled before the block.
 
     async def __aenter__(self) -> TaskContext:
         self._begins_once()
-        self._of_task = _tasks().TaskContext(self._class, self._timeout)
-        await self._of_task.begin()
-        return self._of_task
+        self._of_task = context = _tasks().TaskContext(self._class, self._timeout)
+        await context.begin()
+        return context
 
-    async def __aexit__(self, *_: Any) -> None:
+    async def __aexit__(self, *_: object) -> None:
+        assert self._of_task
         self._of_task.end()
 
     def __repr__(self) -> str:
         return f"<ww.Context of {self._class.name!r} with {self._library.ww_acquire_mark(self._at)} mutexes>"
 
-    def _begin(self, until=None):
+    def _begin(self, until: Optional[int] = None) -> None:
         if self._library.is_debug:
             at_caller(self._library)
         code = self._library.ww_acquire_init_checked(self._at, self._class._at)
@@ -384,57 +398,57 @@ class Context(Holder):
         self._thread = threading.get_ident()
         _mine.begins(self)
 
-    def _begin_in_turn(self, until):
+    def _begin_in_turn(self, until: Optional[int]) -> int:
         """Waits until one of the class's contexts is free. With calls of a slice each the main thread would lose its place
         in that queue each time, so another thread waits for it. If the main thread stops waiting, the context ends as soon
         as it has begun."""
         _may_wait(until)
-        begun, left, codes = threading.Event(), threading.Event(), []
-        end = Time(*divmod(_NEVER if until is None else until, 10**9))
+        begun, codes, end = threading.Event(), [], Time(*divmod(_NEVER if until is None else until, 10**9))
+        came_first: Dict[str, str] = {}
 
-        def begin():
+        def begin() -> None:
             codes.append(self._library.ww_acquire_init_until(self._at, self._class._at, end))
+            if came_first.setdefault("", "begun") == "left":
+                self._library.ww_acquire_end(self._at)
             begun.set()
-            if left.is_set():
-                with self._lock:
-                    self._library.ww_acquire_fini_checked(self._at)
 
-        if not _is_main():
-            begin()
-            return codes[0]
-        self._begun = begun
-        try:
+        if _is_main():
+            self._came_first = came_first
             threading.Thread(target=begin, daemon=True).start()
             begun.wait()
-        except BaseException:
-            left.set()
-            raise
+        else:
+            begin()
         return codes[0]
 
-    def _check(self, *mutexes):
+    def _leave(self) -> None:
+        """After an exception: ends it, or leaves that to the thread by which it begins."""
+        if self._came_first.setdefault("", "left") == "begun":
+            self._library.ww_acquire_end(self._at)
+
+    def _check(self, *mutexes: Mutex) -> None:
         """Raises if a call of this thread would be misuse."""
-        if self._is_over or self._thread != threading.get_ident():
+        if self._thread != threading.get_ident() or self._is_over:
             raise _wrong("the context belongs to another thread, or its `with` block isn't running")
         self._class._check(*mutexes)
 
-    def _is_contended(self):
-        """Whether it got Deadlock, and hasn't backed off since."""
-        return self._library.ww_is_contended(self._at)
+    def _is_contended(self) -> bool:
+        return bool(self._library.ww_is_contended(self._at))
 
-    def _answer(self, mutex, until, call):
+    def _answer(self, mutex: Mutex, until: Optional[int], call: Any) -> int:
         """What this lock call returns in the end."""
         if _runs_loop():
-            code = call(mutex._at, self._at, Time(0, 0))
+            code: int = call(mutex._at, self._at, Time(0, 0))
             if code == -errno.ETIMEDOUT:
                 _may_wait(until)
             return code
         while until is not None or _is_main():
-            end = time.monotonic_ns() + _SLICE if _is_main() else until
+            end = time.monotonic_ns() + _SLICE if until is None or _is_main() else until
             end = end if until is None else min(end, until)
             code = call(mutex._at, self._at, Time(*divmod(end, 10**9)))
             if code != -errno.ETIMEDOUT or end == until:
                 return code
-        return call(mutex._at, self._at, None)
+        code = call(mutex._at, self._at, None)
+        return code
 
     def lock(self, *mutexes: Mutex, timeout: Optional[float] = None) -> None:
         """Acquires all of them, and waits for them; at most for `timeout` seconds (TimeoutError), or until it is cancelled
@@ -452,12 +466,12 @@ class Context(Holder):
             raise TypeError("only a ww.SharedMutex is read")
         self._lock_until([it for it in mutexes if it not in self], _until(timeout), "lock_shared_until")
 
-    def _lock_until(self, mutexes, until, name="lock_until"):
+    def _lock_until(self, mutexes: Iterable[Mutex], until: Optional[int], name: str = "lock_until") -> None:
         if self._library.is_debug:
             at_caller(self._library)
         mark = self._library.ww_acquire_mark(self._at)
         while True:
-            read = set()
+            read: Set[int] = set()
             try:
                 for mutex in mutexes:
                     if name == "lock_shared_until":
@@ -490,7 +504,7 @@ class Context(Holder):
         self._check()
         self._unlock_all()
 
-    def _unlock_all(self):
+    def _unlock_all(self) -> None:
         self._reads.clear()
         if self._is_contended():
             self._library.ww_back_off_(self._at)
@@ -511,9 +525,5 @@ class Context(Holder):
     def cancel(self) -> None:
         """Ends its wait, the current one or the next; any thread may call it. Already: a cancel is pending; EINVAL: the
         context hasn't begun, or has ended."""
-        if self._thread is None:
-            raise _wrong("the context hasn't begun")
-        calls = self._lock.acquire, functools.partial(self._library.ww_acquire_cancel, self._at), self._lock.release
-        # No line of Python is run between these, which a signal could interrupt.
-        _, code, _ = map(functools.partial.__call__, map(functools.partial, calls))
-        told(code, "a cancel is pending already" if code == -errno.EALREADY else "the context has ended")
+        code = self._library.ww_acquire_cancel(self._at)
+        told(code, "a cancel is pending already" if code == -errno.EALREADY else "the context hasn't begun, or has ended")

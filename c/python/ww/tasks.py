@@ -1,5 +1,7 @@
 """Contexts of asyncio's tasks, which wait without their thread: `async with Class.context() as context`, over ww_poll.h.
 Python 3.10, which has eventfd."""
+from __future__ import annotations
+
 import asyncio
 import collections
 import contextvars
@@ -11,9 +13,9 @@ import select
 import threading
 import time
 import weakref
-from typing import Optional
+from typing import Callable, Optional
 
-from .library import Deadlock, at_caller, told
+from .library import Already, Deadlock, at_caller, told
 from .mutexes import Class, Holder, Mutex, SharedMutex, _ending, _until
 
 
@@ -41,6 +43,7 @@ class _Woken(ctypes.Structure):
 _events, _inherited = {}, []
 for _kept in _events, _inherited:
     ctypes.pythonapi.Py_IncRef(ctypes.py_object(_kept))
+_LISTED = 8  # WW_LISTED: the context knows all that it holds, so one call releases it.
 # For how many seconds the end of a loop waits at most for threads that are in the middle of a call.
 _PATIENCE = 10
 
@@ -197,18 +200,35 @@ class TaskContext(Holder):
     asyncio.wait_for of 3.11 may lose a cancel that comes with the end of the wait."""
 
     def __init__(self, of: Class, timeout: Optional[float] = None) -> None:
-        self._class, self._library, self._reads = of, of._library, set()
-        self._timeout, self._says = timeout, None  # What says to the debug library where its last call was made.
-        self._at, self._seek = self._library.context(), _Seek()
+        super().__init__(of, timeout)
+        self._says: Optional[Callable[[], object]] = None  # What says to the debug library where its last call was made.
+        self._task = id(asyncio.current_task())
+        self._seek = _Seek()
         self._future = self._event = None  # Those of the wait that is under way.
         self._is_back = False  # Its waker was taken back.
         self._got_deadlock = False  # It has yet to wait for what it collided with, once it has released all.
         self._is_over = False
-        ends = self._library.ww_acquire_end_wait, self._library.ww_acquire_unlock_all, self._library.ww_acquire_fini_checked
-        calls = [functools.partial(self._library.ww_seek_end, ctypes.byref(self._seek)), *[functools.partial(it, self._at) for it in ends]]
+        calls = functools.partial(self._library.ww_seek_end, ctypes.byref(self._seek)), functools.partial(self._library.ww_acquire_end, self._at)
         # It makes each of them once, in this order: no line of Python is run, which a signal could interrupt.
         self._end = functools.partial(collections.deque, map(functools.partial.__call__, calls), 0)
         self._its_end = _ending(self._end, of._its_end)
+
+    @classmethod
+    async def holding(cls, mutex: Mutex) -> TaskContext:
+        """A context that holds this one, for `async with mutex`. Already: one of the task's own, around it, does."""
+        context, around = cls(mutex._class), _within()
+        while around:
+            it = around[0]()
+            if it and it._task == context._task and mutex in it:
+                raise Already(errno.EALREADY, "this task holds it already")
+            around = around[1]
+        try:
+            await context.begin()
+            await context.lock(mutex)
+        except BaseException:
+            context.end()
+            raise
+        return context
 
     def _is_contended(self):
         return self._got_deadlock
@@ -267,6 +287,7 @@ class TaskContext(Holder):
         try:
             if poll(None) != 0:
                 told(await self._wait(poll, until, seek))
+            self._library.ww_acquire_flags(self._at, _LISTED)
             _around.set((weakref.ref(self), within))
         except BaseException:
             self._end()

@@ -79,17 +79,17 @@ def says_why():
     its = ww.Class(mutexes=1, contexts=4, library=sys.argv[1], name="accounts")
     a = ww.Mutex(its)
     assert "16,777,216" in why_of(made, mutexes=2**24 + 1) and "Class(mutexes=" in why_of(ww.Mutex, its)
-    assert repr(its) == "<ww.Class 'accounts'>" and repr(a) == "<ww.Mutex of 'accounts', unlocked>"
+    assert repr(its) == "<ww.Class 'accounts'>" and repr(a).startswith("<unlocked ww.Mutex object of 'accounts' at 0x")
     with its.context() as one:
         one.lock(a)
-        assert why_of(one.lock, a) == "the context holds this mutex already" and "1 mutexes" in repr(one) and repr(a).endswith(", locked>")
+        assert why_of(one.lock, a) == "the context holds this mutex already" and "1 mutexes" in repr(one) and repr(a).startswith("<locked ")
         one.cancel()
         assert why_of(one.cancel) == "a cancel is pending already"
     assert its.stats() == ww.Counts(0, 0, 0, 0, 0, 0, 4) and ww.__version__.count(".") == 2
 
 
 def is_a_lock():
-    """As threading.Lock: with a time limit, or only if it is free; several are held, in any order."""
+    """As threading.Lock: with a time limit, or only if it is free; several are held, in any order. locks.py has CPython's own tests."""
     its = made()
     a, b = ww.Mutex(its), ww.Mutex(its)
     assert a.acquire() and b.acquire(blocking=False) and a.locked() and not beside(lambda: a.acquire(False))
@@ -98,7 +98,12 @@ def is_a_lock():
     b.release()
     assert beside(lambda: a.acquire(timeout=60) and not a.release()) and fault_of(a.release) == errno.EINVAL
     with a:
-        assert not beside(lambda: a.acquire(timeout=0))
+        assert not beside(lambda: a.acquire(timeout=0)) and not a.acquire(False) and not a.acquire(timeout=0.01)
+        assert beside(lambda: not a.release()) and a.acquire(False)
+    with its.context() as context:
+        context.lock(a)
+        assert not a.acquire(False) and is_raised(ww.Already, a.acquire) and fault_of(a.release) == errno.EINVAL and a in context
+    assert not a.locked()
 
 
 def ends_all_waits():
@@ -397,7 +402,7 @@ def collects_blocks():
 
 
 def loses_nothing():
-    """An exception at the beginning of any function, as a signal's handler raises it, but of the end of a mutex's block."""
+    """An exception at the beginning of any function, as a signal's handler raises it."""
     buffers = made(contexts=2)
     a = ww.Mutex(buffers)
 
@@ -419,7 +424,7 @@ def loses_nothing():
 
         def counts(frame, event, _):
             nonlocal left
-            if event == "call" and frame.f_code is not ww.Mutex.__exit__.__code__:
+            if event == "call":
                 left -= 1
                 if left == 0:
                     raise Hit
@@ -547,36 +552,27 @@ def is_called_off(kind):
     assert told == [True, True, True]
 
 
-def ends_behind_a_cancel():
-    """A block that ends while another thread is in the middle of a cancel; and one that hasn't begun isn't cancelled."""
-    buffers = made()
-    library, told, is_called = buffers._library, [], threading.Event()
-    names = ("ww_acquire_cancel", "ww_acquire_fini_checked")
-    cancel, fini = (getattr(library, name) for name in names)
-
-    def cancels_slowly(at):
-        is_called.set()
-        time.sleep(0.2)
-        told.append("cancelled")
-        return cancel(at)
-
-    def ends(at):
-        told.append("ended")
-        return fini(at)
-
-    for name, call in zip(names, (cancels_slowly, ends)):
-        setattr(library, name, call)
+def ends_beside_a_cancel():
+    """A block that ends while another thread cancels its context: that comes in time, or is told that the context has ended. One that
+    hasn't begun isn't cancelled."""
+    buffers, told = made(contexts=2), []
     context = buffers.context()
-    assert fault_of(context.cancel) == errno.EINVAL and not told
-    with context:
-        thread = threading.Thread(target=context.cancel)
+    assert fault_of(context.cancel) == errno.EINVAL
+    for _ in range(200):
+        context, met = buffers.context(), threading.Barrier(2)
+
+        def cancels():
+            met.wait()
+            told.append(fault_of(context.cancel))
+
+        thread = threading.Thread(target=cancels)
         thread.start()
-        is_called.wait()
-    thread.join()
-    for name, call in zip(names, (cancel, fini)):
-        setattr(library, name, call)
-    assert told == ["cancelled", "ended"] and fault_of(context.cancel) == errno.EINVAL
-    begins(buffers)
+        with context:
+            met.wait()
+        thread.join()
+        assert fault_of(context.cancel) == errno.EINVAL
+        begins(buffers)
+    assert {*told} <= {0, errno.EINVAL}
 
 
 def interrupts(number, name, call):
@@ -837,7 +833,7 @@ collects_blocks()
 loses_nothing()
 ends_each_block()
 waits_in_turn()
-ends_behind_a_cancel()
+ends_beside_a_cancel()
 forks()
 for each in KINDS:
     for test in (refuses_mutexes, refuses_again, ends_in_time, is_called_off, hears_interrupts, resolves, backs_off_by_itself, keeps_nothing, reads, holds_what_it_asked_for):

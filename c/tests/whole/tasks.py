@@ -202,6 +202,34 @@ async def reads(kind):
     assert not plain.locked()
 
 
+async def holds_one(kind):
+    """`async with mutex`, as asyncio.Lock: no count is lost, a cancel leaves it as it was, and a task that holds it already is told."""
+    buffers = made(kind)
+    a, b, counts = ww.Mutex(buffers), ww.SharedMutex(buffers), [0]
+
+    async def adds():
+        for _ in range(50):
+            async with a:
+                before = counts[0]
+                await asyncio.sleep(0)
+                counts[0] = before + 1
+
+    async def nests():
+        async with a, b:
+            for mutex in (a, b):
+                assert await fault_of(mutex.__aenter__()) == errno.EALREADY and mutex.locked()
+            raise KeyError
+
+    await asyncio.wait_for(asyncio.gather(*(adds() for _ in range(3))), 120)
+    assert counts == [150] and isinstance((await asyncio.gather(nests(), return_exceptions=True))[0], KeyError)
+    async with a:
+        task = asyncio.create_task(adds())
+        await asyncio.sleep(0)
+        task.cancel()
+        assert isinstance((await asyncio.gather(task, return_exceptions=True))[0], asyncio.CancelledError) and a.locked()
+    assert not a.locked() and not b.locked() and not buffers.stats().contexts
+
+
 async def cancelled_soon(context, mutex):
     """What it reads it goes on reading where it can't write it."""
     await context.read(mutex)
@@ -781,6 +809,7 @@ def main():
         asyncio.run(has_a_time(kind))
         asyncio.run(refuses_other_tasks(kind))
         asyncio.run(is_cancelled(kind))
+        asyncio.run(holds_one(kind))
         asyncio.run(reads(kind))
         asyncio.run(upgrades(kind))
         asyncio.run(locks_again(kind))
