@@ -236,7 +236,7 @@ WW_MUST_CHECK int ww_mutex_lock_all(struct ww_acquire_ctx *ctx, struct ww_mutex 
  */
 static inline int ww_mutex_lock_by(struct ww_acquire_ctx *ctx, int (*locks)(struct ww_acquire_ctx *ctx, void *data), void *data);
 /* For a context; the first applies to ww_mutex_lock_all, and from ww_until_all_locked to the end of the context. */
-enum {
+enum ww_flags {
 	WW_IGNORE_DUPLICATES = 1,	/* a mutex that the context holds is no error */
 	WW_INTERRUPTIBLE = 2,		/* ww_acquire_cancel may end its waits, also those of ww_mutex_lock */
 	WW_MAY_BE_OLDER = 4,		/* backs off by itself, so may share an age (ww_acquire_init); set before its first lock */

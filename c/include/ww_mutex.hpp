@@ -24,7 +24,7 @@
 // On a variable: it is accessed only under this mutex. On a function: it is called under these.
 #define WW_GUARDED_BY(mutex) WW_SAFETY_(guarded_by(mutex))
 #define WW_REQUIRES(...) WW_SAFETY_(requires_capability(__VA_ARGS__))
-// On a function, or a lambda behind its parameters, that locks in a way which clang's analysis can't follow: it isn't looked at.
+// On a function, or a lambda behind its parameters, that uses data in a way which clang's analysis can't follow: it isn't looked at.
 #define WW_NO_SAFETY_ANALYSIS WW_SAFETY_(no_thread_safety_analysis)
 
 // Where the program made a call, which the debug library reports: each call here gets it from its caller.
@@ -43,6 +43,12 @@
 #define WW_AND_THERE_
 #define WW_NOWHERE_
 #endif
+
+// Flags of ww_acquire_flags together. They are no numbers: 500 converts to none.
+constexpr ww_flags operator|(ww_flags a, ww_flags b) noexcept
+{
+	return static_cast<ww_flags>(static_cast<unsigned>(a) | static_cast<unsigned>(b));
+}
 
 namespace ww {
 
@@ -92,7 +98,7 @@ public:
 // with WW_INTERRUPTIBLE, cancel() of the context or of its class, which ends a wait with a time limit, too. It also has the flags
 // of ww_acquire_flags. Each of these converts to it.
 class limits {
-	unsigned flags_;
+	ww_flags flags_;
 	std::optional<timespec> until_;
 
 	// As the clock counts it: none where it is less, and a century where it is more or no number.
@@ -112,16 +118,16 @@ class limits {
 	}
 
 public:
-	limits(unsigned flags = 0) noexcept : flags_(flags) {}
-	template <class Rep, class Period> limits(std::chrono::duration<Rep, Period> timeout, unsigned flags = 0) : flags_(flags)
+	limits(ww_flags flags = {}) noexcept : flags_(flags) {}
+	template <class Rep, class Period> limits(std::chrono::duration<Rep, Period> timeout, ww_flags flags = {}) : flags_(flags)
 	{
 		until_ = at(std::chrono::steady_clock::now().time_since_epoch() + bounded(timeout));
 	}
-	template <class Duration> limits(std::chrono::time_point<std::chrono::steady_clock, Duration> deadline, unsigned flags = 0)
+	template <class Duration> limits(std::chrono::time_point<std::chrono::steady_clock, Duration> deadline, ww_flags flags = {})
 		: flags_(flags), until_(at(bounded(deadline.time_since_epoch())))
 	{
 	}
-	unsigned flags() const noexcept { return flags_; }
+	ww_flags flags() const noexcept { return flags_; }
 	const timespec *until() const noexcept { return until_ ? &*until_ : nullptr; }
 };
 
@@ -219,8 +225,8 @@ public:
 	array_of &operator=(const array_of &) = delete;
 	std::size_t size() const noexcept { return size_; }
 	Mutex &operator[](std::size_t k) noexcept { return first_[k]; }
-	Mutex *begin() noexcept { return first_; }
-	Mutex *end() noexcept { return first_ + size_; }
+	Mutex *begin() const noexcept { return first_; }
+	Mutex *end() const noexcept { return first_ + size_; }
 };
 using mutex_array = array_of<mutex>;
 using shared_mutex_array = array_of<shared_mutex>;
@@ -260,26 +266,37 @@ inline const char *message(int error) noexcept
 	}
 }
 
-// What a callable returned under its locks, or the error because of which it wasn't called.
+// What a callable returned under its locks, or the error because of which it wasn't called. Its truth is that it was called, so where
+// the callable returned a bool it has none: ask has_value(), or for the value.
 template <class T> class [[nodiscard]] result {
+	static_assert(!std::is_reference_v<T>, "what is returned is used without the locks: return a value, or a pointer");
 	std::optional<T> value_;
 	int error_ = 0;
 
 public:
 	explicit result(int error) noexcept : error_(error) {}
 	result(std::in_place_t, T &&value) : value_(std::move(value)) {}
-	explicit operator bool() const noexcept { return value_.has_value(); }
+	bool has_value() const noexcept { return value_.has_value(); }
+	explicit operator bool() const noexcept
+	{
+		static_assert(!std::is_same_v<T, bool>, "has_value(): whether it was called; value_or(false): what it returned, too");
+		return has_value();
+	}
 	int error() const noexcept { return error_; }
-	T &operator*() noexcept { return *value_; }
-	const T &operator*() const noexcept { return *value_; }
+	T &operator*() & noexcept { return *value_; }
+	const T &operator*() const & noexcept { return *value_; }
+	T &&operator*() && noexcept { return std::move(*value_); }
 	T *operator->() noexcept { return &*value_; }
+	template <class U> T value_or(U &&otherwise) const & { return value_.value_or(std::forward<U>(otherwise)); }
+	template <class U> T value_or(U &&otherwise) && { return std::move(value_).value_or(std::forward<U>(otherwise)); }
 };
 template <> class [[nodiscard]] result<void> {
 	int error_;
 
 public:
 	explicit result(int error = 0) noexcept : error_(error) {}
-	explicit operator bool() const noexcept { return !error_; }
+	bool has_value() const noexcept { return !error_; }
+	explicit operator bool() const noexcept { return has_value(); }
 	int error() const noexcept { return error_; }
 };
 
@@ -303,6 +320,8 @@ class context {
 	// error, and if a callable throws, it holds nothing.
 	template <class Locks> int acquire(Locks &&locks)
 	{
+		static_assert(std::is_same_v<std::invoke_result_t<Locks>, int>,
+			      "the callable returns 0 or the first error of a lock call, and not whether it succeeded");
 		int r = 0;
 
 		if (const int refused = told([&] { return it_.acquired ? -EINVAL : 0; }))
@@ -322,12 +341,9 @@ class context {
 	// What a lock call returns; of a context that didn't begin, why.
 	template <class Call> int told(Call &&call) const noexcept { return error_ ? error_ : call(); }
 
-	int ask(mutex &m WW_AND_FROM_) noexcept
-	{
-		return told([&] {
-			return limits_.until() ? ww_mutex_lock_until(m.get(), &it_, limits_.until()) : ww_mutex_lock(m.get(), &it_);
-		});
-	}
+	// An element of a list: a mutex, or a pointer to one.
+	template <class Mutex> static Mutex &in(Mutex &m) noexcept { return m; }
+	template <class Mutex> static Mutex &in(Mutex *m) noexcept { return *m; }
 
 	// Calls fn under what was acquired, if that returned 0, and releases everything.
 	template <class Fn> WW_NO_SAFETY_ANALYSIS auto under(int answer, Fn &&fn) -> result<std::invoke_result_t<Fn>>
@@ -361,10 +377,8 @@ public:
 	~context()
 	{
 		WW_NOWHERE_;
-		if (error_)
-			return;
-		unlock_all();
-		ww_acquire_fini(&it_);
+		if (!error_)
+			ww_acquire_end(&it_);
 	}
 	// 0, or why it didn't begin, as it may only with limits: -ETIMEDOUT, -EINTR, -ENOMEM, or -EINVAL in a forked child.
 	[[nodiscard]] int error() const noexcept { return error_; }
@@ -372,27 +386,29 @@ public:
 	context &operator=(const context &) = delete;
 
 	// 0, or -EDEADLK, -EALREADY, -EINVAL, -ENOSPC, -ENOMEM, as ww_mutex_lock; after -EDEADLK call back_off(). With limits also
-	// -ETIMEDOUT and -EINTR.
-	[[nodiscard]] int lock(mutex &m WW_AND_FROM_) noexcept WW_SAFETY_(try_acquire_capability(false, m))
+	// -ETIMEDOUT and -EINTR. clang's analysis takes each lock call for a success, since it sees neither what the context's end
+	// releases nor a loop; and only unlock for a release.
+	[[nodiscard]] int lock(mutex &m WW_AND_FROM_) noexcept WW_SAFETY_(assert_capability(m))
 	{
-		return ask(m WW_AND_THERE_);
+		return told([&] {
+			return limits_.until() ? ww_mutex_lock_until(m.get(), &it_, limits_.until()) : ww_mutex_lock(m.get(), &it_);
+		});
 	}
 	// Also -EINTR, if another thread called cancel().
-	[[nodiscard]] int lock_interruptible(mutex &m WW_AND_FROM_) noexcept WW_SAFETY_(try_acquire_capability(false, m))
+	[[nodiscard]] int lock_interruptible(mutex &m WW_AND_FROM_) noexcept WW_SAFETY_(assert_capability(m))
 	{
 		return told([&] { return ww_mutex_lock_interruptible(m.get(), &it_); });
 	}
 	// Also -ETIMEDOUT.
-	[[nodiscard]] int lock_until(mutex &m, const timespec &monotonic WW_AND_FROM_) noexcept
-		WW_SAFETY_(try_acquire_capability(false, m))
+	[[nodiscard]] int lock_until(mutex &m, const timespec &monotonic WW_AND_FROM_) noexcept WW_SAFETY_(assert_capability(m))
 	{
 		return told([&] { return ww_mutex_lock_until(m.get(), &it_, &monotonic); });
 	}
-	[[nodiscard]] bool try_lock(mutex &m WW_AND_FROM_) noexcept WW_SAFETY_(try_acquire_capability(true, m))
+	[[nodiscard]] bool try_lock(mutex &m WW_AND_FROM_) noexcept WW_SAFETY_(assert_capability(m))
 	{
 		return !told([&] { return ww_mutex_trylock(m.get(), &it_) ? 0 : -EBUSY; });
 	}
-	void unlock(mutex &m WW_AND_FROM_) noexcept WW_SAFETY_(release_capability(m)) WW_NO_SAFETY_ANALYSIS
+	void unlock(mutex &m WW_AND_FROM_) noexcept WW_SAFETY_(assert_capability(m)) WW_SAFETY_(release_capability(m)) WW_NO_SAFETY_ANALYSIS
 	{
 		ww_mutex_unlock(m.get());
 	}
@@ -441,18 +457,23 @@ public:
 	// then waits first.
 	[[nodiscard]] bool contended() const noexcept { return !error_ && ww_is_contended(&it_); }
 	bool end_try(WW_FROM_) noexcept { return !error_ && ww_acquire_end_try(&it_); }
-	void done(WW_FROM_) noexcept { ww_acquire_done(&it_); }
+	void done(WW_FROM_) noexcept
+	{
+		if (!error_)
+			ww_acquire_done(&it_);
+	}
 	int cancel() noexcept { return ww_acquire_cancel(&it_); }
 	unsigned held() const noexcept { return it_.acquired; }
 	ww_acquire_ctx *get() noexcept { return &it_; }
 
-	// Acquires the mutexes of a list of pointers, in any order, and backs off by itself; the context holds nothing before.
-	// 0, or an error, after which it holds nothing: -EALREADY for a mutex that the list has twice, -EINTR, -EINVAL.
+	// Acquires the mutexes of a list, in any order, and backs off by itself; the context holds nothing before. The list has pointers,
+	// or is an array of mutexes; of shared mutexes it writes all. 0, or an error, after which it holds nothing: -EALREADY for a mutex
+	// that the list has twice, -EINTR, -EINVAL.
 	template <class List> [[nodiscard]] int lock_all(const List &list WW_AND_FROM_)
 	{
 		return acquire([&] {
-			for (mutex *m : list)
-				if (int r = ask(*m WW_AND_THERE_))
+			for (auto &&m : list)
+				if (int r = lock(in(m) WW_AND_THERE_))
 					return r;
 			return 0;
 		});
@@ -474,7 +495,7 @@ public:
 	{
 		return acquire([&] {
 			for (mutex *m = next(true); m; m = next(false)) {
-				const int r = ask(*m WW_AND_THERE_);
+				const int r = lock(*m WW_AND_THERE_);
 
 				if (r && r != -EALREADY)
 					return r;
@@ -517,8 +538,7 @@ template <class Next, class Fn> auto lock_walk(struct ww_class &c, Next &&next, 
 	return context(c, how WW_AND_THERE_).with_walk(std::forward<Next>(next), std::forward<Fn>(fn) WW_AND_THERE_);
 }
 
-// The same by locks(context), which acquires what it likes by calls of that context: see context::lock_by. clang's analysis, which
-// can't follow that, has to leave the callable out: [&](ww::context &x) WW_NO_SAFETY_ANALYSIS { .. }.
+// The same by locks(context), which acquires what it likes by calls of that context: see context::lock_by.
 template <class Locks, class Fn> auto lock_by(struct ww_class &c, Locks &&locks, Fn &&fn, limits how = {} WW_AND_FROM_)
 {
 	context x(c, how WW_AND_THERE_);

@@ -55,7 +55,7 @@ static void tries(account &a)
 #endif
 }
 
-// The analysis follows a lock call that answers 0 at success.
+// The analysis takes a lock call for a success, and warns of no way in which the context releases: at its end, too.
 static int by_context(struct ww_class &c, account &a)
 {
 	context x(c);
@@ -64,7 +64,36 @@ static int by_context(struct ww_class &c, account &a)
 		return r;
 	a.add(2);
 	x.unlock(a.lock);
-	return 0;
+	if (!x.try_lock(a.lock))
+		return -EBUSY;
+	a.add(-1);
+	x.unlock_all();
+	const int r = x.lock_by([&] { return x.lock(a.lock); });
+	if (!r)
+		a.add(1);
+	return r;
+}
+
+// It sees through no loop: assert_held says what is held behind one.
+static long by_a_loop(struct ww_class &c, account &a, account &b)
+{
+	context x(c);
+
+	for (;;) {
+		int r = x.lock(a.lock);
+
+		if (!r)
+			r = x.lock(b.lock);
+		if (!r)
+			break;
+		MUST(r == -EDEADLK);
+		x.back_off();
+	}
+	a.lock.assert_held();
+	b.lock.assert_held();
+	b.add(1);
+	x.unlock(a.lock);
+	return b.sum;
 }
 
 // The loop of ww_mutex.h in a template, of which no compiler warns.
@@ -95,9 +124,14 @@ static void lists(struct ww_class &c)
 		return std::make_unique<std::string>("all");
 	});
 	MUST(text && **text == "all" && text->get()->size() == 3 && !x.held());
+	MUST(*ww::lock_all(c, list, [] { return std::make_unique<int>(3); }).operator*() == 3); // of a temporary
+	const auto is_false = ww::lock_all(c, list, [] { return false; }), refused = ww::lock_all(c, twice, [] { return true; });
+	MUST(is_false.has_value() && !*is_false && !is_false.value_or(true) && !refused.has_value() && !refused.value_or(false));
+	MUST(ww::lock_all(c, twice, [] { return std::make_unique<int>(1); }).value_or(nullptr) == nullptr);
+	MUST(ww::lock_all(c, list, [] {}).has_value() && !ww::lock_all(c, twice, [] {}).has_value());
 	MUST(x.lock_all(twice) == -EALREADY && !x.held());
 	MUST(ww::lock_all(c, twice, [] { return 1; }).error() == -EALREADY);
-	MUST(*ww::lock_all(c, twice, [] { return 5; }, WW_IGNORE_DUPLICATES) == 5);
+	MUST(*ww::lock_all(c, twice, [] { return 5; }, WW_IGNORE_DUPLICATES | WW_INTERRUPTIBLE) == 5);
 	MUST(ww::lock_all(c, list, [] {}));
 	MUST(in_a_loop(x.get(), twice) == -EALREADY && x.held() == 1);
 	x.unlock_all();
@@ -279,6 +313,9 @@ static void arrays()
 				list.push_back(&m);
 		MUST(many.size() == 1000 && none.begin() == none.end() && &many[999] + 1 == many.end() && !x.lock_all(list));
 		MUST(many[39].is_locked() && !many[40].is_locked() && !x.lock_shared(shared[9]) && !x.lock_shared(shared[0]));
+		x.unlock_all();
+		const ww::mutex_array few(c, 9);
+		MUST(*x.with_all(few, [&] { return x.held(); }) == 9 && *x.with_all(shared, [&] { return x.held(); }) == 10 && !x.held());
 	}
 	MUST(!ww_class_free(&static_cast<struct ww_class &>(c)));
 }
@@ -412,6 +449,7 @@ static void never_began(context &x, mutex &m, ww::shared_mutex &s) WW_NO_SAFETY_
 	MUST(x.lock(s) == -ETIMEDOUT && x.lock_shared(s) == -ETIMEDOUT && !x.try_lock(s) && !x.try_lock_shared(s));
 	x.back_off();
 	x.unlock_all();
+	x.done();
 	MUST(!x.held() && x.cancel() == -EINVAL);
 }
 
@@ -462,12 +500,12 @@ static void ends() WW_NO_SAFETY_ANALYSIS
 static void by_callables(mutex_class &c)
 {
 	account a(c), b(c);
-	const auto both = [&](context &x) WW_NO_SAFETY_ANALYSIS {
+	const auto both = [&](context &x) {
 		if (const int r = x.lock(a.lock))
 			return r;
 		return a.sum ? 1 : x.lock(b.lock);
 	};
-	const auto twice = [&](context &x) WW_NO_SAFETY_ANALYSIS {
+	const auto twice = [&](context &x) {
 		const int r = x.lock(b.lock);
 
 		return r ? r : x.lock(b.lock);
@@ -571,6 +609,8 @@ int main()
 		{
 			account a(own);
 			MUST(one_by_one(a) == 1 && !by_context(own, a) && one_by_one(a) == 4);
+			account b(own);
+			MUST(by_a_loop(own, a, b) == 1 && !a.lock.is_locked() && !b.lock.is_locked());
 			tries(a);
 			MUST(one_by_one(a) == 4);
 			std::lock_guard<mutex> held(a.lock);
