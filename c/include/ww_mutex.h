@@ -211,9 +211,9 @@ bool ww_is_contended(const struct ww_acquire_ctx *ctx);
 static inline void ww_acquire_begin_tries(struct ww_acquire_ctx *ctx);
 static inline bool ww_acquire_end_try(struct ww_acquire_ctx *ctx);
 /*
- * Releases everything that the context holds, and ends what it reads: in a loop and behind it the newest first.  A context without
- * a loop is looked for at each number of the class, so it releases what it knows by ww_mutex_unlock.  The program ends with a
- * message while the context waits by a poll.
+ * Releases everything that the context holds, the newest first, and ends what it reads.  The program ends with a message while the
+ * context waits by a poll; and if the context acquired something without a loop or list that it doesn't know any more: by number, or
+ * before it released another mutex by ww_mutex_unlock.
  */
 void ww_acquire_unlock_all(struct ww_acquire_ctx *ctx);
 /*

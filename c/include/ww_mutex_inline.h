@@ -158,6 +158,8 @@ WW_INLINE_ void ww_mutex_unlock(struct ww_mutex *lock)
 	r = ww_first_of_unlock_(ctx->gives, number);
 	if (__builtin_expect(r != 0, 0))
 		ww_mutex_unlock_further_(lock, ctx, r);
+	else
+		ctx->newest = NULL; /* no loop: so no list names a mutex that isn't held */
 }
 
 WW_INLINE_ bool ww_is_contended(const struct ww_acquire_ctx *ctx)

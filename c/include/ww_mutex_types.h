@@ -50,7 +50,7 @@ struct ww_acquire_ctx {
 	unsigned int acquired;		/* how many mutexes it holds */
 	unsigned int state;		/* with its flags */
 	struct ww_mutex *contending_lock; /* at which the last -EDEADLK came */
-	struct ww_mutex *newest;	/* what it acquired last, if that is listed; otherwise any mutex, or NULL */
+	struct ww_mutex *newest;	/* what it acquired last; without a loop since its last unlock, and not by number */
 	__extension__ union {		/* `state` says which one it is, or none: */
 		struct ww_mutex *prelocked; /* IS_PRELOCKED: acquired before the body of a loop asked for it */
 		struct ww_mutex *polled; /* IS_POLLED: for which a call of ww_poll.h waits */

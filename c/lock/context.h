@@ -55,8 +55,8 @@ enum {
  *	LOOP_TOLD	S	NO_POOL		empty_	HAS_TO_BACK_OFF		a back-off; it may owe `prelocked`, too
  *
  * The last four are those of a loop, of which loop.c has all that comes next; there what the context acquired is
- * listed.  In and behind a list of locks (list.c) a context is as in a loop.  Only BY_HAND nothing says what the context
- * holds, since its unlocks are quick.  IN_POLL comes over each of the others but LOOP_OWES, to which it then returns.  Flags,
+ * listed.  In and behind a list of locks (list.c) a context is as in a loop.  BY_HAND the list has what the
+ * context acquired since its last unlock, which is quick.  IN_POLL comes over each of the others but LOOP_OWES, to which it then returns.  Flags,
  * IS_DONE, IS_TOLD and WAS_TOLD may come in each phase.
  */
 enum phase { HAS_ENDED, IN_POLL, BY_HAND, LOOP_EASE, LOOP_OWES, LOOP_FIRST, LOOP_TOLD };

@@ -111,10 +111,14 @@ COLD int ww_release_on(ww_seat *s, int r)
 	return is_orphaned_by_fork(s, r) ? 0 : r;
 }
 
-/* In a loop a mutex that isn't in the context's list is a copy of one. */
+/* In a loop a mutex that isn't in the context's list is a copy of one.  By hand an unlock cuts the list, as ww_mutex_unlock does. */
 int ww_unlock_of(struct ww_mutex *m, struct ww_acquire_ctx *x)
 {
-	return is_loop(x) && !unlist(x, m) ? -EINVAL : unlock_unlisted(m, x);
+	if (!is_loop(x))
+		x->newest = NULL;
+	else if (!unlist(x, m))
+		return -EINVAL;
+	return unlock_unlisted(m, x);
 }
 
 /* ---- who has a lock ---- */

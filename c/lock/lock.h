@@ -26,17 +26,18 @@ static inline bool unlist(struct ww_acquire_ctx *x, const struct ww_mutex *m)
 
 /*
  * Makes this context the mutex's holder, or the seat, if there is no context.  Outside loops a mutex by number doesn't
- * say its context, which may move; a context that holds any other mutex stays where it is.
+ * say its context, which may move, and no list has it; a context that holds any other mutex stays where it is.
  */
 static inline void note_holder(struct ww_mutex *m, struct ww_acquire_ctx *x, ww_seat *s)
 {
 	__tsan_acquire(m);
 	NOTE(LOCK_ACQUIRED, .mutex = m, .context = x, .seat = s);
 	if (x) {
-		enlist(x, m);
 		x->acquired++;
-		if (is_loop(x) || !is_of_number(m))
+		if (is_loop(x) || !is_of_number(m)) {
+			enlist(x, m);
 			__atomic_store_n(&m->ctx, x, __ATOMIC_RELAXED);
+		}
 	} else {
 		/* a copy of the mutex, unlocked in its place, may have left this */
 		__atomic_store_n(&m->ctx, NULL, __ATOMIC_RELAXED);

@@ -100,15 +100,16 @@ static inline void release_newest_first(struct ww_acquire_ctx *x)
 }
 
 /*
- * What the context holds by hand it doesn't know: unlocks are quick there, and take nothing out of a list.  What it owes or waits for
- * first is told to no poll.
+ * By hand a list has what was acquired since the last unlock of one mutex, which is quick and cuts the list, and nothing that was
+ * acquired by number.  What is left ends the program; but the context's own slot, by which it reads, is always known.
  */
 COLD static void unlocks_no_more(struct ww_acquire_ctx *x)
 {
-	if (is_polled(x))
-		end_of(x->own->pool->class_, "ww_acquire_unlock_all", WAITS_BY_POLL);
-	if (!is_loop(x) && x->acquired)
-		end_of(x->own->pool->class_, "ww_acquire_unlock_all", "the context holds what it locked by itself, without a loop");
+	if (x->acquired && !is_polled(x) && holds_slot(x))
+		(void)ww_unlock_of(&x->own->slot->mutex, x);
+	if (is_polled(x) || x->acquired)
+		end_of(x->own->pool->class_, "ww_acquire_unlock_all", is_polled(x) ? WAITS_BY_POLL :
+		       "outside a loop the context acquired a mutex by number, or before it released another one");
 	if (x->state & (WAITS_FIRST | IS_PRELOCKED)) {
 		ww_become(x, WAITS_FIRST | IS_PRELOCKED, 0);
 		NOTE(WAIT_TAKEN_BACK, .context = x);
@@ -121,12 +122,10 @@ COLD static void unlocks_no_more(struct ww_acquire_ctx *x)
  */
 void ww_acquire_unlock_all(struct ww_acquire_ctx *x)
 {
-	if (LIKELY(is_loop(x))) {
-		release_newest_first(x);
-		if (LIKELY(!(x->state & (WAITS_FIRST | IS_PRELOCKED | IS_POLLED))))
-			return;
-	}
-	if (x->own)
+	if (UNLIKELY(!x->own))
+		return;
+	release_newest_first(x);
+	if (UNLIKELY(x->acquired || x->state & (WAITS_FIRST | IS_PRELOCKED | IS_POLLED)))
 		unlocks_no_more(x);
 }
 

@@ -437,10 +437,12 @@ void ww_mutex_unlock_else_(struct ww_mutex *m) { end_unless_unlocked(m, unlock_a
 /* In a loop the first step did nothing, so the mutex is still held. */
 void ww_mutex_unlock_further_(struct ww_mutex *m, struct ww_acquire_ctx *x, int r)
 {
-	if (LIKELY(is_loop(x)))
+	if (LIKELY(is_loop(x))) {
 		r = unlist(x, m) ? unlock_by(m, x->own) : -EINVAL;
-	else
+	} else {
+		x->newest = NULL;
 		r = ww_release_on(x->own, r);
+	}
 	end_unless_unlocked(m, r);
 }
 
