@@ -10,12 +10,14 @@
  *	?	the next lock is tried; t: until a time; i: it, or (, is interruptible; where it has none, all up to its unlock is left out
  *	n	the next lock is without a context; !: it has to fail; .: it must not
  *	y	the next lock or ( is by polls: it sleeps until its waker is called; z: it polls once more without need, zz: twice; x: it ends
- *		the wait, and where it has none, all up to the unlock or ) is left out; l: whenever it is called it polls late, once
- *		all other threads wait; u: it polls again once 6 has happened, and not before; h: whoever is called goes on with it
+ *		the wait, and where it has none, all up to the unlock or ) is left out; j: as x, but by the call that keeps nothing;
+ *		l: whenever it is called it polls late, once all other threads wait; u: it polls again once 6 has happened, and not
+ *		before; h: whoever is called goes on with it
  *	o	the next ( by polls is as if it were within another context, so it gets any that is free
  *	H	waits for that, and goes on with the context, which ends there, and is gone: where there is none, all up to ) is left out
  *	Lab;	locks these in a loop	U	unlocks all of it	&ab;	locks these as a list
  *	Kab;	as L, but once told to back off it unlocks what it holds one by one, and locks that one before it begins anew
+ *	Qab;	as L, but in each pass it goes back to its first lock, by a mark, and then asks for all of them again
  *	-	under m: one user less	D	whoever was the last one destroys m, and its memory goes
  *	d	destroys m where nobody has it or waits for it, and makes it anew
  *	C	cancels the class: ends i( and what is i, by a poll too
@@ -357,12 +359,22 @@ static void take_back(struct user *u, int k, struct polled *it)
 		it->due = NOT_AT_ALL;
 }
 
+/* Whatever came meanwhile is given away. */
+static int end_wait(struct user *u, int k)
+{
+	if (k < 0)
+		ww_seek_end(u->seek);
+	else
+		MUST(!ww_acquire_end_wait(u->x));
+	return -ETIMEDOUT;
+}
+
 /* As the words say; -ETIMEDOUT where it ended the wait. */
 static int poll_as(struct user *u, int k, const char *how)
 {
 	const char *more = strchr(how, 'z');
 	size_t again = more ? strspn(more, "z") : 0;
-	bool ends = strchr(how, 'x'), late = strchr(how, 'l'), never = strchr(how, 'u');
+	bool ends = strpbrk(how, "xj"), late = strchr(how, 'l'), never = strchr(how, 'u');
 
 	for (;;) {
 		struct polled *it = &polled[il_me()][polls[il_me()]++];
@@ -382,7 +394,7 @@ static int poll_as(struct user *u, int k, const char *how)
 		if (again || ends || never)
 			take_back(u, k, it);
 		if (ends)
-			return poll_once(u, k, NULL);
+			return strchr(how, 'j') ? end_wait(u, k) : poll_once(u, k, NULL);
 		if (!again && !never)
 			il_await(&it->calls);
 		if (late)
@@ -451,7 +463,7 @@ static int begin(struct user *u, char how, const char *words)
 {
 	int r = 0;
 
-	if (strpbrk(words, "luxyz"))
+	if (strpbrk(words, "luxyzj"))
 		r = by_polls(u, -1, words);
 	else if (strchr(words, 'i'))
 		r = begin_heeding(u->x);
@@ -540,7 +552,7 @@ static int lock(struct user *u, char letter, const char *how)
 	const struct timespec *until = ends ? &soon : NULL;
 	int r;
 
-	if (strpbrk(how, "lxyz"))
+	if (strpbrk(how, "lxyzj"))
 		r = by_polls(u, (int)k, how);
 	else if (strchr(how, 'h'))
 		r = by_another(u, k);
@@ -560,7 +572,7 @@ static int lock(struct user *u, char letter, const char *how)
 		back_off(u, k);
 		return 0;
 	}
-	MUST(!r || tries || (r == -ETIMEDOUT && (ends || strchr(how, 'x'))) || (r == -EINTR && strchr(how, 'i')) ||
+	MUST(!r || tries || (r == -ETIMEDOUT && (ends || strpbrk(how, "xj"))) || (r == -EINTR && strchr(how, 'i')) ||
 	     (r == -EINPROGRESS && strchr(how, 'h')));
 	if (r == -EINTR)
 		ADD(met, 1);
@@ -606,20 +618,29 @@ static void back_off_by_hand(struct user *u, const char *at, unsigned contended)
 	ww_acquire_unlock_all(u->x);
 }
 
-static const char *loop(struct user *u, const char *at, bool by_hand)
+static const char *loop(struct user *u, const char *at, char way)
 {
 	ww_until_all_locked(u->x) {
+		bool goes_back = way == 'Q';
+
 		for (const char *k = at; *k != ';'; k++) {
 			int r = lock_plainly(u, index_of(*k));
 
-			MUST(!r || r == -EDEADLK);
-			if (r)
+			MUST(!r || r == -EDEADLK || (r == -EALREADY && way == 'Q'));
+			if (r == -EDEADLK)
 				is_refused(u, at);
-			if (r && by_hand) {
+			if (r && way == 'K') {
 				back_off_by_hand(u, at, index_of(*k));
 				k = at - 1;
 			}
 			ww_retry_on_contention(u->x);
+			if (goes_back && k[1] == ';') {
+				MUST(ww_acquire_mark(u->x) == (size_t)(k + 1 - at));
+				ww_acquire_unlock_to(u->x, 1);
+				MUST(ww_acquire_mark(u->x) == 1);
+				goes_back = false;
+				k = at - 1;
+			}
 		}
 	}
 	for (; *at != ';'; at++)
@@ -788,7 +809,7 @@ void il_thread(const char *at)
 
 	for (; *at; at++) {
 		il_position((size_t)(at - text));
-		if (strchr("?tin!.luxyzho", *at)) {
+		if (strchr("?tin!.luxyzjho", *at)) {
 			strncat(how, at, 1);
 			continue;
 		}
@@ -800,8 +821,8 @@ void il_thread(const char *at)
 			at = goes_on(&u) ? at : past(at, ')');
 		else if (strchr("ABM", *at))
 			unlock(&u, index_of(*at));
-		else if (*at == 'L' || *at == 'K')
-			at = loop(&u, at + 1, *at == 'K');
+		else if (strchr("LKQ", *at))
+			at = loop(&u, at + 1, *at);
 		else if (*at == '&')
 			at = list(&u, at + 1);
 		else if (*at == '~')
@@ -829,6 +850,7 @@ const struct il_program il_programs[] = {
 	{ "slow", { "(abAB)", "(baBA)" }, CONTEXTS(4), WHOLE },
 	{ "slow-die", { "(abAB)", "(baBA)" }, CONTEXTS(4) | WAIT_DIE, WHOLE },
 	{ "loop", { "(Lab;U)", "(Lba;U)" }, CONTEXTS(4), WHOLE },
+	{ "loop-goes-back", { "(Qab;U)", "(Lba;U)", "nbB" }, CONTEXTS(4), 1 },
 	{ "loop-by-hand", { "(Kab;U)", "(Lba;U)" }, CONTEXTS(4), WHOLE },
 	{ "loop-by-hand-die", { "(Kab;U)", "(Lba;U)" }, CONTEXTS(4) | WAIT_DIE, WHOLE },
 	{ "loop-out-of-turn", { "(Lab;AB)", "?nbB" }, CONTEXTS(4), WHOLE_INSIDE },
@@ -969,6 +991,7 @@ const struct il_program il_programs[] = {
 	{ "static-list", { "(&am;AM)", "(mM)" }, CONTEXTS(4) | STATIC, WHOLE },
 	{ "poll", { "(yaA)", "(aA)" }, CONTEXTS(4), WHOLE },
 	{ "poll-poll", { "(yaA)", "(yaA)" }, CONTEXTS(4), WHOLE },
+	{ "poll-gives-up", { "(mM)", "(jmM)(mM)" }, CONTEXTS(4), WHOLE },
 	{ "poll-again", { "(zaA)", "(aA)" }, CONTEXTS(4), WHOLE },
 	{ "poll-again-twice", { "na1~2A", "~1(2zzaA)" }, CONTEXTS(4), WHOLE },
 	{ "poll-ends", { "(xaA)", "(aA)" }, CONTEXTS(4), WHOLE },
@@ -992,6 +1015,7 @@ const struct il_program il_programs[] = {
 	{ "poll-contexts", { "y()", "()" }, CONTEXTS(1), WHOLE },
 	{ "poll-contexts-again", { "z()", "()()" }, CONTEXTS(1), WHOLE },
 	{ "poll-contexts-end", { "x()", "()", "y()" }, CONTEXTS(1), 2 },
+	{ "poll-contexts-gives-up", { "()", "j()()" }, CONTEXTS(1), WHOLE },
 	{ "poll-contexts-3", { "y()", "z()", "()" }, CONTEXTS(1), 2 },
 	{ "poll-contexts-2-of-3", { "y()()", "y()", "()" }, CONTEXTS(2), 2 },
 	{ "poll-contexts-own", { "y()", "()()" }, CONTEXTS(1) | OWN, WHOLE },
