@@ -51,39 +51,39 @@ sources: $(call asked,$(SOURCES))
 list:
 	@printf '%s\n' $(QUICK) $(call asked,$(SOURCES)) $(if $(filter yes,$(PROOFS)),$(PROVED)) made_library made_program $(OF_C) $(OF_PROGRAM)
 
-edits:                          ; $(call check,5) checks/check_edits $(BASE)
-$(filter-out edits,$(QUICK)):   ; $(call check,5) checks/check_$@
+edits:                          ; $(call check,20) checks/check_edits $(BASE)
+$(filter-out edits,$(QUICK)):   ; $(call check,20) checks/check_$@
 
-format scene: | quick           ; $(call check,10) checks/check_$@
-refuse_abuses: | quick          ; $(call check,20) checks/$@
-try_cases try_using: | quick    ; $(call check,20) checks/$@
+format scene: | quick           ; $(call check,60) checks/check_$@
+refuse_abuses: | quick          ; $(call check,60) checks/$@
+try_cases try_using: | quick    ; $(call check,60) checks/$@
 
 prove: | quick                  ; $(call check,170) checks/prove $(WHOLE)
-generated_ww_c: | prove         ; $(call check,30) bash -c 'checks/link_proved ww_c out/gate/proving && checks/check_generated ww_c crates/ww_c/out/generated'
-generated_ww_run: | prove       ; $(call check,30) bash -c 'checks/link_proved ww_run out/gate/proving && checks/check_generated ww_run crates/ww_run/out/generated'
-by_rattle: | prove              ; $(call check,10) bash -c 'for it in crates/ww_run/out/ww_run{,.by-rattle}; do [ ! -e $$it ] || checks/check_program $$it || exit 1; done'
-growths_of_tests: | prove       ; $(call check,20) checks/refuse_library_growths
-passes: | prove                 ; $(call check,10) checks/check_instructions --passes
+generated_ww_c: | prove         ; $(call check,60) bash -c 'checks/link_proved ww_c out/gate/proving && checks/check_generated ww_c crates/ww_c/out/generated'
+generated_ww_run: | prove       ; $(call check,60) bash -c 'checks/link_proved ww_run out/gate/proving && checks/check_generated ww_run crates/ww_run/out/generated'
+by_rattle: | prove              ; $(call check,30) bash -c 'for it in crates/ww_run/out/ww_run{,.by-rattle}; do [ ! -e $$it ] || checks/check_program $$it || exit 1; done'
+growths_of_tests: | prove       ; $(call check,60) checks/refuse_library_growths
+passes: | prove                 ; $(call check,30) checks/check_instructions --passes
 
-made_library: | quick           ; $(call made,10) bash -c '$(MAKE) -s -C c OUT=out/gate all && mkdir -p $(dir $(ARCHIVE)) && ar rcsD $(ARCHIVE) $(OF_MAKE)/core.o'
+made_library: | quick           ; $(call made,30) bash -c '$(MAKE) -s -C c OUT=out/gate all && mkdir -p $(dir $(ARCHIVE)) && ar rcsD $(ARCHIVE) $(OF_MAKE)/core.o'
 c_tests: | made_library         ; $(call made,60) $(MAKE) -s -k -C c OUT=out/gate check
 c_threads: | made_library       ; $(call made,60) $(MAKE) -s -k -C c OUT=out/gate check-thread
-c_compilers c_pages: | quick    ; $(call check,30) checks/check_$@
-c_installed: | made_library     ; $(call check,20) checks/check_$@
+c_compilers c_pages: | quick    ; $(call check,60) checks/check_$@
+c_installed: | made_library     ; $(call check,60) checks/check_$@
 $(KILLS:%=kills_%): kills_%: | quick ; $(call check,90) c/tests/search/kills -p $*/$(words $(KILLS)) $(if $(WHOLE),,$(BASE:%=--changed %))
-simulated: | quick              ; $(call check,30) checks/check_simulated
-kernel: | made_library          ; $(call check,30) checks/check_kernel $(ARCHIVE)
-instructions: | made_library    ; $(call check,30) checks/check_instructions $(ARCHIVE)
+simulated: | quick              ; $(call check,60) checks/check_simulated
+kernel: | made_library          ; $(call check,60) checks/check_kernel $(ARCHIVE)
+instructions: | made_library    ; $(call check,60) checks/check_instructions $(ARCHIVE)
 rust: | made_library            ; $(call check,60) checks/check_rust $(ARCHIVE)
 aarch64: | quick                ; $(call check,60) checks/check_aarch64 $(WHOLE:%=--both)
-dist: | quick                   ; $(call check,30) checks/check_dist $(WHOLE:%=--twice)
-make: | quick                   ; $(call check,30) checks/check_make
-wp_text: | quick                ; $(call check,5) checks/check_wp --text
-wp_faults: | quick              ; $(call check,30) checks/check_wp --self-test
-$(WP:%=wp_%): wp_%: | quick     ; $(call check,60) $(if $(WHOLE),env CHECK_WP_CACHE=) checks/check_wp $*
+dist: | quick                   ; $(call check,60) checks/check_dist $(WHOLE:%=--twice)
+make: | quick                   ; $(call check,60) checks/check_make
+wp_text: | quick                ; $(call check,20) checks/check_wp --text
+wp_faults: | quick              ; $(call check,60) checks/check_wp --self-test
+$(WP:%=wp_%): wp_%: | quick     ; $(call check,60) $(if $(WHOLE),env CHECK_WP_CACHE=) checks/check_wp -j 1 $*
 
-made_program: | quick           ; $(call made,10) $(MAKE) -s $(PROGRAM)
+made_program: | quick           ; $(call made,30) $(MAKE) -s $(PROGRAM)
 soak refuse_growths large parks program_fails tools run: | made_program
-soak large parks tools run:     ; $(call check,30) checks/check_$@ $(PROGRAM)
-refuse_growths:                 ; $(call check,30) checks/$@ $(PROGRAM)
-program_fails:                  ; $(call check,10) checks/check_program $(PROGRAM)
+soak large parks tools run:     ; $(call check,60) checks/check_$@ $(PROGRAM)
+refuse_growths:                 ; $(call check,60) checks/$@ $(PROGRAM)
+program_fails:                  ; $(call check,30) checks/check_program $(PROGRAM)

@@ -299,9 +299,13 @@ check-interleave: $(if $(SEARCHES),$(call searches,interleave interleave_shared)
 check-interleave-debug: BOUND = -b 1
 check-interleave-debug: STRAY = 2>/dev/null
 check-interleave-debug: $(if $(SEARCHES),$(call searches,interleave_debug))
+# Whether some program of the search runs each function that is public or has an atomic access.
+check: check-reached
+check-reached: $(if $(SEARCHES),$(SEARCH)/interleave $(SEARCH)/interleave_shared)
+	$(if $(SEARCHES),$(or $(call without,gdb,which functions the search reaches),$(call told,$(LIMITED) python3 tests/search/reached $^)))
 # As a failure says: make -C c replay-interleave_shared IT='-f FLAGS -s SCHEDULE PROGRAM'
 replay-%: $(SEARCH)/%
 	$< $(IT)
 
-.PHONY: check check-interleave check-interleave-debug check-mutants check-objects check-picture check-plain check-python \
+.PHONY: check check-interleave check-interleave-debug check-mutants check-objects check-picture check-plain check-python check-reached \
 	check-tables check-thread list-plain one soon tests $(RUNS) $(call runs,$(IN_PYTHON)) $(ALL_SEARCHES)

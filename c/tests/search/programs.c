@@ -24,7 +24,7 @@
  *	c	cancels; k: or that has ended, or hasn't begun	1-9	something has happened	~1	waits for that, which orders	_1	which doesn't	=1	it has
  *	s w	waits until somebody waits for a context or a permit, unless 4 has happened; until somebody waits for m
  *	e E	the lease of the thread's permit is over; at the next look the crowd is of no use
- *	W N	at the next look at the limiter tasks may claim two seats; one		K	tasks that were called haven't come for a lease
+ *	W N	at the next look at the limiter tasks may claim two seats; one		V	tasks that were called haven't come for a lease
  *	F	frees the class, asking until it is free	v	looks at its counts
  *	T G	takes a number, if one is free (.: one is); puts back that taken last
  *	q	asks whether anybody has the number of m
@@ -788,7 +788,7 @@ static void act(struct user *u, char what, const char *how)
 	case 'E': end_crowd(); break;
 	case 'W': widen(2); break;
 	case 'N': widen(1); break;
-	case 'K': end_calls(); break;
+	case 'V': end_calls(); break;
 	case 'F': free_class(); break;
 	case 'v': ww_class_stats(&c, &counts); MUST(counts.context_waits <= 8); break;
 	case 'T': take_number(u, strchr(how, '.')); break;
@@ -1035,7 +1035,7 @@ const struct il_program il_programs[] = {
 	{ "tasks-late-end", { "y(1~2~3)", "~1l()2", "~1x()3", "~1l()" }, TASKS, 1 },
 	{ "tasks-late-due", { "y(~1)y(~4)", "y(~2)y(4~3)", "l()", "12y(3)" }, TASKS, 1 },
 	{ "tasks-unanswered", { "y(>y(1s<)^)", "~1u(4)", "~1sy(6)" }, TASKS, 2 },
-	{ "tasks-passed-on", { "y(1s)y(K)", "~1u(4)", "~1sy(6)" }, TASKS | NARROW, 2 },
+	{ "tasks-passed-on", { "y(1s)y(V)", "~1u(4)", "~1sy(6)" }, TASKS | NARROW, 2 },
 	{ "tasks-one-ends", { "y(1~2~3~4)", "~1y()2", "~1x()3", "~1z()4" }, TASKS, 1 },
 	{ "tasks-narrow", { "y()y()", "z()", "y()" }, TASKS | NARROW, 2 },
 	{ "tasks-narrow-4", { "y()", "x()", "l()", "y()" }, TASKS | NARROW, 1 },
