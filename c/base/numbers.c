@@ -49,7 +49,8 @@ bool ww_open_numbers(struct ww_numbers *n, uint32_t mutexes)
 	__atomic_store_n(&n->is_large, false, __ATOMIC_RELAXED);
 	n->used = calloc(2 * (n->locks / 64 + 1), sizeof *n->used);
 	n->left = n->used ? n->used + n->locks / 64 + 1 : NULL;
-	n->lies_at = calloc(n->locks, sizeof *n->lies_at);
+	n->lies_at = calloc(n->locks, sizeof *n->lies_at + sizeof *n->puts);
+	n->puts = n->lies_at ? (uint32_t *)(n->lies_at + n->locks) : NULL;
 	return n->used && n->lies_at;
 }
 
@@ -95,46 +96,77 @@ static bool find_number(struct ww_numbers *n, const struct ww_mutex *m, uint32_t
 	return before < n->mutexes;
 }
 
+static uint64_t bit_of(uint32_t number) { return (uint64_t)1 << number % 64; }
+
 void ww_leave_used(struct ww_numbers *n, uint32_t number, ww_is_used *is_used)
 {
 	__atomic_store_n(&n->is_used, is_used, __ATOMIC_RELAXED);
-	__atomic_fetch_or(&n->left[number / 64], (uint64_t)1 << number % 64, __ATOMIC_RELEASE);
+	__atomic_fetch_add(&n->leaves, 1, __ATOMIC_RELEASE);
+	__atomic_fetch_or(&n->left[number / 64], bit_of(number), __ATOMIC_RELEASE);
 }
 
-/* What it takes out of a word of `left` no other thread has. */
-void ww_reclaim_numbers(struct ww_numbers *n)
+/* The numbers are locked. */
+static void give(struct ww_numbers *n, uint32_t number)
 {
-	ww_is_used *is_used = __atomic_load_n(&n->is_used, __ATOMIC_RELAXED);
-
-	for (uint32_t k = 0; is_used && k < n->locks; k += 64)
-		for (uint64_t bits = __atomic_exchange_n(&n->left[k / 64], 0, __ATOMIC_ACQUIRE); bits; bits &= bits - 1) {
-			uint32_t number = k + (uint32_t)__builtin_ctzll(bits);
-
-			if (is_used(n, number, mutex_with(n, number)))
-				ww_leave_used(n, number, is_used);
-			else
-				ww_give_number(n, number);
-		}
-}
-
-/* The debug library's messages say the lowest numbers. */
-int ww_take_number(struct ww_numbers *n, const struct ww_mutex *m, uint32_t *number)
-{
-#ifdef WW_DEBUG
-	m = NULL;
-#endif
-	if (find_number(n, m, number))
-		return 0;
-	ww_reclaim_numbers(n);
-	return find_number(n, m, number) ? 0 : -ENOSPC;
+	n->used[number / 64] &= ~bit_of(number);
+	if (number / IN_A_LINE < n->low)
+		n->low = number / IN_A_LINE;
+	__atomic_fetch_sub(&n->taken, 1, __ATOMIC_RELEASE);
 }
 
 void ww_give_number(struct ww_numbers *n, uint32_t number)
 {
 	pthread_mutex_lock(&n->lock);
-	n->used[number / 64] &= ~((uint64_t)1 << number % 64);
-	if (number / IN_A_LINE < n->low)
-		n->low = number / IN_A_LINE;
-	__atomic_fetch_sub(&n->taken, 1, __ATOMIC_RELEASE);
+	give(n, number);
 	pthread_mutex_unlock(&n->lock);
+}
+
+/*
+ * Nobody uses the number, which was left, so it is given, unless another thread has given it.  False if one has been left since there
+ * were so many: it may be this one, which somebody took meanwhile.
+ */
+static bool give_left(struct ww_numbers *n, uint32_t number, uint64_t leaves)
+{
+	bool is_same;
+
+	pthread_mutex_lock(&n->lock);
+	is_same = __atomic_load_n(&n->leaves, __ATOMIC_ACQUIRE) == leaves;
+	if (is_same && __atomic_fetch_and(&n->left[number / 64], ~bit_of(number), __ATOMIC_RELAXED) & bit_of(number))
+		give(n, number);
+	pthread_mutex_unlock(&n->lock);
+	return is_same;
+}
+
+/* A number stays among those that are left while it is looked at, so several threads may look, and each finds all. */
+void ww_reclaim_numbers(struct ww_numbers *n)
+{
+	ww_is_used *is_used = __atomic_load_n(&n->is_used, __ATOMIC_RELAXED);
+	uint64_t leaves;
+
+	for (uint32_t k = 0; is_used && k < n->locks; k += 64)
+		for (uint64_t bits = __atomic_load_n(&n->left[k / 64], __ATOMIC_ACQUIRE); bits; bits &= bits - 1) {
+			uint32_t number = k + (uint32_t)__builtin_ctzll(bits);
+
+			do
+				leaves = __atomic_load_n(&n->leaves, __ATOMIC_ACQUIRE);
+			while (!is_used(n, number, mutex_with(n, number)) && !give_left(n, number, leaves));
+		}
+}
+
+/* All are taken if it finds none though it has looked at those that were left, and no other has been left since. */
+int ww_take_number(struct ww_numbers *n, const struct ww_mutex *m, uint32_t *number)
+{
+	uint64_t leaves = UINT64_MAX, by_now;
+
+#ifdef WW_DEBUG
+	m = NULL; /* the debug library's messages say the lowest numbers */
+#endif
+	while (!find_number(n, m, number)) {
+		by_now = __atomic_load_n(&n->leaves, __ATOMIC_ACQUIRE);
+		if (by_now == leaves)
+			return -ENOSPC;
+		leaves = by_now;
+		ww_reclaim_numbers(n);
+	}
+	return 0;
 }

@@ -91,6 +91,58 @@ static void fresh_by_threads(void)
 	memset(own, 0, sizeof own);
 }
 
+/* ---- numbers that are left: while one thread looks whether somebody uses them, others do this ---- */
+
+static uint32_t two[2], taken_meanwhile;
+static unsigned looks;
+static bool is_still_used;
+
+/* Takes the number, which is free. */
+static bool one_takes(struct ww_numbers *n, uint32_t number, const void *m)
+{
+	(void)m;
+	MUST(looks++ || (!ww_take_number(n, NULL, &taken_meanwhile) && taken_meanwhile == number));
+	return false;
+}
+
+/* And leaves it again, while it is used. */
+static bool one_takes_and_leaves(struct ww_numbers *n, uint32_t number, const void *m)
+{
+	bool was_used = is_still_used;
+
+	if (looks)
+		return was_used;
+	one_takes(n, number, m);
+	is_still_used = true;
+	ww_leave_used(n, number, one_takes_and_leaves);
+	return was_used;
+}
+
+/* Leaves the other one, which nobody uses. */
+static bool one_leaves_another(struct ww_numbers *n, uint32_t number, const void *m)
+{
+	(void)m;
+	if (!looks++)
+		ww_leave_used(n, two[1], one_leaves_another);
+	return number == two[0];
+}
+
+/* Both were taken, and the first is left; then this thread gets the number, or there is none. */
+static void left_then(ww_is_used *is_used, const uint32_t *gets)
+{
+	uint32_t n;
+
+	memset(&bare, 0, sizeof bare);
+	bare.lock = (pthread_mutex_t)PTHREAD_MUTEX_INITIALIZER;
+	MUST(ww_open_numbers(&bare, 2) && !ww_take_number(&bare, NULL, &two[0]) && !ww_take_number(&bare, NULL, &two[1]));
+	MUST(ww_take_number(&bare, NULL, &n) == -ENOSPC);
+	looks = 0;
+	is_still_used = false;
+	ww_leave_used(&bare, two[0], is_used);
+	MUST(ww_take_number(&bare, NULL, &n) == (gets ? 0 : -ENOSPC) && (!gets || n == *gets) && bare.taken == 2);
+	ww_close_numbers(&bare);
+}
+
 static void *takes_and_puts(void *arg)
 {
 	unsigned x = 7 + (unsigned)(size_t)arg;
@@ -450,6 +502,9 @@ int main(int count, char **words)
 		rounds = (unsigned)atoi(words[1]);
 	pthread_barrier_init(&begins, NULL, THREADS + 1);
 	pthread_barrier_init(&ends, NULL, THREADS + 1);
+	left_then(one_takes, NULL);
+	left_then(one_takes_and_leaves, NULL);
+	left_then(one_leaves_another, &two[1]);
 	fresh_by_threads();
 	bare_by_threads(FEW);
 	bare_by_threads(ENOUGH);
