@@ -23,7 +23,9 @@
  *	lies_at		numbers		who makes a mutex, of its number			numbers
  *	is_large	numbers		who takes one, likewise					numbers
  *	taken used low	numbers		who takes or gives one, likewise			numbers-4
- *	left is_used	numbers		who leaves one, or takes it out				number-leave
+ *	left is_used	numbers		who leaves one, or gives it				number-leave
+ *	leaves		numbers		who leaves one						number-leave
+ *	puts		numbers		the one that puts it back				number-stranger
  *	ww_threads	process		who comes to have seats of its own, or ends, under `ww_opening`	own-end-3
  *	ends_waits	pool		who cancels the class					class-cancel
  *	next		pool		who opens and frees a class, under `ww_opening`		free-3

@@ -38,7 +38,7 @@ struct ww_shared_mutex *ww_number_at(uint32_t number, struct ww_class *c)
 	return p ? mutex_at(p, number) : NULL;
 }
 
-/* A thread that knew the number before may still wait for it.  Relaxed: nobody puts the number back before this. */
+/* A thread that knew the number before may still wait for it: it sees with IS_TAKEN that it was put back (wait_first). */
 int ww_number_take(uint32_t *number, struct ww_class *c)
 {
 	struct ww_mutex *m;
@@ -57,7 +57,7 @@ int ww_number_take(uint32_t *number, struct ww_class *c)
 		__atomic_store_n(&m->waiters, IS_OF_NUMBER, __ATOMIC_RELAXED);
 		__atomic_store_n(&m->pool, p, __ATOMIC_RELEASE);
 	}
-	__atomic_fetch_add(&m->waiters, IS_TAKEN, __ATOMIC_RELAXED);
+	__atomic_fetch_add(&m->waiters, IS_TAKEN, __ATOMIC_RELEASE);
 	lies_at(&p->numbers, *number, m);
 	return 0;
 }
@@ -78,6 +78,7 @@ static int put_number(uint32_t number, struct ww_class *c, bool leaves)
 	if (!leaves && taken & IS_TAKEN && (taken != (IS_TAKEN | IS_OF_NUMBER) || ww_has_users(&p->numbers, number, m)))
 		return -EBUSY;
 	if (taken & IS_TAKEN && __atomic_fetch_and(&m->mutex_.waiters, ~IS_TAKEN, __ATOMIC_SEQ_CST) & IS_TAKEN) {
+		count_put(&p->numbers, number);
 		(ww_has_users(&p->numbers, number, m) ? ww_leave_number : ww_give_number)(&p->numbers, number);
 		return 0;
 	}

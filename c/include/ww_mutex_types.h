@@ -56,9 +56,11 @@ struct ww_acquire_ctx {
 		struct ww_mutex *polled; /* IS_POLLED: for which a call of ww_poll.h waits */
 	};
 	unsigned int cancelled;
-	unsigned int deadlock_inject_interval; /* of the debug library */
+	unsigned int puts;		/* how often the number of `contending_lock` had been put back by then */
 	__extension__ union {
-		unsigned int deadlock_inject_countdown; /* likewise */
+		__extension__ struct {
+			unsigned int deadlock_inject_countdown, deadlock_inject_interval; /* of the debug library */
+		};
 		uint64_t span;		/* its upper half: how many bytes the words of its class's mutexes have */
 	};
 	__extension__ union {

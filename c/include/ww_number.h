@@ -16,14 +16,14 @@ extern "C" {
 
 /*
  * Takes a mutex that nobody else has.  Its number may be up to four times as great as the class has mutexes, and up to 67 in
- * any class.  -ENOSPC, -ENOMEM and -EINVAL as ww_mutex_init_checked: the first one allocates memory for all.  -ENOSPC may also
- * come for a moment if all free numbers are of ww_number_leave, while another thread looks which of these are free.
+ * any class.  -ENOSPC, -ENOMEM and -EINVAL as ww_mutex_init_checked: the first one allocates memory for all.
  */
 WW_MUST_CHECK int ww_number_take(uint32_t *number, struct ww_class *ww_class);
 /*
  * Frees a number that was taken.  -EBUSY: somebody holds it or waits for it, or a context that has read it (ww_shared.h) hasn't
  * ended its reads, and nothing has changed; -EINVAL: it isn't taken.
- * Once this returns 0, no other thread accesses the mutex any more; a context that backed off at it doesn't wait for it.
+ * Once this returns 0, no other thread accesses the mutex any more; a context that backed off at it doesn't wait for it, nor for
+ * who takes the number next.
  */
 int ww_number_put(uint32_t number, struct ww_class *ww_class);
 

@@ -57,6 +57,7 @@ static int lock_ends(struct ww_mutex *m, struct ww_acquire_ctx *x, ww_seat *s, i
 		count(&s->back_offs);
 		DTRACE_PROBE2(ww, back_off, m, x);
 		x->contending_lock = m;
+		x->puts = puts_of(&s->pool->numbers, m->number);
 		x->state = (x->state | IS_TOLD) & ~(unsigned)WAS_TOLD;
 	}
 	if (r == -EINTR && !(x && __atomic_exchange_n(&x->cancelled, 0, __ATOMIC_SEQ_CST)) && !ww_ends_waits(s->pool))

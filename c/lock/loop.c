@@ -157,26 +157,42 @@ int ww_result_in_loop(struct ww_mutex *m, struct ww_acquire_ctx *x, int r)
 }
 
 /*
- * Before anything else, waits for the mutex at which the context got -EDEADLK.  If the body of the loop can't ask for it, it is
- * released at once: a reader slot (shared.c), or a mutex whose number was put back meanwhile, and which may be a slot's by now.
+ * Whether the number of the contended mutex was put back since.  Whoever takes it next says so behind that, in `waiters`: so it
+ * isn't another's if it is taken, and has been put back as often as then.
+ */
+static bool is_gone(const struct ww_acquire_ctx *x, const struct ww_mutex *m)
+{
+	return is_of_number(m) && (!(__atomic_load_n(&m->waiters, __ATOMIC_SEQ_CST) & IS_TAKEN) ||
+				   puts_of(&x->own->pool->numbers, m->number) != x->puts);
+}
+
+/*
+ * Before anything else, waits for the mutex at which the context got -EDEADLK, unless its number was put back: it may be a stranger's
+ * by now.  It counts as one that waits before it asks that: so from then on the number is nobody else's until it is through.  If the
+ * body of the loop can't ask for the mutex, it is released at once: a reader slot (shared.c), or one whose number was put back
+ * meanwhile.
  */
 static int wait_first(struct ww_acquire_ctx *x, struct ww_how how)
 {
 	struct ww_mutex *m = x->contending_lock;
-	int r;
+	uint32_t counts = is_of_number(m) && !is_gone(x, m);
+	int r = 0;
 
 	how.visits = is_slot(m);
-	r = ww_lock_by(m, x, &how);
-	if (!r) {
-		bool is_gone = is_of_number(m) && !(__atomic_load_n(&m->waiters, __ATOMIC_SEQ_CST) & IS_TAKEN);
+	__atomic_fetch_add(&m->waiters, counts, __ATOMIC_SEQ_CST);
+	if (is_gone(x, m))
+		ww_become(x, TRIES, 0);
+	else if (!(r = ww_lock_by(m, x, &how))) {
+		bool goes = is_gone(x, m);
 
 		x->prelocked = m;
-		ww_become(x, TRIES, how.visits || is_gone ? 0 : IS_PRELOCKED);
+		ww_become(x, TRIES, how.visits || goes ? 0 : IS_PRELOCKED);
 		if (how.visits)
 			(void)unlock_by(m, x->own);
-		else if (is_gone)
+		else if (goes)
 			(void)ww_unlock_of(m, x);
 	}
+	__atomic_fetch_sub(&m->waiters, counts, __ATOMIC_SEQ_CST);
 	return r;
 }
 

@@ -312,8 +312,9 @@ TABLE = {
     # Of one that is known by its number also that this is taken, which nobody asks for before.
     "waiters": {
         "ww_end_mutex": "load sc", "ww_has_users": "load sc", "ww_shared_mutex_is_locked": "load sc", "count_waiter": "fetch_add sc, fetch_add sc",
-        "lock_by_any": "fetch_add sc, fetch_sub sc", "put_number": "load sc, fetch_and sc", "wait_first": "load sc",
-        "ww_number_take": "store rlx, fetch_add rlx",
+        "lock_by_any": "fetch_add sc, fetch_sub sc", "put_number": "load sc, fetch_and sc", "is_gone": "load sc",
+        "wait_first": "fetch_add sc, fetch_sub sc", # as who waits: see is_gone
+        "ww_number_take": "store rlx, fetch_add rel",
         "is_slot": "load rlx", # which it always is
         "is_of_number": "load rlx", # likewise
         "try_slot": "load rlx", # in a loop
@@ -345,8 +346,12 @@ TABLE = {
     },
     # The proved library's, of which a lock's owner sees at least what it wrote there itself. A reader looks as that library does.
     "owners": {"owner_word": "load sc", "nobody_has": "load sc"},
-    # What its mutex was by then comes before a number that is left; whom to ask of it is always the same.
-    "left": {"ww_leave_used": "fetch_or rel", "ww_reclaim_numbers": "exchange acq"},
+    # What its mutex was by then comes before a number that is left; whom to ask of it is always the same. It is counted before:
+    # who finds it left, and unused, and no more left in all than before that, finds the same use. It is given under the lock.
+    "left": {"ww_leave_used": "fetch_or rel", "ww_reclaim_numbers": "load acq", "give_left": "fetch_and rlx"},
+    "leaves": {"ww_leave_used": "fetch_add rel", "ww_reclaim_numbers": "load acq", "give_left": "load acq", "ww_take_number": "load acq"},
+    # Who sees that another took the number (IS_TAKEN) sees that it had been put back.
+    "puts": {"puts_of": "load rlx", "count_put": "store rlx"},
     "is_used": {"ww_reclaim_numbers": "load rlx", "ww_leave_used": "store rlx"},
     # Where a mutex lies: who holds it comes after that.
     "lies_at": {"lies_at": "store rlx", "mutex_with": "load rlx"},
@@ -393,7 +398,7 @@ TABLE = {
         "look_if_due": "load rlx",
     },
     # Changed under the lock of numbers; whoever frees a class at 0 sees all that those wrote who had one.
-    "taken": {"find_number": "fetch_add rlx", "ww_give_number": "fetch_sub rel", "taken_numbers": "load acq", "make_slot": "fetch_sub rel"},
+    "taken": {"find_number": "fetch_add rlx", "give": "fetch_sub rel", "taken_numbers": "load acq", "make_slot": "fetch_sub rel"},
     # How many wait for a permit, changed under the lock of the queue but by who has entered; whoever frees the class sees who does.
     "waiting": {"wait_for_permit": "fetch_add sc", "stop_waiting": "fetch_sub sc", "waiting_threads": "load sc"},
     # The seat that is handed over, and all that goes with it.
@@ -525,6 +530,7 @@ PLAIN = {
     "p->slots": "slots: free_slots",
     "s->slot": "by: make_slot",
     "x->own": "by: ",
+    "x->puts": "by: lock_ends",
     # By the context's own thread, and of a class before others see it, or in a forked child.
     "x->pool": "by: ww_become begin_core draw_age_by_hand let_be_older no_more of_seat",
     # By the user of a seat, and by its keeper, or whoever frees the class, once nobody uses it: all that goes with `busy`.
@@ -534,6 +540,7 @@ PLAIN = {
     "n->left": "numbers: ww_open_numbers",
     "n->used": "numbers: line_from used_of ww_close_numbers ww_open_numbers",
     "n->lies_at": "by: ww_open_numbers",
+    "n->puts": "by: ww_open_numbers",
 }
 # What a thread has for itself, or its caller locks, under names of fields that others share; and names under which others stand for the same.
 OWN = ["limiter", "permit", "had", "wait", "waker", "front", "f", "ww_mine", "kept", "counts", "s->seat", "s->id", "last"]

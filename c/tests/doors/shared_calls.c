@@ -481,6 +481,33 @@ static void nobody_waits_first_for_what_is_gone(void)
 	end_both();
 }
 
+/* By Wait-Die. Nor for who takes the number next, be it locked by that, or not. */
+static void nobody_waits_first_for_a_stranger(bool is_held)
+{
+	const struct timespec past = { 0, 0 };
+	uint32_t number, again;
+	bool is_second = false;
+
+	MUST(!ww_number_take(&number, c));
+	begin_both();
+	MUST(!ww_number_lock(number, &x));
+	ww_until_all_locked(&y) {
+		MUST(!ww_mutex_lock_until(&plain, &y, &past) && y.acquired == 1);
+		if (is_second)
+			break;
+		is_second = true;
+		MUST(ww_number_lock(number, &y) == -EDEADLK && !ww_number_unlock(number, &x) && !ww_number_put(number, c));
+		while (!ww_number_take(&again, c) && again != number)
+			MUST(!ww_number_put(again, c));
+		MUST(!is_held || !ww_number_lock(number, &x));
+		ww_retry_on_contention(&y);
+	}
+	MUST(is_held ? !ww_number_unlock(number, &x) : ww_number_trylock(number, &x) && !ww_number_unlock(number, &x));
+	MUST(!ww_number_put(number, c));
+	ww_acquire_unlock_all(&y);
+	end_both();
+}
+
 /* ---- whose a read is ---- */
 
 /* One that was never locked has no number yet, and one of another class may have the same. */
@@ -1310,6 +1337,8 @@ static void of(struct ww_class *class)
 		a_loop_goes_on_after_a_reader();
 		a_vain_trylock_takes_no_wait_back();
 		nobody_waits_first_for_what_is_gone();
+		nobody_waits_first_for_a_stranger(true);
+		nobody_waits_first_for_a_stranger(false);
 	}
 	reads_are_listed();
 	a_downgrade_keeps_its_place(false);

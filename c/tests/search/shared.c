@@ -12,7 +12,7 @@
  *	> <	behind a transaction: what it writes it only reads from here on; that has its mutex asked for by a second context first
  *	-	what it reads ends		w	waits until somebody waits for a
  *	d	destroys a, and makes it anew, where nobody has it; D: somebody has, or waits for it
- *	p	destroys a, unless somebody has it or waits for it
+ *	p	destroys a, unless somebody has it or waits for it; q: takes the number again, where it is gone, and has it until 3 has happened
  *	v	in the first try of a loop by a number: writes b, and backs off at a; then 2 has happened
  *	1-9 ~1	something has happened; waits for that, which orders	_1	waits for it, which doesn't
  *	These stand in a transaction, too, where that has what comes before; and what happens, behind > as well, which comes then before
@@ -456,6 +456,23 @@ static const char *transaction(const char *text)
 	return at - 1;
 }
 
+/* Nobody else knows that this is another's by now; or it was left, since somebody came to it, and another one is taken. */
+static void comes_as_a_strangers(void)
+{
+	struct ww_acquire_ctx x;
+	uint32_t number;
+
+	if (!its->is_gone)
+		return;
+	MUST(!ww_number_take(&number, &c));
+	ww_acquire_init(&x, &c);
+	MUST(!ww_number_lock(number, &x));
+	il_await(&happened[3]);
+	MUST(!ww_number_unlock(number, &x));
+	ww_acquire_fini(&x);
+	MUST(!ww_number_put(number, &c));
+}
+
 void il_thread(const char *at)
 {
 	const char *text = at;
@@ -468,6 +485,8 @@ void il_thread(const char *at)
 			comes_anew(*at == 'D');
 		else if (*at == 'p')
 			goes(its);
+		else if (*at == 'q')
+			comes_as_a_strangers();
 		else
 			MUST(happens(&at));
 	}
@@ -570,6 +589,7 @@ const struct il_program il_programs[] = {
 	{ "number-destroy-writer", { "(A1~2)", "~1D2" }, CONTEXTS(4) | NUMBERED, WHOLE },
 	{ "number-destroy-waiter", { "(A1~2)", "(~1a~3)", "~1w2D3" }, CONTEXTS(4) | NUMBERED, 1 },
 	{ "number-vanishes", { "(A1~2)p", "~1(vBb)" }, CONTEXTS(4) | NUMBERED | WAIT_DIE, WHOLE },
+	{ "number-stranger", { "(A1~2)pq", "~1(vBb)3" }, CONTEXTS(4) | NUMBERED | WAIT_DIE, 2 },
 	{ "number-vanishes-read", { "(A1~2)p(b)", "~1(vb)" }, CONTEXTS(4) | NUMBERED | WAIT_DIE, 2 },
 	{ "number-again", { "[a-bd]1[a]", "~1[A]" }, CONTEXTS(4) | NUMBERED, WHOLE },
 	{ "number-again-stale", { "(a)1(b)~2(a)", "~1d2(A)" }, CONTEXTS(4) | NUMBERED, WHOLE },
