@@ -150,11 +150,7 @@ static void open_seats_of(struct ww_pool *p)
 {
 	struct ww_seats *tasks = &p->tasks;
 
-#ifndef WW_FEW
-	p->processors = ww_processors();
-#else
-	p->processors = 1;
-#endif
+	__atomic_store_n(&p->processors, ww_processors(), __ATOMIC_RELAXED);
 	p->threads.count = p->class_->contexts ? p->class_->contexts : MANY_CONTEXTS;
 	tasks->count = p->class_->contexts ? 0 : MANY_TASKS;
 	p->threads.open = p->threads.count;

@@ -26,6 +26,7 @@
  *	left is_used	numbers		who leaves one, or gives it				number-leave
  *	leaves		numbers		who leaves one						number-leave
  *	puts		numbers		the one that puts it back				number-stranger
+ *	processors	pool		who opens a class, or comes to have seats of its own, likewise	contexts
  *	ww_threads	process		who comes to have seats of its own, or ends, under `ww_opening`	own-end-3
  *	ends_waits	pool		who cancels the class					class-cancel
  *	next		pool		who opens and frees a class, under `ww_opening`		free-3
@@ -139,7 +140,7 @@ struct ww_seats {
 } __attribute__((aligned(64)));
 
 /* See crowd.c. */
-enum { MANY_PERMITS = 64 };
+enum { MANY_PERMITS = MANY_PROCESSORS };
 struct ww_permit {
 	uint64_t ends;	     /* its lease; or when it was given back */
 	const ww_seat *seat; /* its thread's own, by which that begins contexts; or NULL */
@@ -180,7 +181,6 @@ struct ww_pool {
 	uint64_t span;	  /* as its contexts have these: see struct ww_acquire_ctx */
 	uintptr_t words;
 	uint32_t own_seats;	 /* how many are threads' own: MANY_OWN, or none */
-	uint32_t processors;	 /* how many threads run at a time, of those that opened the class */
 	bool is_crowded;	 /* see crowd.c; beside what is seldom written, since each begin in a crowd reads it */
 	struct debug *debug;
 	struct ww_shared_mutex *numbered; /* of ww_number.h: one for each number, once the first number was taken */
@@ -299,6 +299,9 @@ static inline void ww_make_cancel_pending(ww_seat *s) { (void)ww_cancel_(&s->han
 
 /* Whether each wait of the class that something may end is to end. */
 static inline bool ww_ends_waits(const struct ww_pool *p) { return __atomic_load_n(&p->ends_waits, __ATOMIC_SEQ_CST); }
+
+/* A hint: others may come to be known. */
+static inline uint32_t processors_of(const struct ww_pool *p) { return __atomic_load_n(&p->processors, __ATOMIC_RELAXED); }
 
 /* The seats that polls use. */
 static inline struct ww_seats *of_tasks(struct ww_pool *p) { return p->tasks.count ? &p->tasks : &p->threads; }

@@ -28,10 +28,8 @@
 #include "crowd.h"
 #include "../base/sleep.h"
 #include <limits.h>
-#include <sched.h>
 #include <string.h>
 #include <sys/resource.h>
-#include <unistd.h>
 
 /*
  * All times are in nanoseconds.  Where two contexts meet, the cache lines that move cost about a MEETING, besides the
@@ -69,18 +67,6 @@ static uint64_t nanoseconds(const struct timespec *at)
 	return at->tv_sec < 0 ? 0 : (uint64_t)at->tv_sec * 1000000000 + (uint64_t)at->tv_nsec;
 }
 
-/*
- * The set has room for as many as a kernel has; where that doesn't say which of them this thread may use, all that run
- * count.
- */
-uint32_t ww_processors(void)
-{
-	cpu_set_t set[8192 / CPU_SETSIZE];
-	long count = sched_getaffinity(0, sizeof set, set) ? sysconf(_SC_NPROCESSORS_ONLN) : CPU_COUNT_S(sizeof set, set);
-
-	return count < 1 ? 1 : count < MANY_PERMITS ? (uint32_t)count : MANY_PERMITS;
-}
-
 /* ---- whether there is one ---- */
 
 /* Relaxed: who sleeps on the word meanwhile wakes, and who is about to sees the new value. */
@@ -106,7 +92,7 @@ void ww_reset_crowd(struct ww_pool *p)
 COLD static void begin_crowd(struct ww_pool *p, uint64_t now)
 {
 	struct ww_crowd *crowd = &p->crowd;
-	uint32_t said = p->class_->permits, least = said ? said : 1, most = said ? said : p->processors;
+	uint32_t said = p->class_->permits, least = said ? said : 1, most = said ? said : processors_of(p);
 
 	pthread_mutex_lock(&p->queue);
 	if (!is_crowded(p)) {
@@ -277,7 +263,7 @@ static bool take_permit(struct ww_pool *p, uint64_t now)
  */
 static void call_one(struct ww_pool *p, uint64_t now)
 {
-	uint64_t since = p->crowd.limiter.width < p->processors ? 0 : LEASE / 16 + TIMER_SLACK;
+	uint64_t since = p->crowd.limiter.width < processors_of(p) ? 0 : LEASE / 16 + TIMER_SLACK;
 
 	if (waiting_threads(p) && find_over(p, now - since - TIMER_SLACK))
 		ww_call_waiting(p, 1);

@@ -3,8 +3,6 @@
 #define WW_CROWD_H
 #include "queue.h"
 
-/* How many processors this thread may use, at most MANY_PERMITS. */
-WW_HIDDEN uint32_t ww_processors(void);
 WW_HIDDEN void ww_reset_crowd(struct ww_pool *p);
 /*
  * Called in a crowd before a context begins: waits for a permit, until a time if that isn't NULL, or until the class ends
@@ -23,7 +21,7 @@ WW_HIDDEN void ww_note_wait(struct ww_pool *p, uint64_t now, uint64_t took);
 /* Each thread has a processor, as far as the library knows of threads: by seats of their own. */
 static inline bool has_processors(const struct ww_pool *p)
 {
-	return p->own_seats && __atomic_load_n(&ww_threads, __ATOMIC_RELAXED) <= p->processors;
+	return p->own_seats && __atomic_load_n(&ww_threads, __ATOMIC_RELAXED) <= processors_of(p);
 }
 
 /* There are more threads than run at a time, so one that is woken may not run for long. */

@@ -177,7 +177,7 @@ static uint32_t given(const struct ww_seats *of)
 /* How many may begin is measured anew. */
 void ww_reset_task_limiter(struct ww_seats *of)
 {
-	uint32_t first = EACH_TASKS * of->pool->processors;
+	uint32_t first = EACH_TASKS * processors_of(of->pool);
 
 	ww_limiter_open(&of->limiter, 1, first < of->count ? first : of->count, of->count / 2, of->count, COUNTED);
 }

@@ -10,7 +10,10 @@
  */
 #define _GNU_SOURCE
 #include "process.h"
+#include <sched.h>
 #include <stdio.h>
+#include <string.h>
+#include <unistd.h>
 
 __thread struct ww_mine ww_mine __attribute__((tls_model("initial-exec")));
 pthread_mutex_t ww_opening = PTHREAD_MUTEX_INITIALIZER;
@@ -64,6 +67,39 @@ void ww_report_message(const char *message)
 		fprintf(stderr, "%s\n", message);
 }
 
+/* ---- processors ---- */
+
+/*
+ * Threads that run on one processor each may set that before they open a class, so those of others are found as these come; the
+ * classes that are open learn it then.  The sets have room for as many as a kernel has; where that doesn't say which of them a thread
+ * may use, all that run count.
+ */
+uint32_t ww_processors(void)
+{
+	static cpu_set_t all[8192 / CPU_SETSIZE];
+	static uint32_t before;
+	cpu_set_t set[8192 / CPU_SETSIZE];
+	long count;
+
+	if (!ww_all_open)
+		memset(all, 0, sizeof all);
+#ifndef WW_FEW
+	for (int k = 0; k < 2; k++)
+		if (!sched_getaffinity(k ? getpid() : 0, sizeof set, set))
+			CPU_OR_S(sizeof all, all, all, set);
+	count = CPU_COUNT_S(sizeof all, all);
+	if (!count)
+		count = sysconf(_SC_NPROCESSORS_ONLN);
+#else
+	(void)set;
+	count = 1;
+#endif
+	count = count < 1 ? 1 : count < MANY_PROCESSORS ? count : MANY_PROCESSORS;
+	for (struct ww_open *it = ww_all_open; it && (uint32_t)count != before; it = it->next)
+		__atomic_store_n(&it->processors, (uint32_t)count, __ATOMIC_RELAXED);
+	return before = (uint32_t)count;
+}
+
 /* ---- threads' own seats ---- */
 
 /* Others read how many there are without the lock, as a hint. Opening is locked. */
@@ -82,6 +118,7 @@ void ww_take_own(void)
 		is_taken[k] = true;
 		set_threads(ww_threads + 1);
 		ww_mine.own_at = (k + 1) * sizeof(ww_seat);
+		(void)ww_processors();
 	}
 	pthread_mutex_unlock(&ww_opening);
 }

@@ -43,6 +43,12 @@ WW_HIDDEN extern __thread struct ww_mine ww_mine __attribute__((tls_model("initi
 
 /* How many threads have seats of their own. */
 WW_HIDDEN extern uint32_t ww_threads;
+/*
+ * How many processors the threads of this process may use: the first one, each that has seats of its own, and this one.  So many count
+ * at most.  Opening is locked.
+ */
+enum { MANY_PROCESSORS = 64 };
+WW_HIDDEN uint32_t ww_processors(void);
 /* This thread has a number from now on. */
 WW_HIDDEN void ww_number_thread(void);
 /* The number of this thread, which no other has, nor had; it isn't 0.  Nothing is compared with one that the thread hasn't yet. */
@@ -62,7 +68,8 @@ WW_HIDDEN void ww_report_message(const char *message);
 #define OPEN_CLASS              \
 	struct ww_open *next;   \
 	uint64_t id, copy;      \
-	bool gone /* it was in use at a fork, and this is the child */
+	bool gone /* it was in use at a fork, and this is the child */; \
+	uint32_t processors /* how many threads run at a time */
 struct ww_open {
 	OPEN_CLASS;
 };

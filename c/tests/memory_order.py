@@ -382,7 +382,8 @@ TABLE = {
     # Counts for limiters.
     "given": {"return_otherwise": "store rlx", "given": "load rlx"},
     "begun": {"begin_crowd": "store rlx", "look_whether_of_use": "load rlx", "ww_await_permit": "fetch_add rlx"},
-    # How many threads there are, a hint.
+    # How many processors and threads there are, hints.
+    "processors": {"open_seats_of": "store rlx", "ww_processors": "store rlx", "processors_of": "load rlx"},
     "ww_threads": {"ww_take_own": "load rlx", "set_threads": "store rlx", "has_processors": "load rlx"},
     # Written before others see the class; whoever serves late finds nobody in the queue, or somebody who saw that. Of seats: a hint
     # of where a thread looks first.

@@ -2,8 +2,8 @@
  * What a class has for each processor, on machines of 1 to 8,192 processors, of which up to 64 count.
  *
  * Tasks have two contexts for each at first.  All of these are handed over or called for, also where there are many.
- * How many processors the thread may use comes by a wrapper (ld --wrap), which refuses a set that has no room for those
- * of the machine, as the kernel does.
+ * How many processors a thread may use comes by a wrapper (ld --wrap), which refuses a set that has no room for those
+ * of the machine, as the kernel does.  Threads that run on one processor each count together, whichever opens the class.
  */
 #include "../mutex_test.h"
 #include "../../admit/class.h"
@@ -11,18 +11,23 @@
 enum { MOST_CONTEXTS = 128 };
 
 static size_t usable, of_machine; /* how many processors, the last ones of these */
+static __thread size_t pinned;	  /* the only one of this thread, from 1 */
+static size_t first_pinned;	  /* of the process's first one */
 
 int __wrap_sched_getaffinity(pid_t pid, size_t size, cpu_set_t *set);
 int __wrap_sched_getaffinity(pid_t pid, size_t size, cpu_set_t *set)
 {
-	(void)pid;
+	size_t only = pid ? first_pinned : pinned;
+
+	MUST(!pid || pid == getpid());
 	if (8 * size < of_machine || size % sizeof(long)) {
 		errno = EINVAL;
 		return -1;
 	}
 	memset(set, 0, size);
 	for (size_t k = of_machine - usable; k < of_machine; k++)
-		CPU_SET_S(k, size, set);
+		if (!only || k == only - 1)
+			CPU_SET_S(k, size, set);
 	return 0;
 }
 
@@ -58,7 +63,7 @@ static void none_is_lost(unsigned count)
 	}
 	for (unsigned k = 0; k < count; k++)
 		MUST(!begins(count - 1 - k, &all[k]));
-	/* Whoever begins next may have them; so the first is called, and each that gets one calls the next. */
+	/* Whoever begins next may have them; so one is called for each. */
 	for (unsigned k = 0; k < count; k++)
 		MUST(begins(k, &x) == -EINPROGRESS && called[k] == 1);
 	for (unsigned k = 0; k < count; k++)
@@ -66,7 +71,7 @@ static void none_is_lost(unsigned count)
 	for (unsigned k = count; k--;)
 		ww_acquire_fini(&all[k]);
 	for (unsigned k = 0; k < count; k++)
-		MUST(called[k] == 2 && (k + 1 == count || called[k + 1] == 1) && !begins(k, &all[k]));
+		MUST(called[k] == 2 && !begins(k, &all[k]));
 	for (unsigned k = 0; k < count; k++)
 		all[k].own->lease = 0;
 }
@@ -91,8 +96,45 @@ static void has(size_t its, size_t processors, unsigned contexts)
 	MUST(!ww_class_free(&sized));
 }
 
+static void *opens(void *processor)
+{
+	pinned = (size_t)processor;
+	MUST(!ww_class_open(&sized));
+	return NULL;
+}
+
+static void *uses(void *processor)
+{
+	struct ww_acquire_ctx x;
+
+	pinned = (size_t)processor;
+	ww_acquire_init(&x, &sized);
+	ww_acquire_fini(&x);
+	return NULL;
+}
+
+static uint32_t known(void) { return __atomic_load_n(&sized.pool->processors, __ATOMIC_RELAXED); }
+
+/* The first thread may use all four, or runs on one, too. */
+static void is_opened_on_one(bool first_is_pinned)
+{
+	of_machine = usable = 4;
+	first_pinned = pinned = first_is_pinned;
+	ww_class_init(&sized, 0, "sized");
+	end_thread(begin_thread(opens, (void *)2));
+	MUST(known() == (first_is_pinned ? 2 : 4));
+	for (size_t k = 1; k <= 4; k++) {
+		end_thread(begin_thread(uses, (void *)k));
+		MUST(known() == (!first_is_pinned ? 4 : k < 2 ? 2 : k));
+	}
+	MUST(!ww_class_free(&sized) && !ww_class_open(&sized) && known() == (first_is_pinned ? 1 : 4) && !ww_class_free(&sized));
+	first_pinned = pinned = 0;
+}
+
 int main(void)
 {
+	is_opened_on_one(false);
+	is_opened_on_one(true);
 	has(1, 1, 2);
 	has(3, 8, 6);
 	has(17, 20, 34);
