@@ -41,7 +41,7 @@
  * whatever the call returns.  What the mutexes say isn't spoken of, and they lie apart from the array.
  */
 /*@ requires \valid(x);
-    assigns x->pool, x->acquired, x->state, x->contending_lock, x->newest, x->prelocked, x->cancelled, x->own->ages, list_changes, CORE, core_context;
+    assigns x->pool, x->acquired, x->state, x->contending_lock, x->puts, x->newest, x->prelocked, x->cancelled, x->own->ages, list_changes, CORE, core_context;
     ensures took: \result == 0 && m == the_mutex ==> core_has == 1;
     ensures others: core_has == \old(core_has) || core_has == 1;
     ensures lists: core_has == \old(core_has) || is_listed(x) || GONE(x);
@@ -82,7 +82,7 @@ static bool held_before(const struct ww_acquire_ctx *x);
     ensures begins: x->newest == \null && x->pool == x->own->pool; */
 static inline void begin_list(struct ww_acquire_ctx *x, struct ww_mutex *const *locks, size_t count);
 
-#define OF_LIST(x) x->pool, x->acquired, x->state, x->contending_lock, x->newest, x->prelocked, x->cancelled, x->own->ages, list_changes, CORE, \
+#define OF_LIST(x) x->pool, x->acquired, x->state, x->contending_lock, x->puts, x->newest, x->prelocked, x->cancelled, x->own->ages, list_changes, CORE, \
 	core_context
 /*@ requires is_user_of(x) && are_locks(locks, count, x) && is_known(x) && is_asked_yet(x, locks, 0, count);
     assigns OF_LIST(x);

@@ -4,12 +4,12 @@
  * source: lock/lock.c
  * proves: note_holder counts_for count_waiter begin_wait end_wait lock_ends wait_on ww_lock_on ww_lock_by
  *	ww_release_on unlock_by ww_unlock_of ww_owns
- * inlines: is_orphaned_by_fork enlist count note_meeting is_loop is_of_number owner_in unlock_unlisted
+ * inlines: is_orphaned_by_fork enlist count note_meeting is_loop is_of_number owner_in unlock_unlisted puts_of
  */
 #include "wait.h"
 
 #define OF_SEAT(s) s->ages, s->waits, s->back_offs, s->awaits, s->handle.mode, s->handle.below, s->token, s->armed, s->waker
-#define OF_LOCK(m, x, s) m->ctx, m->older, m->alone, m->waiters, x->newest, x->acquired, x->contending_lock, x->cancelled, \
+#define OF_LOCK(m, x, s) m->ctx, m->older, m->alone, m->waiters, x->newest, x->acquired, x->contending_lock, x->puts, x->cancelled, \
 	x->state, OF_SEAT(s), ww_mine, CORE
 
 /*@ predicate is_mutex(struct ww_mutex *m) = \valid(m) && m->number == the_lock;
@@ -109,7 +109,7 @@ static inline void ww_make_cancel_pending(ww_seat *s);
     requires has: r == 0 ==> core_has == 1;
     requires r == -EDEADLK ==> core_context == 1 && core_told == 1 && core_told_of == m->number && core_holds > 0;
     requires r <= 0;
-    assigns m->ctx, m->older, m->alone, x->newest, x->acquired, x->contending_lock, x->cancelled, x->state, s->back_offs;
+    assigns m->ctx, m->older, m->alone, x->newest, x->acquired, x->contending_lock, x->puts, x->cancelled, x->state, s->back_offs;
     ensures took: took(\result);
     ensures says: x != \null && \result == 0 && !visits ==> says{Old, Here}(m, x);
     ensures counts: x != \null && \result == 0 && !visits ==> x->acquired == (unsigned)(\old(x->acquired) + 1);

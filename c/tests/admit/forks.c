@@ -199,7 +199,7 @@ static void queue_is_locked(void)
 	if (!child) {
 		MUST(ww_class_cancel(&c) == -EINVAL && ww_mutex_lock_poll(&m, &tasks[0], &waker) == -EINVAL);
 		ww_acquire_fini(&tasks[1]);
-		MUST(ww_acquire_init_poll(&z, &c, NULL, NULL) == -EINVAL);
+		MUST(ww_acquire_init_poll(&z, &c, NULL, NULL) == -EINVAL && ww_poll_take_back(&z, &seek));
 		uses_another_class();
 		MUST(ww_acquire_init_poll(&z, &c, &seek, &waker) == -EINVAL);
 		_exit(0);
@@ -234,8 +234,9 @@ static void in_program(void (*what)(void))
 
 enum { OTHERS = 6, ALL_CONTEXTS = MANY_CONTEXTS + 1 }; /* and this thread's own */
 static pthread_barrier_t there;
-static struct ww_shared_mutex read_first;
+static struct ww_shared_mutex read_first, never_read;
 static uint32_t number;
+static const ww_seat *of_forking_thread; /* its own, in the child */
 
 /* Runs contexts by its own seat, which rests after them; reads; and is there at the fork. */
 static void *has_its_own(void *arg)
@@ -244,6 +245,7 @@ static void *has_its_own(void *arg)
 
 	for (unsigned k = 0; k < 3; k++) {
 		ww_acquire_init(&x, &c);
+		MUST(x.own != of_forking_thread);
 		ww_until_all_locked(&x) {
 			MUST(!ww_shared_mutex_lock_shared(&read_first, &x));
 			(void)!ww_number_lock(number, &x);
@@ -277,13 +279,18 @@ static void uses_all(void)
 	MUST(!counts.contexts && ww_threads == 1);
 }
 
-/* In the background: its parent has ended. */
+/* In the background: its parent has ended. This thread's own seat is no other's. */
 static void is_daemon(int says)
 {
+	struct ww_acquire_ctx x;
+
 	MUST(!pthread_barrier_init(&there, NULL, 1));
 	for (unsigned k = 0; k < seats_of(c.pool); k++)
 		MUST(!(c.pool->seats[k].busy & BUSY) && !c.pool->seats[k].ages);
 	uses_all();
+	ww_acquire_init(&x, &c);
+	of_forking_thread = x.own;
+	ww_acquire_fini(&x);
 #if !SANITIZES_THREADS && !defined(__aarch64__) /* that, and qemu, which runs arm64's, end a child that begins threads */
 	end_thread(begin_thread(has_its_own, NULL));
 #endif
@@ -320,7 +327,7 @@ static void becomes_a_daemon(void)
 	MUST(!ww_number_put(number, &c) && !ww_shared_mutex_destroy(&read_first));
 }
 
-/* In the child, and in its own child, once a context from before that has ended. */
+/* In the child, and in its own child, once a context from before that has ended; which reads nothing more. */
 static void is_refused(struct ww_acquire_ctx *ends)
 {
 	struct ww_acquire_ctx x;
@@ -328,6 +335,7 @@ static void is_refused(struct ww_acquire_ctx *ends)
 	pid_t child;
 
 	MUST(ww_acquire_init_checked(&x, &c) == -EINVAL);
+	MUST(!ends || ww_shared_mutex_lock_shared(&never_read, ends) == -EINVAL);
 	if (ends)
 		ww_acquire_fini(ends);
 	child = fork();
@@ -339,27 +347,30 @@ static void is_refused(struct ww_acquire_ctx *ends)
 
 static void somebody_is_amid(void)
 {
-	pthread_mutex_t *locks[] = { &c.pool->queue, &c.pool->spare, &c.pool->numbers.lock, NULL };
+	pthread_mutex_t *locks[] = { &c.pool->queue, &c.pool->spare, &c.pool->numbers.lock, NULL, &c.pool->numbers.lock };
 	struct ww_acquire_ctx x;
 
-	for (unsigned k = 0; k < 4; k++) {
+	ww_shared_mutex_init(&never_read, &c);
+	for (unsigned k = 0; k < 5; k++) {
+		bool begins = k > 2;
 		pthread_t holder = 0;
 		pid_t child;
 		int status;
 
+		if (begins)
+			ww_acquire_init(&x, &c);
 		if (locks[k])
 			holder = begin_holder(locks[k]);
-		else
-			ww_acquire_init(&x, &c);
 		MUST((child = fork()) >= 0);
 		if (!child)
-			is_refused(locks[k] ? NULL : &x);
+			is_refused(begins ? &x : NULL);
 		MUST(waitpid(child, &status, 0) == child && !status);
 		if (locks[k])
 			end_holder(holder);
-		else
+		if (begins)
 			ww_acquire_fini(&x);
 	}
+	MUST(!ww_shared_mutex_destroy(&never_read));
 }
 
 /* ---- amid readers and writers ---- */
