@@ -11,6 +11,20 @@ count_of() {
     valgrind --tool=callgrind --callgrind-out-file=/dev/null "$@" 2>&1 | sed -n 's/.*Collected : //p'
 }
 
+# Of a class of so many mutexes: a line with the name and the instructions of each way and call of classes.cpp, which is
+# compiled over the library in this file.
+by_class() {
+    local times told=$work/classes.told
+    [ -e "$work/classes" ] || c++ -std=c++17 -O2 -Iinclude ../bench/classes.cpp "$2" -pthread -o "$work/classes"
+    for times in 20 60; do
+        valgrind --tool=callgrind --callgrind-out-file="$told" "$work/classes" "$1" $times >"$work/said" 2>&1
+        callgrind_annotate --inclusive=yes --threshold=100 --auto=no "$told" | tr -d , |
+            sed -nE 's/\(anonymous namespace\):://g; s/^ *([0-9]+) \([^)]*\) .*:(void )?(context<.*|call_[a-z_]*)\(\).*$/\1 \3/p' |
+            sed -E 's/ (in_loop|by_hand)</ \1_</; s/context<(.*)>$/\1/; s/ /;/; s/ /+/g; s/;/ /' | sort -k 2 >"$work/classes.$times"
+    done
+    join -1 2 -2 2 "$work/classes.20" "$work/classes.60" | awk '{ print $1, int(($3 - $2) / 40) }'
+}
+
 # Those of one context of so many locks, in this way.
 few=1000
 many=3000

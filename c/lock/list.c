@@ -3,8 +3,9 @@
 #include "loop.h"
 #include "mutex.h"
 
-/* What a context held before a list, and had to do; and the mutex that it owed or had to wait for, or NULL. */
+/* What a context held before a list, and had to do; the mutex that it owed or had to wait for, or NULL; whether it was by hand. */
 struct before {
+	bool is_by_hand;
 	size_t held;
 	unsigned int tries;
 	struct ww_mutex *contending_lock, *waits_for;
@@ -53,6 +54,7 @@ COLD static int retry(struct ww_acquire_ctx *x, struct ww_mutex *const *locks, s
 		release_newest(x);
 	if (r != -EDEADLK) {
 		x->contending_lock = before->contending_lock;
+		x->gives = before->is_by_hand ? (void *)x->own : x->gives;
 		ww_become(x, TRIES | IS_PRELOCKED, left > before->held ? IS_PRELOCKED : before->tries);
 	}
 	return r;
@@ -67,7 +69,7 @@ int ww_mutex_lock_all(struct ww_acquire_ctx *x, struct ww_mutex *const *locks, s
 
 	if (UNLIKELY(r))
 		return r;
-	before = (struct before){ .contending_lock = x->contending_lock };
+	before = (struct before){ .is_by_hand = !is_loop(x), .contending_lock = x->contending_lock };
 	if (LIKELY(begins)) {
 		begin_loop(x);
 		let_be_older(x);
