@@ -212,8 +212,8 @@ static inline void ww_acquire_begin_tries(struct ww_acquire_ctx *ctx);
 static inline bool ww_acquire_end_try(struct ww_acquire_ctx *ctx);
 /*
  * Releases everything that the context holds, the newest first, and ends what it reads.  The program ends with a message while the
- * context waits by a poll; and if the context acquired something without a loop or list that it doesn't know any more: by number, or
- * before it released another mutex by ww_mutex_unlock.
+ * context waits by a poll; and if the context acquired something that it doesn't know any more: without a loop, tries or a list of
+ * locks, it doesn't know what it acquired by number, or before it released another mutex by ww_mutex_unlock.
  */
 void ww_acquire_unlock_all(struct ww_acquire_ctx *ctx);
 /*
@@ -226,7 +226,8 @@ void ww_acquire_unlock_to(struct ww_acquire_ctx *ctx, size_t mark);
 /*
  * Acquires all of them, in any order, and backs off by itself.  If it returns an error, it has released what it had acquired.
  * -EALREADY: the list has a mutex twice, or the context held one before; -EINTR; -EINVAL, -ENOSPC, -ENOMEM; -EDEADLK: only if
- * the context held a mutex before, which it has to release.  In ww_until_all_locked, and after it, it returns -EINVAL.
+ * the context held a mutex before, which it has to release.  From its first list on a context is as in a loop, unless it held a
+ * mutex before; it may lock several lists, also in loops.
  */
 WW_MUST_CHECK int ww_mutex_lock_all(struct ww_acquire_ctx *ctx, struct ww_mutex *const *locks, size_t count);
 /*
@@ -235,9 +236,9 @@ WW_MUST_CHECK int ww_mutex_lock_all(struct ww_acquire_ctx *ctx, struct ww_mutex 
  * and nothing if this returns anything but 0.
  */
 static inline int ww_mutex_lock_by(struct ww_acquire_ctx *ctx, int (*locks)(struct ww_acquire_ctx *ctx, void *data), void *data);
-/* For a context; the first applies to ww_mutex_lock_all, and from ww_until_all_locked to the end of the context. */
+/* For a context; the first applies from a loop or a list on, to the end of the context. */
 enum ww_flags {
-	WW_IGNORE_DUPLICATES = 1,	/* a mutex that the context holds is no error */
+	WW_IGNORE_DUPLICATES = 1,	/* a lock of what the context holds returns 0, acquires nothing and needs no unlock */
 	WW_INTERRUPTIBLE = 2,		/* ww_acquire_cancel may end its waits, also those of ww_mutex_lock */
 	WW_MAY_BE_OLDER = 4,		/* backs off by itself, so may share an age (ww_acquire_init); set before its first lock */
 };

@@ -36,8 +36,8 @@ void ww_number_leave(uint32_t number, struct ww_class *ww_class);
  * The library's mutex of a number: for the calls of ww_shared.h, as
  *	ww_shared_mutex_trylock_shared(ww_number_at(number, &boxes), &ctx)
  * and by its member mutex_ for those of ww_mutex.h, also without a context (NULL).  Who writes what others read in this way calls
- * ww_shared_mutex_lock, since ww_number_lock waits for no reader.  What a context locked is unlocked by its number, or by
- * ww_shared_mutex_unlock.  A context that moves does so outside loops and tries, and makes no ww_mutex_lock and no
+ * ww_shared_mutex_lock, since ww_number_lock waits for no reader.  What a context writes is unlocked by its number, or by
+ * ww_shared_mutex_unlock, and what it reads by ww_shared_mutex_unlock_shared.  A context that moves does so outside loops and tries, and makes no ww_mutex_lock and no
  * ww_mutex_trylock, which leave its address there.
  * The mutex stays where it is until the class is freed.  NULL: nobody has taken the number.
  */

@@ -65,8 +65,8 @@ WW_MUST_CHECK int ww_acquire_init_poll(struct ww_acquire_ctx *ctx, struct ww_cla
 /* Ends a wait for a context, if one goes on, and begins none: for who drops a task, which may be in such a wait. */
 void ww_seek_end(struct ww_seek *seek);
 /*
- * As ww_mutex_lock_interruptible, with any context; it also returns -EINVAL in ww_until_all_locked and after it.  After
- * -EDEADLK release everything, and poll the same mutex first.  Without a waker (NULL) it ends the wait: 0 if the mutex was
+ * As ww_mutex_lock_interruptible, with any context; in a loop it waits for nothing else first, and returns -EINVAL if the context has
+ * waited for a mutex by another call that it has yet to lock.  After -EDEADLK release everything, and poll the same mutex first.  Without a waker (NULL) it ends the wait: 0 if the mutex was
  * acquired first, -EDEADLK or -EINTR if that came first, else -ETIMEDOUT; what was held still is.
  */
 WW_MUST_CHECK int ww_mutex_lock_poll(struct ww_mutex *lock, struct ww_acquire_ctx *ctx, const struct ww_waker *waker);
