@@ -514,14 +514,24 @@ impl Context {
     /// # Safety
     ///
     /// No guard of the context is left that anybody could use, and no reference that a read gave.
+    #[inline]
     unsafe fn release_all(&self) {
+        if self.rare().is_some() || self.held() != 0 {
+            // SAFETY: as asked for here.
+            unsafe { self.release_held() };
+        }
+    }
+
+    /// # Safety
+    ///
+    /// That of `release_all`.
+    #[cold]
+    unsafe fn release_held(&self) {
         let prelocked = self.rare().and_then(|rare| {
             rare.upgradable.borrow_mut().clear();
             rare.prelocked.take()
         });
-        if self.held() != 0 {
-            // SAFETY: the context has begun, and hasn't ended.
-            unsafe { self.class.release_all(self.raw(), prelocked) };
-        }
+        // SAFETY: the context has begun, and hasn't ended.
+        unsafe { self.class.release_all(self.raw(), prelocked) };
     }
 }
