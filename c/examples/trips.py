@@ -1,9 +1,12 @@
 """Tasks of asyncio book trips of three legs each. Which leg comes next is known only under the mutex of the one before: so each
 leg is locked as it is found, in whatever order, which would deadlock with plain locks. trips.py [libww.so]"""
+from __future__ import annotations
+
 import asyncio
 import os
 import random
 import sys
+from typing import List
 
 sys.path.append(os.path.join(os.path.dirname(os.path.abspath(__file__)), "../python"))  # where it isn't installed
 import ww
@@ -13,15 +16,15 @@ legs = ww.Class(ww.WOUND_WAIT, library=LIBRARY)
 
 
 class Leg:
-    def __init__(self):
+    def __init__(self) -> None:
         self.mutex = ww.Mutex(legs)
         self.free, self.next = 2000, self  # under the mutex
 
 
-async def book(first):
+async def book(first: Leg) -> bool:
     """Takes a seat in each leg of the trip that begins there; returns whether each had one."""
 
-    async def body(context):
+    async def body(context: ww.TaskContext) -> bool:
         trip = [first]
         await context.lock(first.mutex)
         while len(trip) < 3:
@@ -37,12 +40,12 @@ async def book(first):
     return await legs.run_async(body)
 
 
-async def work(seed):
+async def work(seed: int) -> List[bool]:
     draw = random.Random(seed)
     return [await book(draw.choice(ring)) for _ in range(100)]
 
 
-async def main():
+async def main() -> None:
     booked = sum(sum(it) for it in await asyncio.gather(*(work(seed) for seed in range(20))))
     print("trips in Python:", booked)
     assert booked == 2000 and sum(2000 - leg.free for leg in ring) == 3 * booked

@@ -168,7 +168,7 @@ def report_to(function: Optional[Callable[[str], object]], library: Optional[str
     """From now on this function gets each message with which the library ends the program, and each of the debug library's,
     instead of standard error, to which None returns. Any thread calls it. Call this before threads use the package; `library`
     is as of Class."""
-    calls = _REPORTS(functools.partial(_passes, function)) if function else _REPORTS()
+    calls = _REPORTS(functools.partial(_passes, function)) if function else _REPORTS(0)
     opened(library).ww_report_to(calls, None)
     _told[library] = calls
 

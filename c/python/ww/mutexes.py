@@ -14,7 +14,7 @@ import threading
 import time
 import types
 import weakref
-from typing import TYPE_CHECKING, Any, Awaitable, Callable, Dict, Iterable, List, Optional, Set, TypeVar, Union
+from typing import TYPE_CHECKING, Any, Awaitable, Callable, Dict, Iterable, List, Optional, Set, TypeVar
 
 from .library import WAIT_DIE, WOUND_WAIT, Already, Counted, Counts, Deadlock, Library, Time, at_caller, opened, told
 
@@ -62,7 +62,9 @@ class _Exit:
         self._format = f"{{0.{looked_up}!s:.0}}".format
 
     def __get__(self, it: Any, _: Any = None) -> Callable[..., Any]:
-        return self if it is None else functools.partial(self._format, it)
+        if it is None:
+            return self
+        return functools.partial(self._format, it)
 
     def __call__(self, it: Any, *_: object) -> None:
         self._format(it)
@@ -91,7 +93,7 @@ class _Thread(threading.local):
         return [it for ref in self.contexts if (it := ref()) and not it._is_over]
 
     def begins(self, context: Context) -> None:
-        self.contexts = [*map(weakref.ref, self._go_on()), weakref.ref(context)]
+        self.contexts = [weakref.ref(it) for it in (*self._go_on(), context)]
 
     def holds(self, mutex: Mutex) -> bool:
         return any(mutex in it for it in self._go_on())
@@ -217,8 +219,8 @@ class Mutex:
         if not isinstance(of, Class):
             raise TypeError("a mutex is of a ww.Class")
         self._class, self._library = of, of._library
-        # The context by which it is held, or was held last; at first one that never begins.
-        self._alone: Union[Context, TaskContext] = of._nobody
+        # That by which it is held, or was held last; at first one that never begins.
+        self._alone: Any = of._nobody  # a Context or a TaskContext
         # A number of the class, and where the library's mutex of this number is: it keeps no address of ours.
         self._number = number = ctypes.c_uint32(_NONE)
         self._its_end = _ending(functools.partial(self._library.ww_number_leave, number, of._at), of._its_end)
@@ -259,6 +261,8 @@ class Mutex:
         """Acquires it, at most for `timeout` seconds, or with blocking=False only if it is free; returns whether it did."""
         if not blocking and timeout != -1:
             raise ValueError("a call that doesn't block has no timeout")
+        if not blocking and _mine.holds(self):
+            return False
         if timeout < 0 and timeout != -1:
             raise ValueError("a timeout is a number of seconds, or -1")
         if timeout > threading.TIMEOUT_MAX:
@@ -359,7 +363,7 @@ class Context(Holder):
     @property
     def _is_over(self) -> bool:
         """Whether it has ended, or hasn't begun: no wait of a poll goes on by a thread's context."""
-        return self._library.ww_acquire_end_wait(self._at) != 0
+        return bool(self._library.ww_acquire_end_wait(self._at))
 
     def _begins_once(self) -> None:
         """Whichever thread or task comes first, and whatever becomes of that; Python makes the call in one step."""
@@ -377,7 +381,8 @@ class Context(Holder):
 
     async def __aenter__(self) -> TaskContext:
         self._begins_once()
-        self._of_task = context = _tasks().TaskContext(self._class, self._timeout)
+        context: TaskContext = _tasks().TaskContext(self._class, self._timeout)
+        self._of_task = context
         await context.begin()
         return context
 
@@ -403,7 +408,8 @@ class Context(Holder):
         in that queue each time, so another thread waits for it. If the main thread stops waiting, the context ends as soon
         as it has begun."""
         _may_wait(until)
-        begun, codes, end = threading.Event(), [], Time(*divmod(_NEVER if until is None else until, 10**9))
+        codes: List[int] = []
+        begun, end = threading.Event(), Time(*divmod(_NEVER if until is None else until, 10**9))
         came_first: Dict[str, str] = {}
 
         def begin() -> None:

@@ -13,10 +13,13 @@ import select
 import threading
 import time
 import weakref
-from typing import Callable, Optional
+from typing import Any, Callable, Dict, Iterable, List, Optional, Set, Tuple
 
-from .library import Already, Deadlock, at_caller, told
+from .library import Already, Deadlock, Library, at_caller, told
 from .mutexes import Class, Holder, Mutex, SharedMutex, _ending, _until
+
+
+_os: Any = os  # Older type checkers don't know its eventfd.
 
 
 class _Waker(ctypes.Structure):
@@ -40,7 +43,8 @@ class _Woken(ctypes.Structure):
 
 # The events whose descriptors are open: threads that go on while the interpreter ends may still use them, so they are there
 # until the program's last moment. And in a forked child those of its parent: a mutex that is released there may use one.
-_events, _inherited = {}, []
+_events: Dict[int, _Event] = {}
+_inherited: List[_Event] = []
 for _kept in _events, _inherited:
     ctypes.pythonapi.Py_IncRef(ctypes.py_object(_kept))
 _LISTED = 8  # WW_LISTED: the context knows all that it holds, so one call releases it.
@@ -54,26 +58,30 @@ class _Event(ctypes.Structure):
     it is over. An event without waits has an empty list, so nobody is about to write, and its descriptor may be closed."""
 
     _fields_ = [("first", ctypes.c_void_p), ("descriptor", ctypes.c_int)]
+    first: Optional[int]
+    descriptor: int
 
-    def __init__(self, library):
-        super().__init__(None, os.eventfd(0, os.EFD_NONBLOCK | os.EFD_CLOEXEC))
-        self.waits = {}  # By the address of its entry, the memory of a wait which other threads may use.
-        self.called = set()  # Entries of waits that have ended, but whose waker was called, or is about to be.
+    def __init__(self, library: Library) -> None:
+        super().__init__(None, _os.eventfd(0, _os.EFD_NONBLOCK | _os.EFD_CLOEXEC))
+        self.waits: Dict[int, Tuple[Any, ...]] = {}  # By the address of its entry, the memory of a wait which other threads may use.
+        self.called: Set[int] = set()  # Entries of waits that have ended, but whose waker was called, or is about to be.
         self.is_left = self.is_inherited = False
         self.lock = threading.RLock()  # Several threads may take and close what their loop has left.
-        read, take = functools.partial(os.eventfd_read, self.descriptor), functools.partial(library.ww_event_take, ctypes.addressof(self))
+        read, take = functools.partial(_os.eventfd_read, self.descriptor), functools.partial(library.ww_event_take, ctypes.addressof(self))
         # No line of Python is run between the two, which a signal could interrupt.
-        self.read_and_take = functools.partial(map, functools.partial.__call__, (read, take))
+        self.read_and_take: Callable[[], Iterable[Any]] = functools.partial(map, functools.partial.__call__, (read, take))
         _events[ctypes.addressof(self)] = self
 
-    def take(self):
+    def take(self) -> List[int]:
         """The entries that are in the list; none, if the thread that has filled it is still to write."""
         if self.is_inherited:
             return []
         with self.lock:
-            taken, at = [], None
+            taken: List[int] = []
+            at: Optional[int] = None
             try:
-                _, at = self.read_and_take() if self.descriptor >= 0 else (0, None)
+                if self.descriptor >= 0:
+                    _, at = self.read_and_take()
             except BlockingIOError:
                 pass
             while at:
@@ -85,7 +93,7 @@ class _Event(ctypes.Structure):
             self.close_if_unused()
             return taken
 
-    def removes(self, at, is_called):
+    def removes(self, at: int, is_called: bool) -> None:
         """Its wait has ended. If its waker was called, or is about to be, the entry is in the list, or comes there."""
         if self.is_inherited:
             return
@@ -97,7 +105,7 @@ class _Event(ctypes.Structure):
         if self.is_left:
             self.leave()
 
-    def leave(self):
+    def leave(self) -> None:
         """Its loop takes nothing any more. What other threads have begun to do with it is over in a moment, which this awaits;
         if it isn't, the event stays. A wait that goes on closes the descriptor when it ends."""
         self.is_left = True
@@ -110,8 +118,8 @@ class _Event(ctypes.Structure):
             self.take()
         self.take()
 
-    def close_if_unused(self):
-        if self.is_left and not self.waits and _events.pop(ctypes.addressof(self), None):
+    def close_if_unused(self) -> None:
+        if self.is_left and not self.waits and _events.pop(ctypes.addressof(self), None) is self:
             descriptor, self.descriptor = self.descriptor, -1
             os.close(descriptor)
 
@@ -120,17 +128,17 @@ class _Wakes:
     """What wakes the tasks of a loop. Only the loop refers to it, and to the futures of its waits, so that the rest of a closed
     loop can be freed."""
 
-    of_loops = weakref.WeakKeyDictionary()
-    event = None
+    of_loops: weakref.WeakKeyDictionary[Any, weakref.WeakValueDictionary[Library, _Wakes]] = weakref.WeakKeyDictionary()
+    event: Any = None  # an _Event, once it is made
 
-    def __init__(self, loop, library):
-        self.futures = {}  # By the addresses of their waits' entries.
+    def __init__(self, loop: asyncio.AbstractEventLoop, library: Library) -> None:
+        self.futures: Dict[int, asyncio.Future[None]] = {}  # By the addresses of their waits' entries.
         self.event = _Event(library)
         self.wake = ctypes.cast(library.ww_event_wake, ctypes.c_void_p).value
         loop.add_reader(self.event.descriptor, self.take)
 
     @classmethod
-    def of(cls, library):
+    def of(cls, library: Library) -> _Wakes:
         loop = asyncio.get_running_loop()
         of_libraries = cls.of_loops.get(loop)
         if of_libraries is None:
@@ -140,7 +148,7 @@ class _Wakes:
             wakes = of_libraries[library] = cls(loop, library)
         return wakes
 
-    def begin(self, *kept):
+    def begin(self, *kept: object) -> Tuple[_Waker, int, asyncio.Future[Any]]:
         """A wait: its waker, the address of its entry, and the future of its wake-up."""
         woken, future = _Woken(), asyncio.get_running_loop().create_future()
         at = ctypes.addressof(woken)
@@ -148,23 +156,23 @@ class _Wakes:
         self.futures[at] = future
         return _Waker(self.wake, ctypes.addressof(self.event), at), at, future
 
-    def end(self, at, is_called):
+    def end(self, at: int, is_called: bool) -> None:
         """Ends a wait that wasn't woken yet."""
         del self.futures[at]
         self.event.removes(at, is_called)
 
-    def take(self):
+    def take(self) -> None:
         for at in self.event.take():
             future = self.futures.pop(at, None)
             if future and not future.done():
                 future.set_result(None)
 
-    def __del__(self):
+    def __del__(self) -> None:
         if self.event:
             self.event.leave()
 
 
-def _inherit():
+def _inherit() -> None:
     """In a forked child. Nobody is there who writes, and what is read there is lost to the parent, whose descriptor it is."""
     for event in _events.values():
         event.is_inherited = True
@@ -178,11 +186,12 @@ def _inherit():
 os.register_at_fork(after_in_child=_inherit)
 
 
+_Around = Optional[Tuple["weakref.ref[TaskContext]", Any]]
 # Of a task, and of each that it makes: the context that it began last, and those around that.
-_around = contextvars.ContextVar("_around", default=None)
+_around: contextvars.ContextVar[_Around] = contextvars.ContextVar("_around", default=None)
 
 
-def _within():
+def _within() -> _Around:
     """Those that go on, the innermost first."""
     around = _around.get()
     while around and ((it := around[0]()) is None or it._is_over):
@@ -190,8 +199,13 @@ def _within():
     return around
 
 
-def _ended():
+def _ended() -> OSError:
     return OSError(errno.EINVAL, "the context is of no `async with` block that goes on")
+
+
+def _is_late(future: asyncio.Future[Any]) -> None:
+    if not future.done():
+        future.set_result(-errno.ETIMEDOUT)
 
 
 class TaskContext(Holder):
@@ -204,7 +218,8 @@ class TaskContext(Holder):
         self._says: Optional[Callable[[], object]] = None  # What says to the debug library where its last call was made.
         self._task = id(asyncio.current_task())
         self._seek = _Seek()
-        self._future = self._event = None  # Those of the wait that is under way.
+        self._future: Optional[asyncio.Future[Any]] = None  # Those of the wait that is under way.
+        self._event: Optional[_Event] = None
         self._is_back = False  # Its waker was taken back.
         self._got_deadlock = False  # It has yet to wait for what it collided with, once it has released all.
         self._is_over = False
@@ -230,7 +245,7 @@ class TaskContext(Holder):
             raise
         return context
 
-    def _is_contended(self):
+    def _is_contended(self) -> bool:
         return self._got_deadlock
 
     def try_lock(self, mutex: Mutex) -> bool:
@@ -238,7 +253,7 @@ class TaskContext(Holder):
         self._got_deadlock &= not is_locked  # What it collided with needn't be awaited any more.
         return is_locked
 
-    async def _wait(self, poll, until, seek=None):
+    async def _wait(self, poll: Callable[[Any], int], until: Optional[int], seek: Any = None) -> int:
         """What the call returns in the end. If this is cancelled, or the time comes, the wait has ended."""
         wakes = _Wakes.of(self._library)
         while True:
@@ -253,7 +268,7 @@ class TaskContext(Holder):
                     return code
                 if until is not None:
                     late = (until - time.monotonic_ns()) / 10**9
-                    timer = future.get_loop().call_later(late, lambda: future.done() or future.set_result(-errno.ETIMEDOUT))
+                    timer = future.get_loop().call_later(late, _is_late, future)
                 told(await future)
                 if self._is_over:
                     raise _ended()
@@ -269,7 +284,7 @@ class TaskContext(Holder):
                 if wakes.futures.get(at) is future:  # It wasn't woken; another wait may have its address by now.
                     wakes.end(at, code == -errno.EINPROGRESS and not self._is_back)
 
-    def _take_back(self, seek=None):
+    def _take_back(self, seek: Any = None) -> None:
         """A forked child takes nothing back: a lock that it needs for that may be one that another thread had as it was made."""
         if self._event and not self._event.is_inherited:
             self._is_back |= self._library.ww_poll_take_back(self._at, seek)
@@ -301,14 +316,14 @@ class TaskContext(Holder):
         if future and not (future.done() or future.get_loop().is_closed()):
             future.set_exception(_ended())
 
-    def _check(self, *mutexes):
+    def _check(self, *mutexes: Mutex) -> None:
         if self._is_over:
             raise _ended()
         if self._future:
             raise OSError(errno.EBUSY, "another task waits by this context")
         self._class._check(*mutexes)
 
-    async def _asks(self, mutex, shared, until):
+    async def _asks(self, mutex: Mutex, shared: str, until: Optional[int]) -> None:
         """Locks it, or with "_shared" reads it."""
         if mutex._call("trylock" + shared)(mutex._at, self._at) != 1:
             code = await self._wait(functools.partial(mutex._call(f"lock{shared}_poll"), mutex._at, self._at), until)
@@ -330,12 +345,12 @@ class TaskContext(Holder):
             raise TypeError("only a ww.SharedMutex is read")
         await self._lock_all([it for it in mutexes if it not in self], "_shared", _until(timeout))
 
-    async def _lock_all(self, mutexes, shared, until):
+    async def _lock_all(self, mutexes: Iterable[Mutex], shared: str, until: Optional[int]) -> None:
         if self._library.is_debug:
             self._says = at_caller(self._library)
         held_nothing = not self._library.ww_acquire_mark(self._at)
         while True:
-            acquired = []
+            acquired: List[Mutex] = []
             try:
                 if held_nothing and self._got_deadlock:
                     told(await self._wait(functools.partial(self._library.ww_shared_mutex_await_poll, self._at), until))
@@ -364,6 +379,6 @@ class TaskContext(Holder):
         self._check()
         self._unlock_all()
 
-    def _unlock_all(self):
+    def _unlock_all(self) -> None:
         self._reads.clear()
         self._library.ww_acquire_unlock_all(self._at)
