@@ -46,8 +46,7 @@ static void transfer(struct account *from, struct account *to, long money)
 	if (!ww_mutex_lock_all(&ctx, both, 2)) {
 		from->money -= money;
 		to->money += money;
-		ww_mutex_unlock(&to->lock);
-		ww_mutex_unlock(&from->lock);
+		ww_acquire_unlock_all(&ctx);
 	}
 	ww_acquire_fini(&ctx);
 }

@@ -281,7 +281,7 @@ WW_MUST_CHECK int ww_acquire_init_until(struct ww_acquire_ctx *ctx, struct ww_cl
 void ww_class_init(struct ww_class *ww_class, int is_wait_die, const char *name);
 /*
  * Sets how many mutexes and contexts there may be at a time, before the first use of the class, which allocates memory for as
- * many: 66 MiB for a million mutexes.  0: 65,536 mutexes; and 1,024 contexts that anybody may use, of which tasks may have 896
+ * many: 69 MiB for a million mutexes.  0: 65,536 mutexes; and 1,024 contexts that anybody may use, of which tasks may have 896
  * (ww_poll.h), and one more for each thread: its own, which costs less to begin and end; the first 256 threads at a time have one.
  * A mutex that is held without a context (NULL) counts as one.
  * -EINVAL: more than 16,777,216, or than 4,094 contexts; -EBUSY: the class is open.
