@@ -7,7 +7,6 @@ use core::ffi::{c_int, CStr};
 use core::fmt;
 use core::marker::PhantomData;
 use core::sync::atomic::{AtomicU32, Ordering::Relaxed};
-use std::thread;
 
 /// What happens when contexts collide. In both kinds the older one goes first.
 #[derive(Clone, Copy, Debug, PartialEq, Eq, Hash)]
@@ -312,9 +311,6 @@ pub struct RawClass {
     hooked: Hooked,
 }
 
-/// How often a thread looks again for a number in a class that seems to have none left.
-const LOOKS: u32 = 8;
-
 /// The tag of a mutex without a number.
 const NO_TAG: u32 = u32::MAX;
 
@@ -412,17 +408,7 @@ impl RawClass {
         let tag = if self.tag() == NO_TAG { self.first_tag() } else { self.tag() };
         let mut index = 0;
         // SAFETY: the class is static, and `index` lives for the call.
-        let mut take = || unsafe { ffi::ww_number_take(&raw mut index, self.get()) };
-        let mut answer = take();
-        // A thread that begins to read may be looking which of the numbers are free that mutexes have left, and has these meanwhile.
-        for _ in 0..LOOKS {
-            if answer != -ffi::ENOSPC {
-                break;
-            }
-            thread::yield_now();
-            answer = take();
-        }
-        match answer {
+        match unsafe { ffi::ww_number_take(&raw mut index, self.get()) } {
             0 => {
                 self.most.fetch_max(index, Relaxed);
                 Ok(Number::new(tag, index))
