@@ -1,8 +1,6 @@
 use crate::ffi::{self, ww_acquire_ctx, ww_mutex, ww_shared_mutex};
 use crate::{Class, Mutex};
-use core::fmt;
 use core::marker::PhantomData;
-use core::ops::{Deref, DerefMut};
 use std::sync::Arc;
 
 /// The owner of a lock: the address of a context, or, without one, that of the library's mutex plus one.
@@ -47,6 +45,58 @@ impl Holder {
     }
 }
 
+/// What all guards are by which one alone comes to the value of a mutex, and what their drop does.
+macro_rules! guards {
+    ($($guard:ident)* => |$this:ident| $drop:expr) => { $(
+        // SAFETY: threads that share it get `&T`, and the mutex, which demands no more of T.
+        unsafe impl<C: Class, T: ?Sized + Send + Sync> Sync for $guard<'_, C, T> {}
+
+        impl<C: Class, T: ?Sized> ::core::ops::Deref for $guard<'_, C, T> {
+            type Target = T;
+
+            #[inline]
+            fn deref(&self) -> &T {
+                // SAFETY: the mutex is held, and the guard is borrowed.
+                unsafe { &*self.mutex.value() }
+            }
+        }
+
+        impl<C: Class, T: ?Sized> ::core::ops::DerefMut for $guard<'_, C, T> {
+            #[inline]
+            fn deref_mut(&mut self) -> &mut T {
+                // SAFETY: the mutex is held, nobody reads it, and this is its one guard, borrowed exclusively.
+                unsafe { &mut *self.mutex.value() }
+            }
+        }
+
+        impl<C: Class, T: ?Sized> Drop for $guard<'_, C, T> {
+            #[inline]
+            fn drop(&mut self) {
+                let $this = self;
+                $drop;
+            }
+        }
+
+        impl<C: Class, T: ?Sized + ::core::fmt::Debug> ::core::fmt::Debug for $guard<'_, C, T> {
+            fn fmt(&self, f: &mut ::core::fmt::Formatter<'_>) -> ::core::fmt::Result {
+                (**self).fmt(f)
+            }
+        }
+
+        impl<C: Class, T: ?Sized + ::core::fmt::Display> ::core::fmt::Display for $guard<'_, C, T> {
+            fn fmt(&self, f: &mut ::core::fmt::Formatter<'_>) -> ::core::fmt::Result {
+                (**self).fmt(f)
+            }
+        }
+    )* };
+}
+pub(crate) use guards;
+
+guards!(MutexGuard ArcMutexGuard => |guard| {
+    // SAFETY: each is for one lock by its holder, and is dropped once. A mutex that it shares may be dropped with it, after this.
+    unsafe { guard.holder.release(guard.mutex.index()) }
+});
+
 /// A locked mutex, with access to its value. Its drop releases the mutex, in the thread that locked it.
 ///
 /// ```compile_fail,E0277
@@ -86,9 +136,6 @@ pub struct MutexGuard<'g, C: Class, T: ?Sized> {
     holder: Holder,
 }
 
-// SAFETY: threads that share it get `&T`, and the mutex, which demands `Send` of T.
-unsafe impl<C: Class, T: ?Sized + Send + Sync> Sync for MutexGuard<'_, C, T> {}
-
 impl<'g, C: Class, T: ?Sized> MutexGuard<'g, C, T> {
     /// # Safety
     ///
@@ -106,44 +153,6 @@ impl<'g, C: Class, T: ?Sized> MutexGuard<'g, C, T> {
     }
 }
 
-impl<C: Class, T: ?Sized> Deref for MutexGuard<'_, C, T> {
-    type Target = T;
-
-    #[inline]
-    fn deref(&self) -> &T {
-        // SAFETY: the mutex is held, and the guard is borrowed.
-        unsafe { &*self.mutex.value() }
-    }
-}
-
-impl<C: Class, T: ?Sized> DerefMut for MutexGuard<'_, C, T> {
-    #[inline]
-    fn deref_mut(&mut self) -> &mut T {
-        // SAFETY: the mutex is held, and this is its one guard, borrowed exclusively.
-        unsafe { &mut *self.mutex.value() }
-    }
-}
-
-impl<C: Class, T: ?Sized> Drop for MutexGuard<'_, C, T> {
-    #[inline]
-    fn drop(&mut self) {
-        // SAFETY: each guard is for one lock by its holder, and is dropped once.
-        unsafe { self.holder.release(self.mutex.index()) };
-    }
-}
-
-impl<C: Class, T: ?Sized + fmt::Debug> fmt::Debug for MutexGuard<'_, C, T> {
-    fn fmt(&self, f: &mut fmt::Formatter<'_>) -> fmt::Result {
-        (**self).fmt(f)
-    }
-}
-
-impl<C: Class, T: ?Sized + fmt::Display> fmt::Display for MutexGuard<'_, C, T> {
-    fn fmt(&self, f: &mut fmt::Formatter<'_>) -> fmt::Result {
-        (**self).fmt(f)
-    }
-}
-
 /// As [`MutexGuard`], but it shares the mutex instead of borrowing it: for one that was found while others were locked,
 /// and that nothing else in the body keeps alive. It lives no longer than the borrow of its context, `'x`.
 #[must_use = "the mutex is released as soon as its guard is dropped"]
@@ -153,9 +162,6 @@ pub struct ArcMutexGuard<'x, C: Class, T: ?Sized> {
     holder: Holder,
     of_this_context: PhantomData<&'x ()>,
 }
-
-// SAFETY: threads that share it get `&T`, and clones of the `Arc`, which demands `Send` of T.
-unsafe impl<C: Class, T: ?Sized + Send + Sync> Sync for ArcMutexGuard<'_, C, T> {}
 
 impl<C: Class, T: ?Sized> ArcMutexGuard<'_, C, T> {
     /// # Safety
@@ -170,43 +176,5 @@ impl<C: Class, T: ?Sized> ArcMutexGuard<'_, C, T> {
     #[must_use]
     pub fn mutex(guard: &Self) -> &Arc<Mutex<C, T>> {
         &guard.mutex
-    }
-}
-
-impl<C: Class, T: ?Sized> Deref for ArcMutexGuard<'_, C, T> {
-    type Target = T;
-
-    #[inline]
-    fn deref(&self) -> &T {
-        // SAFETY: the mutex is held, and the guard is borrowed.
-        unsafe { &*self.mutex.value() }
-    }
-}
-
-impl<C: Class, T: ?Sized> DerefMut for ArcMutexGuard<'_, C, T> {
-    #[inline]
-    fn deref_mut(&mut self) -> &mut T {
-        // SAFETY: the mutex is held, and this is its one guard, borrowed exclusively.
-        unsafe { &mut *self.mutex.value() }
-    }
-}
-
-impl<C: Class, T: ?Sized> Drop for ArcMutexGuard<'_, C, T> {
-    #[inline]
-    fn drop(&mut self) {
-        // SAFETY: each guard is for one lock by its holder, and is dropped once. The mutex may be dropped with it, after this.
-        unsafe { self.holder.release(self.mutex.index()) };
-    }
-}
-
-impl<C: Class, T: ?Sized + fmt::Debug> fmt::Debug for ArcMutexGuard<'_, C, T> {
-    fn fmt(&self, f: &mut fmt::Formatter<'_>) -> fmt::Result {
-        (**self).fmt(f)
-    }
-}
-
-impl<C: Class, T: ?Sized + fmt::Display> fmt::Display for ArcMutexGuard<'_, C, T> {
-    fn fmt(&self, f: &mut fmt::Formatter<'_>) -> fmt::Result {
-        (**self).fmt(f)
     }
 }

@@ -1,13 +1,13 @@
 use crate::class::RawClass;
 use crate::context::Context;
-use crate::guard::Holder;
+use crate::guard::{guards, Holder};
 use crate::number::{Handle, Number};
 use crate::{ffi, Class, Error};
 use core::cell::UnsafeCell;
 use core::fmt;
 use core::marker::PhantomData;
 use core::mem::ManuallyDrop;
-use core::ops::{Deref, DerefMut};
+use core::ops::Deref;
 use std::sync::Arc;
 
 /// A mutex around a value that transactions read beside each other ([`Tx::read`](crate::Tx::read)), or one of them writes
@@ -211,45 +211,10 @@ impl<C: Class, T: ?Sized> ArcSharedMutexGuard<'_, C, T> {
     }
 }
 
-macro_rules! writes {
-    ($($guard:ident)*) => { $(
-        // SAFETY: threads that share it get `&T`, and maybe clones of the `Arc`, which demands the same of T.
-        unsafe impl<C: Class, T: ?Sized + Send + Sync> Sync for $guard<'_, C, T> {}
-
-        impl<C: Class, T: ?Sized> Deref for $guard<'_, C, T> {
-            type Target = T;
-
-            #[inline]
-            fn deref(&self) -> &T {
-                // SAFETY: the mutex is held, and the guard is borrowed.
-                unsafe { &*self.mutex.value() }
-            }
-        }
-
-        impl<C: Class, T: ?Sized> DerefMut for $guard<'_, C, T> {
-            #[inline]
-            fn deref_mut(&mut self) -> &mut T {
-                // SAFETY: the mutex is held, nobody reads it, and this is its one guard, borrowed exclusively.
-                unsafe { &mut *self.mutex.value() }
-            }
-        }
-
-        impl<C: Class, T: ?Sized> Drop for $guard<'_, C, T> {
-            #[inline]
-            fn drop(&mut self) {
-                // SAFETY: each guard is for one lock by its holder, and is dropped once.
-                unsafe { self.holder.release(self.mutex.handle.index()) };
-            }
-        }
-
-        impl<C: Class, T: ?Sized + fmt::Debug> fmt::Debug for $guard<'_, C, T> {
-            fn fmt(&self, f: &mut fmt::Formatter<'_>) -> fmt::Result {
-                (**self).fmt(f)
-            }
-        }
-    )* };
-}
-writes!(SharedMutexGuard ArcSharedMutexGuard);
+guards!(SharedMutexGuard ArcSharedMutexGuard => |guard| {
+    // SAFETY: each is for one lock by its holder, and is dropped once.
+    unsafe { guard.holder.release(guard.mutex.handle.index()) }
+});
 
 /// A shared mutex that a transaction reads, to the end of the attempt, and that this keeps, instead of borrowing it
 /// ([`Tx::read_arc`](crate::Tx::read_arc)).

@@ -4,12 +4,11 @@ use super::inner::{Call, Entered, Inner, Later};
 use super::shared::Asked;
 use super::waker::Wakers;
 use crate::events::{Event, Wait, Watch};
+use crate::guard::guards;
 use crate::{ffi, Class, Error, Mutex};
-use core::fmt;
 use core::future::Future;
 use core::marker::PhantomData;
 use core::mem;
-use core::ops::{Deref, DerefMut};
 use core::pin::Pin;
 use core::task::{Poll, Waker};
 use std::sync::Arc;
@@ -219,43 +218,11 @@ impl<'x, C: Class, T: ?Sized> LoneGuard<'x, C, T> {
     }
 }
 
-macro_rules! guards {
-    ($($guard:ident)*) => { $(
-        // SAFETY: it leads to a value that may be sent, and releases its mutex in any thread.
-        unsafe impl<C: Class, T: ?Sized + Send> Send for $guard<'_, C, T> {}
-        // SAFETY: threads that share it get `&T`, and the mutex, which asks for `Send` of T.
-        unsafe impl<C: Class, T: ?Sized + Send + Sync> Sync for $guard<'_, C, T> {}
+// SAFETY: it leads to a value that may be sent, and releases its mutex in any thread.
+unsafe impl<C: Class, T: ?Sized + Send> Send for Guard<'_, C, T> {}
+// SAFETY: likewise; and so may the `Arc`.
+unsafe impl<C: Class, T: ?Sized + Send> Send for ArcGuard<'_, C, T> {}
+// SAFETY: likewise; and so may the context.
+unsafe impl<C: Class, T: ?Sized + Send> Send for LoneGuard<'_, C, T> {}
 
-        impl<C: Class, T: ?Sized> Deref for $guard<'_, C, T> {
-            type Target = T;
-
-            #[inline]
-            fn deref(&self) -> &T {
-                // SAFETY: the mutex is held, and the guard is borrowed.
-                unsafe { &*self.mutex.value() }
-            }
-        }
-
-        impl<C: Class, T: ?Sized> DerefMut for $guard<'_, C, T> {
-            #[inline]
-            fn deref_mut(&mut self) -> &mut T {
-                // SAFETY: the mutex is held, and this is its one guard, borrowed exclusively.
-                unsafe { &mut *self.mutex.value() }
-            }
-        }
-
-        impl<C: Class, T: ?Sized> Drop for $guard<'_, C, T> {
-            #[inline]
-            fn drop(&mut self) {
-                self.inner.release(self.mutex.index());
-            }
-        }
-
-        impl<C: Class, T: ?Sized + fmt::Debug> fmt::Debug for $guard<'_, C, T> {
-            fn fmt(&self, f: &mut fmt::Formatter<'_>) -> fmt::Result {
-                (**self).fmt(f)
-            }
-        }
-    )* };
-}
-guards!(Guard ArcGuard LoneGuard);
+guards!(Guard ArcGuard LoneGuard => |guard| guard.inner.release(guard.mutex.index()));

@@ -5,14 +5,13 @@ use super::lock::Acquire;
 use super::waker::Wakers;
 use super::Tx;
 use crate::class::RawClass;
+use crate::guard::guards;
 use crate::number::Number;
 use crate::{ffi, place, ArcRead, Class, Error, SharedMutex};
 use core::ffi::c_int;
-use core::fmt;
 use core::future::{poll_fn, Future};
 use core::marker::PhantomData;
 use core::mem::ManuallyDrop;
-use core::ops::{Deref, DerefMut};
 use core::ptr;
 use std::sync::Arc;
 
@@ -265,41 +264,4 @@ unsafe impl<C: Class, T: ?Sized + Send> Send for SharedGuard<'_, C, T> {}
 // SAFETY: likewise; and so may the `Arc`.
 unsafe impl<C: Class, T: ?Sized + Send + Sync> Send for ArcSharedGuard<'_, C, T> {}
 
-macro_rules! writes {
-    ($($guard:ident)*) => { $(
-        // SAFETY: threads that share it get `&T`.
-        unsafe impl<C: Class, T: ?Sized + Send + Sync> Sync for $guard<'_, C, T> {}
-
-        impl<C: Class, T: ?Sized> Deref for $guard<'_, C, T> {
-            type Target = T;
-
-            #[inline]
-            fn deref(&self) -> &T {
-                // SAFETY: the mutex is held, and the guard is borrowed.
-                unsafe { &*self.mutex.value() }
-            }
-        }
-
-        impl<C: Class, T: ?Sized> DerefMut for $guard<'_, C, T> {
-            #[inline]
-            fn deref_mut(&mut self) -> &mut T {
-                // SAFETY: the mutex is held, nobody reads it, and this is its one guard, borrowed exclusively.
-                unsafe { &mut *self.mutex.value() }
-            }
-        }
-
-        impl<C: Class, T: ?Sized> Drop for $guard<'_, C, T> {
-            #[inline]
-            fn drop(&mut self) {
-                self.inner.release(self.number.index());
-            }
-        }
-
-        impl<C: Class, T: ?Sized + fmt::Debug> fmt::Debug for $guard<'_, C, T> {
-            fn fmt(&self, f: &mut fmt::Formatter<'_>) -> fmt::Result {
-                (**self).fmt(f)
-            }
-        }
-    )* };
-}
-writes!(SharedGuard ArcSharedGuard);
+guards!(SharedGuard ArcSharedGuard => |guard| guard.inner.release(guard.number.index()));
