@@ -15,32 +15,21 @@ static DEFINE_WD_CLASS(bank);
 static struct account accounts[ACCOUNTS];
 static int ended; /* threads that did all they were to do */
 
-static void swap(struct account **one, struct account **other)
-{
-	struct account *was = *one;
-
-	*one = *other;
-	*other = was;
-}
-
 /* Moves 1, with both locks held: 0, or why it couldn't. */
 static int transfer(struct account *from, struct account *to)
 {
-	struct account *one = from, *other = to;
 	struct ww_acquire_ctx ctx;
-	int r;
+	int r = 0;
 
 	ww_acquire_init(&ctx, &bank);
-	r = ww_number_lock(one->lock, &ctx);
-	while (!r && (r = ww_number_lock(other->lock, &ctx)) == -EDEADLK) { /* an older context has to go first */
-		ww_number_unlock(one->lock, &ctx);
-		r = ww_number_lock(other->lock, &ctx);                      /* waits until that one is done */
-		swap(&one, &other);
+	ww_until_all_locked(&ctx) { /* after -EDEADLK an older context goes first, and this one begins again */
+		r = ww_number_lock(from->lock, &ctx);
+		if (!r)
+			r = ww_number_lock(to->lock, &ctx);
 	}
 	if (!r) {
 		from->money -= 1;
 		to->money += 1;
-		ww_number_unlock(other->lock, &ctx);
 	}
 	ww_acquire_unlock_all(&ctx);
 	ww_acquire_fini(&ctx);
