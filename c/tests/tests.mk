@@ -11,8 +11,8 @@ GUARDS = base admit lock doors whole
 vpath %.c $(GUARDS:%=tests/%)
 vpath %.cpp $(GUARDS:%=tests/%)
 named = $(notdir $(basename $(wildcard $(1))))
-# These have a heap of their own or ask what is resident, end in a way of their own, or load the library twice: no sanitizer.
-ALONE = refuse refuse_class resident exit memory heap blocks copies
+# These have a heap of their own or ask what is resident, end in a way of their own, or have the library twice: no sanitizer.
+ALONE = refuse refuse_class resident exit memory heap blocks copies beside
 TESTS = $(filter-out $(ALONE) closed race,$(call named,$(GUARDS:%=tests/%/*.c)))
 DEBUG_TESTS = $(filter-out ignored,$(call named,tests/debug/*.c))
 EXAMPLES = $(basename $(wildcard examples/*.c))
@@ -141,8 +141,13 @@ $(OUT)/poll_calls_unoptimized $(OUT)/poll_calls_not_inlined: tests/doors/poll_ca
 $(OUT)/many_unseen: tests/whole/many.c $(TESTED) $(OUT)/libww_debug.a
 	$(call compiled)
 # A library that a program closes, as it is and as part of one that isn't kept then.
-$(OUT)/closable.so: tests/admit/closed.c $(TESTED) $(OUT)/libww.a
-	$(CC) $(AS_C) -DCLOSABLE -fPIC -shared $< $(LDFLAGS) -Wl,--whole-archive $(OUT)/libww.a -Wl,--no-whole-archive -pthread -o $@
+$(OUT)/closable.so: tests/admit/closed.c $(TESTED) $(OUT)/ww_proved.o $(SOURCES:%.c=$(OUT)/seen/%.o)
+	$(CC) $(AS_C) -DCLOSABLE -fPIC -shared $< $(LDFLAGS) $(filter %.o,$^) -pthread -o $@
+# A library that needs libww.so, and a program that uses that library, with an own copy.
+$(OUT)/beside.so: tests/admit/beside.c $(TESTED) $(OUT)/libww.so
+	$(CC) $(AS_C) -DLIBRARY -fPIC -shared $< $(LDFLAGS) -L$(OUT) -lww -Wl,-rpath,$(abspath $(OUT)) -pthread -o $@
+$(OUT)/beside: tests/admit/beside.c $(TESTED) $(OUT)/beside.so $(OUT)/libww.a
+	$(call compiled) -Wl,-rpath,$(abspath $(OUT))
 $(OUT)/closed $(OUT)/copies: $(OUT)/%: tests/admit/%.c $(TESTED) | $(OUT)/closable.so $(OUT)/libww.so
 	$(call compiled) -ldl
 
