@@ -471,9 +471,43 @@ static void amid_another(void)
 	MUST(sleeps() == 1 && !ww_class_free(&c));
 }
 
+/* So many contexts are begun without a look at the clock, of the class whose permit it is, and then none. */
+static void so_many_at_once(void)
+{
+	opens(&c, 1);
+	opens(&other, 1);
+	begins_and_ends(&c);
+	for (unsigned k = 0; k < 3; k++) {
+		ww_mine.permit.begins = k;
+		for (unsigned left = k; left; left--) {
+			MUST(!use_permit(other.pool) && use_permit(c.pool));
+			MUST(ww_mine.permit.begins == left - 1);
+		}
+		MUST(!use_permit(c.pool));
+	}
+	MUST(!ww_class_free(&c) && !ww_class_free(&other));
+}
+
+/* A thread whose lease isn't over looks at the crowd only if nobody has the lock of that. */
+static void waits_for_no_lock(void)
+{
+	opens(&c, 1);
+	begins_and_ends(&c);
+	ww_mine.permit.begins = 0;
+	ww_mine.permit.ends = ww_mine.permit.it->ends = ww_now() + FAR;
+	c.pool->crowd.due = 0;
+	pthread_mutex_lock(&c.pool->queue);
+	begins_and_ends(&c);
+	MUST(pthread_mutex_trylock(&c.pool->queue) == EBUSY && !c.pool->crowd.due);
+	pthread_mutex_unlock(&c.pool->queue);
+	MUST(!ww_class_free(&c));
+}
+
 /* A permit of one class is none of another, also for a class that has the memory of one before. */
 static void of_its_class_alone(void)
 {
+	so_many_at_once();
+	waits_for_no_lock();
 	for (unsigned k = 0; k < 20; k++) {
 		opens(&c, 1);
 		opens(&other, 1);

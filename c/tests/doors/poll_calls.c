@@ -434,6 +434,27 @@ static void looks_after_a_wait(void)
 	MUST(!ww_mutex_destroy(&m[0]));
 }
 
+/* No limit is as many as there are. */
+static void as_many_as_there_are(void)
+{
+	struct ww_acquire_ctx both[2];
+	struct ww_seats *tasks = &c->pool->tasks;
+	struct ww_limiter limiter = tasks->limiter;
+
+	ww_mutex_init(&m[0], c);
+	all_in_use(both, 0);
+	tasks->limiter = (struct ww_limiter){
+		.width = 600, .kept = 600, .least = 1, .widest = 448, .most = 896, .many = 32, .holds = 1, .since = 1, .rate = 1,
+		.begun = given(tasks) - 100000,
+	};
+	waits_for_a_lock(both, ww_now());
+	MUST(tasks->limiter.width == NO_LIMIT && tasks->open == tasks->count);
+	tasks->limiter = limiter;
+	tasks->open = 2;
+	end_both(both);
+	MUST(!ww_mutex_destroy(&m[0]));
+}
+
 /* A class isn't freed while a task waits for a context, also if it was called, and none is in use. */
 static void stays_while_one_waits(void)
 {
@@ -464,6 +485,7 @@ static void by_contexts_of_their_own(void)
 	as_many_as_the_limiter_says();
 	begins_within_another();
 	looks_after_a_wait();
+	as_many_as_there_are();
 	stays_while_one_waits();
 	MUST(!ww_class_free(c));
 }
