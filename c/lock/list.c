@@ -3,14 +3,6 @@
 #include "loop.h"
 #include "mutex.h"
 
-/* What a context held before a list, and had to do; the mutex that it owed or had to wait for, or NULL; whether it was by hand. */
-struct before {
-	bool is_by_hand;
-	size_t held;
-	unsigned int tries;
-	struct ww_mutex *contending_lock, *waits_for;
-};
-
 /* Locks each, up to the first one that fails. */
 static inline int lock_each(struct ww_acquire_ctx *x, struct ww_mutex *const *locks, size_t count)
 {
@@ -23,62 +15,84 @@ static inline int lock_each(struct ww_acquire_ctx *x, struct ww_mutex *const *lo
 	return 0;
 }
 
+/* Goes on after an error: it backs off, unless the context held something before, `held`, which it can't release. */
+COLD static int retry(struct ww_acquire_ctx *x, struct ww_mutex *const *locks, size_t count, size_t held, int r)
+{
+	while (r == -EDEADLK && !held) {
+		ww_back_off_(x);
+		r = lock_each(x, locks, count);
+	}
+	return r;
+}
+
+/*
+ * In a loop, or behind a list.  After another error than -EDEADLK all is as it was before, also what the loop had to do: a mutex that
+ * it owed or waited for first is kept, unless the list asked for it.
+ */
+COLD static int lock_further(struct ww_acquire_ctx *x, struct ww_mutex *const *locks, size_t count)
+{
+	size_t held = ww_acquire_mark(x);
+	bool keeps;
+	unsigned int tries = x->state & TRIES;
+	struct ww_mutex *contending_lock = x->contending_lock;
+	struct ww_mutex *owed = tries & WAITS_FIRST ? contending_lock : x->state & IS_PRELOCKED ? x->prelocked : NULL;
+	int r = retry(x, locks, count, held, lock_each(x, locks, count));
+
+	if (!r)
+		return 0;
+	keeps = x->state & IS_PRELOCKED && x->prelocked == owed;
+	for (size_t left = held + (keeps && ww_acquire_mark(x) != x->acquired); x->acquired > left;)
+		(void)release_newest(x);
+	if (r != -EDEADLK) {
+		x->contending_lock = contending_lock;
+		ww_become(x, TRIES | IS_PRELOCKED, keeps ? IS_PRELOCKED | (tries & HAS_TO_BACK_OFF) : tries);
+	}
+	return r;
+}
+
 /*
  * In a large class it fetches the words of all locks but the first into the cache together; otherwise each would come after
  * the step of the lock before.  For a mutex that has no number yet, or is of another class, what is fetched is of no use.
  * (The loads are atomic, since gcc would leave out plain ones that only serve a fetch.)
  */
-static inline void fetch_each(const struct ww_acquire_ctx *x, struct ww_mutex *const *locks, size_t count)
+static inline void begin_list(struct ww_acquire_ctx *x, struct ww_mutex *const *locks, size_t count)
 {
+	begin_loop(x);
+	let_be_older(x);
 	if (UNLIKELY(__atomic_load_n(&x->own->pool->numbers.is_large, __ATOMIC_RELAXED)))
 		for (size_t k = 1; k < count; k++)
 			__builtin_prefetch(words_of(x->own) + 2 * (size_t)__atomic_load_n(&locks[k]->number, __ATOMIC_RELAXED), 1);
 }
 
-/*
- * Goes on after an error: it backs off, unless the context held something before, which it can't release.  After any other error all
- * is as it was before, also what a loop had to do: a mutex that it owed or waited for first is kept, unless the list asked for it.
- */
-COLD static int retry(struct ww_acquire_ctx *x, struct ww_mutex *const *locks, size_t count, const struct before *before, int r)
+/* As before the list, by hand; what a lock call told is gone, but for what a slow lock asks. */
+COLD static int ends_by_hand(struct ww_acquire_ctx *x, struct ww_mutex *contending_lock, int r)
 {
-	size_t left;
-
-	while (r == -EDEADLK && !before->held) {
-		ww_back_off_(x);
-		r = lock_each(x, locks, count);
-	}
-	if (!r)
-		return 0;
-	left = before->held + (ww_acquire_mark(x) != x->acquired && x->prelocked == before->waits_for);
-	while (x->acquired > left)
-		release_newest(x);
-	if (r != -EDEADLK) {
-		x->contending_lock = before->contending_lock;
-		x->gives = before->is_by_hand ? (void *)x->own : x->gives;
-		ww_become(x, TRIES | IS_PRELOCKED, left > before->held ? IS_PRELOCKED : before->tries);
-	}
+	if (r)
+		ww_acquire_unlock_all(x);
+	x->gives = x->own;
+	ww_become(x, TRIES, 0);
+	if (r && r != -EDEADLK)
+		x->contending_lock = contending_lock;
 	return r;
 }
 
 /* From now on the context lists what it holds, unless it holds something that it locked by itself: then it goes on so. */
 int ww_mutex_lock_all(struct ww_acquire_ctx *x, struct ww_mutex *const *locks, size_t count)
 {
-	bool begins = x && phase_of(x) == BY_HAND && !x->acquired;
-	int r = !IS_DEBUG && LIKELY(begins) ? 0 : ww_admit("ww_mutex_lock_all", CALL_LIST, NULL, x, NULL);
-	struct before before;
+	bool is_quick = x && phase_of(x) == BY_HAND && !IS_DEBUG;
+	int r = LIKELY(is_quick) ? 0 : ww_admit("ww_mutex_lock_all", CALL_LIST, NULL, x, NULL);
+	struct ww_mutex *contending_lock;
+	size_t held;
 
 	if (UNLIKELY(r))
 		return r;
-	before = (struct before){ .is_by_hand = !is_loop(x), .contending_lock = x->contending_lock };
-	if (LIKELY(begins)) {
-		begin_loop(x);
-		let_be_older(x);
-	} else {
-		before.held = ww_acquire_mark(x);
-		before.tries = x->state & TRIES;
-		before.waits_for = before.tries & WAITS_FIRST ? x->contending_lock : x->state & IS_PRELOCKED ? x->prelocked : NULL;
-	}
-	fetch_each(x, locks, count);
+	if (UNLIKELY(is_loop(x)))
+		return lock_further(x, locks, count);
+	contending_lock = x->contending_lock;
+	held = x->acquired;
+	begin_list(x, locks, count);
 	r = lock_each(x, locks, count);
-	return LIKELY(!r) ? 0 : retry(x, locks, count, &before, r);
+	if (UNLIKELY(r))
+		r = retry(x, locks, count, held, r);
+	return LIKELY(!r && !held) ? 0 : ends_by_hand(x, contending_lock, r);
 }

@@ -302,8 +302,8 @@ TABLE = {
     # By it others look who uses the seat, which was said before.
     "alone": {"seat_of": "load acq", "note_holder": "store rel", "unlock_alone": "store rlx"},
     # By what lies there before, the words that a list fetches ahead are of no use, and nothing else.
-    "number": {"ww_number_at_first": "store rlx", "fetch_each": "load rlx"},
-    "is_large": {"ww_open_numbers": "store rlx", "find_number": "store rlx", "fetch_each": "load rlx"},
+    "number": {"ww_number_at_first": "store rlx", "begin_list": "load rlx"},
+    "is_large": {"ww_open_numbers": "store rlx", "find_number": "store rlx", "begin_list": "load rlx"},
     # It lies in the place of that, and others see that it is even.
     "older": {"WW_HOLDS_": "store rlx", "enlist": "store rlx", "list_behind": "store rlx, store rlx"},
     "link": {"unlist": "store rlx"},

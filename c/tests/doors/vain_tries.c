@@ -111,6 +111,7 @@ static void upgrades_what_it_waited_for(void)
 	was = x;
 	MUST(!ww_shared_mutex_trylock(&written, &x) && is_same(&was) && written.mutex_.ctx == &x);
 	MUST(!ww_shared_mutex_trylock(&written, &x) && is_same(&was));
+	MUST(ww_shared_mutex_lock_until(&written, &x, &past) == -ETIMEDOUT && is_same(&was) && written.mutex_.ctx == &x);
 	ww_acquire_end_reads(&older);
 	MUST(ww_shared_mutex_trylock(&written, &x) == 1 && x.acquired == 2 && !(x.state & IS_PRELOCKED));
 	MUST(!ww_acquire_end_try(&x) && !x.acquired);

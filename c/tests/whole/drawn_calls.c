@@ -103,7 +103,7 @@ static struct seen looks(void);
 
 static bool is_refusal(const char *call, long r)
 {
-	return r == -EINVAL || r == -EBUSY || r == -EALREADY || (r == 0 && strstr(call, "trylock") && !strchr(call, '?'));
+	return r == -EINVAL || r == -EBUSY || (r == -EALREADY && !strstr(call, "_poll(")) || (r == 0 && strstr(call, "trylock") && !strchr(call, '?'));
 }
 
 /* Makes a call, which is remembered; if it is refused it has changed nothing. */
@@ -773,7 +773,7 @@ static void lock_all(struct task *t)
 	if ((may_wait && !ends && !(t->told && t->count)) || t->first || t->owing != NO_TASK)
 		return; /* tests/lock/loop.c has what a loop waits for first */
 	CALL(r, t, at[0], ww_mutex_lock_all(t->x, list, (size_t)count));
-	ignores = (t->loop || !t->count) && t->flags & WW_IGNORE_DUPLICATES;
+	ignores = t->flags & WW_IGNORE_DUPLICATES;
 	t->slow = false;
 	if (t->told && t->count) {
 		IS(r == -EINVAL || (r == -EALREADY && holds(t, at[0])) || (holds(t, at[0]) && ignores));
@@ -930,6 +930,24 @@ static void ends_wait(struct task *t)
 		is_told(t);
 	else if (r)
 		waits_no_more(t, r, true);
+	if (t->loop && !r) { /* or it had acquired something on its way */
+		t->told = t->told && ww_is_contended(t->x);
+		t->first = t->first && t->x->state & WAITS_FIRST;
+	}
+}
+
+/* In a loop the slot comes to the place of what it is read by from now on, unless it is older. */
+static void moves_behind(struct task *t, int k)
+{
+	int at = 0, slot = 0;
+
+	while (t->held[at] != k)
+		at++;
+	while (t->held[slot] != SLOT)
+		slot++;
+	for (; slot > at; slot--)
+		t->held[slot] = t->held[slot - 1];
+	t->held[slot] = SLOT;
 }
 
 /* It stays written where a task that waits for its slot may have to be polled first. */
@@ -945,6 +963,8 @@ static void downgrade(struct task *t, int k)
 	IS(!writes || t->told || are_slots_awaited());
 	if (!writes) {
 		has_read(t, k);
+		if (t->loop)
+			moves_behind(t, k);
 		lost(t, k);
 	}
 }
