@@ -10,7 +10,7 @@ import sys
 from typing import Any, Callable, Dict, NamedTuple, Optional, Tuple
 
 WOUND_WAIT, WAIT_DIE = 0, 1
-_VERSION = 5
+_VERSION = 6
 _LARGEST = 2**32 - 1
 # Not empty: the debug library takes the place of the other one.
 _DEBUGS = os.environ.get("WW_DEBUG", "") not in ("", "0")
@@ -73,7 +73,6 @@ _CALLS |= {
     "ww_number_at": (_AT, _NUMBER, _AT),
     "ww_number_leave": (None, _NUMBER, _AT),
     "ww_number_unlock": (ctypes.c_int, _NUMBER, _AT),
-    "ww_acquire_flags": (None, _AT, ctypes.c_uint),
     "ww_acquire_mark": (ctypes.c_size_t, _AT),
     "ww_acquire_unlock_to": (None, _AT, ctypes.c_size_t),
     "ww_acquire_end_wait": (ctypes.c_int, _AT),

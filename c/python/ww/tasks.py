@@ -47,7 +47,6 @@ _events: Dict[int, _Event] = {}
 _inherited: List[_Event] = []
 for _kept in _events, _inherited:
     ctypes.pythonapi.Py_IncRef(ctypes.py_object(_kept))
-_LISTED = 8  # WW_LISTED: the context knows all that it holds, so one call releases it.
 # For how many seconds the end of a loop waits at most for threads that are in the middle of a call.
 _PATIENCE = 10
 
@@ -302,7 +301,8 @@ class TaskContext(Holder):
         try:
             if poll(None) != 0:
                 told(await self._wait(poll, until, seek))
-            self._library.ww_acquire_flags(self._at, _LISTED)
+            # As a thread's: so it knows all that it holds, and one call releases that.
+            self._library.ww_tries_begin_(self._at)
             _around.set((weakref.ref(self), within))
         except BaseException:
             self._end()

@@ -727,7 +727,6 @@ static void begins_anew(struct ww_acquire_ctx *ctx)
 {
 	MUST(!ww_acquire_end(ctx) && !ctx->acquired && ww_acquire_end(ctx) == -EINVAL);
 	begins(ctx);
-	ww_acquire_flags(ctx, 8); /* WW_LISTED */
 }
 
 static void is_ended(struct ww_acquire_ctx *ctx, struct ww_acquire_ctx *other)
