@@ -106,6 +106,35 @@ def is_a_lock():
     assert not a.locked()
 
 
+def costs_so_much():
+    """A block, beside that of a threading.Lock; by time of the processor, of several rounds the least."""
+    its, count = made(), 1000
+    a, b, one, other = ww.Mutex(its), ww.Mutex(its), threading.Lock(), threading.Lock()
+
+    def by_locks():
+        for _ in range(count):
+            with one, other:
+                pass
+
+    def by_mutexes():
+        for _ in range(count):
+            with a, b:
+                pass
+
+    def by_contexts():
+        for _ in range(count):
+            with its.context() as context:
+                context.lock(a, b)
+
+    def took(block):
+        began = time.thread_time()
+        block()
+        return time.thread_time() - began
+
+    least = {it: min(took(it) for _ in range(10)) for it in (by_locks, by_mutexes, by_contexts)}
+    assert least[by_mutexes] < 200 * least[by_locks] and least[by_contexts] < 200 * least[by_locks], least
+
+
 def ends_all_waits():
     """A cancel of the class ends each wait, by a context and for one, and those that begin later."""
     its, faults = made(contexts=2), []
@@ -820,6 +849,7 @@ refuses_classes()
 says_why()
 reports_to()
 is_a_lock()
+costs_so_much()
 ends_all_waits()
 debugs()
 is_typed()
