@@ -109,8 +109,9 @@ int32_t ww_first_of_unlock_(void *seat, uint32_t lock) __asm__("ww_unlock_");
 #define WW_WILL_WRITE_(at) __asm__("prfm pstl1keep, [%0]" : : "r"(at))
 #endif
 
-/* A macro, since clang warns of NULL in C++ (-Wzero-as-null-pointer-constant) outside of one. */
+/* Macros, since clang warns of NULL in C++ (-Wzero-as-null-pointer-constant) outside of one. */
 #define WW_HOLDS_NO_MORE_(lock) __atomic_store_n(&(lock)->ctx, NULL, __ATOMIC_RELAXED)
+#define WW_LISTS_NOTHING_(ctx_) ((ctx_)->newest = NULL)
 
 WW_INLINE_ int ww_mutex_lock(struct ww_mutex *lock, struct ww_acquire_ctx *ctx)
 {
@@ -159,7 +160,7 @@ WW_INLINE_ void ww_mutex_unlock(struct ww_mutex *lock)
 	if (__builtin_expect(r != 0, 0))
 		ww_mutex_unlock_further_(lock, ctx, r);
 	else
-		ctx->newest = NULL; /* no loop: so no list names a mutex that isn't held */
+		WW_LISTS_NOTHING_(ctx); /* outside a loop, so that no list names a mutex that isn't held */
 }
 
 WW_INLINE_ bool ww_is_contended(const struct ww_acquire_ctx *ctx)
@@ -169,6 +170,7 @@ WW_INLINE_ bool ww_is_contended(const struct ww_acquire_ctx *ctx)
 
 #undef WW_HOLDS_
 #undef WW_HOLDS_NO_MORE_
+#undef WW_LISTS_NOTHING_
 #undef WW_INLINE_
 #endif
 
