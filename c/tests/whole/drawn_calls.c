@@ -1238,14 +1238,14 @@ static void end_context(struct task *t)
 	bool is_lent = t->of_tasks && draw(2);
 	int r;
 
-	if (t->polled != NOBODY && t->count)
+	if (t->polled != NO_TASK && t->count)
 		return; /* nothing lists what it holds */
 	if (t->of_tasks)
 		seat->lease = is_lent ? UINT64_MAX : 0;
-	if (t->polled != NOBODY || ((t->loop || !t->count) && rarely(3))) {
+	if (t->polled != NO_TASK || ((t->loop || !t->count) && rarely(3))) {
 		CALL(r, t, 0, ww_acquire_end(t->x));
 		IS(!r && ww_acquire_end(t->x) == -EINVAL);
-		t->polled = NOBODY;
+		t->polled = NO_TASK;
 		t->waker = NOT_LENT;
 		lost_all(t);
 	} else if (draw(2) || t->count) {
