@@ -105,9 +105,11 @@ static inline void release_newest_first(struct ww_acquire_ctx *x)
  */
 COLD static void unlocks_no_more(struct ww_acquire_ctx *x)
 {
-	if (x->acquired && !is_polled(x) && holds_slot(x))
+	bool is_left = !is_loop(x) && x->acquired;
+
+	if (is_left && !is_polled(x) && holds_slot(x))
 		(void)ww_unlock_of(&x->own->slot->mutex, x);
-	if (is_polled(x) || x->acquired)
+	if (is_polled(x) || (is_left && x->acquired))
 		end_of(x->own->pool->class_, "ww_acquire_unlock_all", is_polled(x) ? WAITS_BY_POLL :
 		       "outside a loop the context acquired a mutex by number, or before it released another one");
 	if (x->state & (WAITS_FIRST | IS_PRELOCKED)) {
