@@ -287,7 +287,7 @@ bool ww_poll_seat(struct ww_seek *me, const struct ww_waker *otherwise)
 		return true;
 	pthread_mutex_lock(&p->queue);
 	me->waker_ = (struct ww_waker){ 0 };
-	if (me->served_ == CALLED || me->of_->calls)
+	if (me->served_ == CALLED || (me->served_ == WAITS && me->of_->calls))
 		waker = look_for_seat(me->of_, me);
 	if (me->served_ != SERVED && ww_ends_waits(p))
 		waker = hand_to(me->of_, stands_at(me->of_, me), NULL);
