@@ -177,11 +177,12 @@ static bool is_gone(const struct ww_acquire_ctx *x, const struct ww_mutex *m)
 static int wait_first(struct ww_acquire_ctx *x, struct ww_how how)
 {
 	struct ww_mutex *m = x->contending_lock;
-	uint32_t counts = is_of_number(m) && !is_gone(x, m);
+	bool counts = is_of_number(m) && !is_gone(x, m);
 	int r = 0;
 
 	how.visits = is_slot(m);
-	__atomic_fetch_add(&m->waiters, counts, __ATOMIC_SEQ_CST);
+	if (counts)
+		__atomic_fetch_add(&m->waiters, 1, __ATOMIC_SEQ_CST);
 	if (is_gone(x, m))
 		ww_become(x, TRIES, 0);
 	else if (!(r = ww_lock_by(m, x, &how))) {
@@ -194,7 +195,8 @@ static int wait_first(struct ww_acquire_ctx *x, struct ww_how how)
 		else if (goes)
 			(void)ww_unlock_of(m, x);
 	}
-	__atomic_fetch_sub(&m->waiters, counts, __ATOMIC_SEQ_CST);
+	if (counts)
+		__atomic_fetch_sub(&m->waiters, 1, __ATOMIC_SEQ_CST);
 	return r;
 }
 
