@@ -96,6 +96,7 @@ int __wrap_pthread_mutex_lock(pthread_mutex_t *mutex)
 	return __real_pthread_mutex_lock(mutex);
 }
 
+static const struct timespec *sleeps_until;
 long __real_syscall(long number, ...);
 long __wrap_syscall(long number, ...);
 long __wrap_syscall(long number, ...)
@@ -109,6 +110,7 @@ long __wrap_syscall(long number, ...)
 	va_end(list);
 	does_anything_else();
 	slept += at.answer == WW_AWAITS;
+	sleeps_until = (const struct timespec *)words[3];
 	if (asleep) {
 		void (*what)(void) = asleep;
 
@@ -324,6 +326,52 @@ static void in_a_storm(void)
 		end_thread(threads[k]);
 }
 
+/* ---- a thread waits for a context until a time, while its own seat is in use ---- */
+
+static struct ww_acquire_ctx by_own, all_others[MANY_CONTEXTS];
+static struct timespec awaited;
+static bool is_asleep;
+
+static uint64_t of_time(const struct timespec *time) { return (uint64_t)time->tv_sec * 1000000000 + (uint64_t)time->tv_nsec; }
+
+/* It sleeps until that time at most, and at most for a lease, since nobody hands it its own seat, which comes free then. */
+static void sleeps_for_own(void)
+{
+	MUST(of_time(sleeps_until) <= of_time(&awaited) && of_time(sleeps_until) <= ww_now() + LEASE);
+	is_asleep = true;
+	ww_acquire_fini(&by_own);
+}
+
+static void waits_for_its_own(uint64_t soon)
+{
+	struct ww_acquire_ctx x;
+
+	for (is_asleep = false; !is_asleep; asleep = NULL) {
+		uint64_t until = ww_now() + soon;
+
+		awaited = (struct timespec){ .tv_sec = (time_t)(until / 1000000000), .tv_nsec = (long)(until % 1000000000) };
+		asleep = sleeps_for_own;
+		MUST(ww_acquire_init_until(&x, c, &awaited) == (is_asleep ? 0 : -ETIMEDOUT));
+	}
+	by_own = (struct ww_acquire_ctx){ 0 };
+	ww_acquire_fini(&x);
+	ww_acquire_init(&by_own, c);
+}
+
+static void sleeps_until_the_earlier(void)
+{
+	ww_acquire_init(&by_own, c);
+	for (uint32_t k = 0; k < MANY_CONTEXTS; k++)
+		MUST(!ww_acquire_init_checked(&all_others[k], c));
+	for (unsigned k = 0; k < 10; k++) {
+		waits_for_its_own(LEASE / 2);
+		waits_for_its_own((uint64_t)10000000000);
+	}
+	for (uint32_t k = 0; k < MANY_CONTEXTS; k++)
+		ww_acquire_fini(&all_others[k]);
+	ww_acquire_fini(&by_own);
+}
+
 int main(void)
 {
 	for (unsigned kind = 0; kind < 2; kind++) {
@@ -332,6 +380,7 @@ int main(void)
 		waits_in_vain();
 		is_shut_out();
 		is_awaited();
+		sleeps_until_the_earlier();
 		by_processors();
 		is_in_a_cycle();
 		in_a_storm();
