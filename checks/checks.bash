@@ -41,6 +41,16 @@ find_compilers() {
     if has clang "what clang says" && has clang++ "what clang says"; then in_c+=(clang) in_cxx+=(clang++); fi
 }
 
+# copy_of FOLDER PATH..: the sources at these paths, as they stand, into this folder. What is built meanwhile isn't looked at.
+copy_of() {
+    local to=$1 file
+    shift
+    mkdir -p "$to"
+    git ls-files -z -co --exclude-standard -- "$@" | while IFS= read -r -d '' file; do
+        [ ! -e "$file" ] || printf '%s\0' "$file"
+    done | tar --null -T - -cf - | tar -C "$to" -xf -
+}
+
 # The program that a check is given, as its only word, into `program`. The check was called in the folder before this.
 find_program() {
     [ $# = 1 ] || fail "usage: checks/$name PROGRAM"
