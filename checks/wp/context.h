@@ -4,8 +4,8 @@
  * source: lock/context.c
  * proves: ww_begin_by begin ww_acquire_init_checked ww_acquire_init_until ww_acquire_init ww_acquire_done_checked ww_acquire_done
  *	ww_acquire_fini_checked ww_acquire_fini ww_acquire_cancel ww_mutex_is_held_by
- * inlines: is_orphaned_by_fork is_polled phase_of holder_of pool_at open_pool_of stop_rest leave_age owner_in place_among
- *	is_used_here own_seat own_or_before is_of_number
+ * inlines: is_orphaned_by_fork is_polled phase_of holder_of pool_at open_pool_of stop_rest leave_age place_among
+ *	is_used_here own_seat own_or_before is_of_number look_at owner_word owner_of_word this_thread
  */
 #define WP_UNPARKS
 #include "mutex.h"
@@ -55,8 +55,6 @@ int ww_class_open(struct ww_class *c);
 static inline void give_seat(ww_seat *s);
 /*@ assigns unparked; ensures unparked == s; */
 void ww_unpark(ww_seat *s);
-/*@ assigns \nothing; */
-int32_t ww_look_from_outside(struct ww_pool *p, const struct ww_mutex *m);
 
 /* By which seat, if it began. */
 #define BEGAN(began, x, s) \
@@ -143,7 +141,7 @@ static const char *why_unended(struct ww_acquire_ctx *x);
 int ww_acquire_cancel(struct ww_acquire_ctx *x);
 
 /*@ requires \valid_read(m) && (x != \null ==> \valid_read(x) && (x->own != \null ==> is_seat(x->own)));
-    assigns \nothing;
+    assigns ww_mine.thread;
     ensures says: \result && x != \null ==> x->own != \null && m->pool == x->own->pool && (m->ctx == x || (m->waiters & IS_OF_NUMBER) != 0);
     ensures alone: \result && x == \null ==> m->alone != \null; */
 bool ww_mutex_is_held_by(const struct ww_mutex *m, const struct ww_acquire_ctx *x);

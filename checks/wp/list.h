@@ -2,7 +2,7 @@
  * list.h - lists of locks: of each mutex in one, whichever that is.
  *
  * source: lock/list.c
- * proves: lock_each lock_as_loop begin_list ww_mutex_lock_all
+ * proves: lock_each fetch_each retry ww_mutex_lock_all
  * inlines: phase_of is_polled is_loop begin_loop let_be_older share_age
  */
 #include "lock.h"
@@ -10,101 +10,113 @@
 #include "../lock/mutex.h"
 
 #define GONE(x) x->own->pool->gone
+struct before; // of which the notes of loops say what retry asks of it
+#define OWES(x) ((x->state & IS_PRELOCKED) != 0 && lists_owed == 1)
 /*@ ghost
   struct ww_mutex *the_mutex; // it has the_lock
   size_t the_index;	      // and stands in the list that is locked, if there are so many in that
   int had_lock;		      // whether the seat had the_lock before
-  int list_changes;	      // with each call that changes the list of what the context acquired
+  unsigned listed;	      // how many mutexes the context's list has
+  unsigned level;	      // how many the context had when it had just acquired the_mutex; 0: that isn't listed
+  unsigned held_before;	      // how many it had before the call, without one that it owed
+  int lists_owed;	      // whether what it owes is listed
+  struct ww_mutex *owed;      // which mutex it owed before, or waited for first
 */
-/*@ axiomatic Listed { // whether a list that begins there has the_mutex
-	predicate lists(struct ww_mutex *newest, integer changes) reads \nothing;
-	axiom empty: \forall integer changes; !lists(\null, changes);
-    }
-    predicate is_listed(struct ww_acquire_ctx *x) = lists(x->newest, list_changes);
+/*@ // the context's list: in a loop of all that it acquired, by hand maybe of the newest alone
+    predicate is_counted(struct ww_acquire_ctx *x) = level <= x->acquired && listed <= x->acquired && (x->newest == \null <==> listed == 0) &&
+	(level != 0 ==> level > x->acquired - listed) && (loops(x) ==> listed == x->acquired) && (OWES(x) ==> listed > 0);
     predicate is_asked(struct ww_mutex **locks, integer count) = the_index < count && locks[the_index] == the_mutex;
-    // what was acquired since is in the list
-    predicate is_known(struct ww_acquire_ctx *x) = core_has == 0 || had_lock == 1 || is_listed(x) || GONE(x);
+    // it has the_mutex yet to ask for, and had that to do before
+    predicate is_kept(struct ww_acquire_ctx *x) = OWES(x) && x->prelocked == the_mutex && owed == the_mutex && level > 0;
+    // what was acquired since is listed behind all that it had
+    predicate is_known(struct ww_acquire_ctx *x) = core_has == 0 || had_lock == 1 || GONE(x) || is_kept(x) ||
+	level > held_before + (OWES(x) && x->prelocked == owed ? 1 : 0);
     predicate are_locks(struct ww_mutex **locks, size_t count, struct ww_acquire_ctx *x) = \valid_read(locks + (0 .. count - 1)) &&
 	\separated(locks + (0 .. count - 1), x, x->own, x->own->pool);
-    // what the context waits for first, or owes, is one of those that are to be locked yet
-    predicate is_among(struct ww_mutex *m, struct ww_mutex **locks, integer k, integer count) = \exists integer j; k <= j < count && locks[j] == m;
-    predicate is_asked_yet(struct ww_acquire_ctx *x, struct ww_mutex **locks, integer k, integer count) =
-	((x->state & IS_PRELOCKED) != 0 ==> is_among(x->prelocked, locks, k, count)) &&
-	((x->state & WAITS_FIRST) != 0 ==> is_among(x->contending_lock, locks, k, count));
-    predicate is_eased(struct ww_acquire_ctx *x) = (x->state & IS_PRELOCKED) == 0 && (x->state & WAITS_FIRST) == 0;
-    predicate is_told(struct ww_acquire_ctx *x, struct ww_mutex **locks, integer count) = is_among(x->contending_lock, locks, 0, count) &&
-	(loops(x) ==> (x->state & HAS_TO_BACK_OFF) != 0);
     predicate is_user_of(struct ww_acquire_ctx *x) = \valid(x) && x->own != \null && \valid(x->own) && \separated(x, x->own, x->own->pool);
+    // a context that waits for a mutex first holds nothing
+    predicate waits_with_none(struct ww_acquire_ctx *x) = (x->state & WAITS_FIRST) != 0 ==> x->acquired == 0;
 */
+
 /*
  * A lock of any mutex, as mutex.h and loop.h have it.  A context that waits for another mutex first has that, too, and then it is listed,
- * whatever the call returns.  What the mutexes say isn't spoken of, and they lie apart from the array.
+ * whatever the call returns.  What the mutexes say isn't spoken of, and they lie apart from the array.  By hand none is one by number,
+ * which no list would have.
  */
 /*@ requires \valid(x);
-    assigns x->pool, x->acquired, x->state, x->contending_lock, x->puts, x->newest, x->prelocked, x->cancelled, x->own->ages, list_changes, CORE, core_context;
+    assigns x->pool, x->acquired, x->state, x->contending_lock, x->puts, x->newest, x->prelocked, x->cancelled, x->own->ages, listed, level, lists_owed, CORE, core_context;
     ensures took: \result == 0 && m == the_mutex ==> core_has == 1;
     ensures others: core_has == \old(core_has) || core_has == 1;
-    ensures lists: core_has == \old(core_has) || is_listed(x) || GONE(x);
-    ensures stays: \old(lists(x->newest, list_changes)) ==> is_listed(x);
+    ensures counts: x->acquired >= \old(x->acquired) && x->acquired - \old(x->acquired) == listed - \old(listed) && (\old(is_counted(x)) ==> is_counted(x)) && (waits_with_none{Old}(x) ==> waits_with_none(x));
+    // what it acquires it lists, behind what it waited for first
+    ensures lists: core_has == \old(core_has) || GONE(x) ||
+	level > \old(x->acquired) + (OWES(x) && !\old(OWES(x)) && x->prelocked != the_mutex ? 1 : 0);
+    // what was listed stays where it is, unless what was owed is asked for, and put behind all
+    ensures stays: level >= \old(level) || (\old(OWES(x)) && !OWES(x) && level == \old(level) - 1 && level > 0);
+    ensures asked: \old(OWES(x)) && !OWES(x) ==> m == \old(x->prelocked) && (m == the_mutex && core_has == 1 ==> level == x->acquired);
     // only what it owed, or waited for first, it owes, until that is asked for
-    ensures owes: (x->state & IS_PRELOCKED) != 0 ==> (\old((x->state & IS_PRELOCKED) != 0) && x->prelocked == \old(x->prelocked)) ||
-	(\old((x->state & WAITS_FIRST) != 0) && x->prelocked == \old(x->contending_lock));
-    ensures waits: (x->state & WAITS_FIRST) != 0 ==> \old((x->state & WAITS_FIRST) != 0);
-    ensures asked: \result == 0 ==> (x->state & WAITS_FIRST) == 0 && ((x->state & IS_PRELOCKED) != 0 ==> x->prelocked != m);
-    ensures told: \result == -EDEADLK ==> x->contending_lock == m && (loops(x) ==> (x->state & HAS_TO_BACK_OFF) != 0); */
+    ensures owes: OWES(x) ==> (\old(OWES(x)) && x->prelocked == \old(x->prelocked)) ||
+	(\old((x->state & WAITS_FIRST) != 0) && !\old(OWES(x)) && x->prelocked == \old(x->contending_lock) && x->acquired > \old(x->acquired));
+    ensures waits: (x->state & WAITS_FIRST) != 0 ==> \old((x->state & WAITS_FIRST) != 0) && x->contending_lock == \old(x->contending_lock);
+    ensures told: \result == -EDEADLK ==> (loops(x) ==> (x->state & HAS_TO_BACK_OFF) != 0); */
 int ww_mutex_lock(struct ww_mutex *m, struct ww_acquire_ctx *x);
-/* As loop.h has it: what is in the list is released, and nothing else. */
-#define RELEASES(x) \
-	requires \valid(x); \
-	assigns x->pool, x->acquired, x->state, x->newest, x->own->ages, list_changes, CORE; \
-	ensures empty: x->newest == \null; \
-	ensures released: \old(lists(x->newest, list_changes)) ==> core_has == 0 || GONE(x); \
-	ensures others: GONE(x) || core_has == 0 || core_has == \old(core_has)
-/*@ requires loops(x);
-    RELEASES(x);
-    ensures eased: (x->state & WAITS_FIRST) == 0 && (x->state & IS_PRELOCKED) == 0;
-    ensures state: (x->state & ~(WAITS_FIRST | IS_PRELOCKED)) == (\old(x->state) & ~(WAITS_FIRST | IS_PRELOCKED)); */
-void ww_acquire_unlock_all(struct ww_acquire_ctx *x);
+/* As loop.h has it: the newest is released, and nothing else. */
+/*@ requires is_user_of(x) && is_counted(x) && listed > 0;
+    assigns x->acquired, x->newest, listed, level, lists_owed, CORE;
+    ensures counts: x->acquired == \old(x->acquired) - 1 && listed == \old(listed) - 1 && is_counted(x);
+    ensures released: \old(level) == \old(x->acquired) ==> core_has == 0 || GONE(x);
+    ensures others: GONE(x) || core_has == 0 || core_has == \old(core_has);
+    ensures stays: \old(level) != \old(x->acquired) ==> level == \old(level); */
+static inline int release_newest(struct ww_acquire_ctx *x);
 /*@ requires contended: (x->state & HAS_TO_BACK_OFF) != 0;
-    RELEASES(x);
-    ensures state: becomes{Old, Here}(x, (unsigned)~(HAS_TO_BACK_OFF | IS_PRELOCKED), WAITS_FIRST);
-    ensures owes: (x->state & IS_PRELOCKED) == 0; */
+    requires is_user_of(x) && is_counted(x);
+    assigns x->pool, x->acquired, x->state, x->newest, x->own->ages, listed, level, lists_owed, CORE;
+    ensures empty: x->newest == \null && is_counted(x) && (loops(x) ==> x->acquired == 0);
+    ensures released: \old(level) > 0 ==> core_has == 0 || GONE(x);
+    ensures others: GONE(x) || core_has == 0 || core_has == \old(core_has);
+    ensures owes: !OWES(x); */
 void ww_back_off_(struct ww_acquire_ctx *x);
 /*@ requires m == \null;
     assigns \nothing; exits \false;
-    ensures \result <= 0; ensures \result == 0 ==> x != \null && x->own != \null && !loops(x); */
+    ensures \result <= 0; ensures \result == 0 ==> x != \null && x->own != \null && (x->state & IS_POLLED) == 0; */
 int ww_admit(const char *name, enum lock_call call, struct ww_mutex *m, struct ww_acquire_ctx *x, const struct timespec *until);
+/* Without what it owes, if that is listed. */
+/*@ requires is_user_of(x) && is_counted(x);
+    assigns \nothing;
+    ensures \result == x->acquired - (OWES(x) ? 1 : 0); */
+size_t ww_acquire_mark(const struct ww_acquire_ctx *x);
 
-/*@ assigns \nothing; */
-static bool held_before(const struct ww_acquire_ctx *x);
 /*@ requires is_user_of(x);
-    assigns x->newest, x->pool, x->own->ages;
-    ensures begins: x->newest == \null && x->pool == x->own->pool; */
-static inline void begin_list(struct ww_acquire_ctx *x, struct ww_mutex *const *locks, size_t count);
+    assigns \nothing; */
+static inline void fetch_each(const struct ww_acquire_ctx *x, struct ww_mutex *const *locks, size_t count);
 
-#define OF_LIST(x) x->pool, x->acquired, x->state, x->contending_lock, x->puts, x->newest, x->prelocked, x->cancelled, x->own->ages, list_changes, CORE, \
+    assigns x->pool, x->acquired, x->state, x->contending_lock, x->puts, x->newest, x->prelocked, x->cancelled, x->own->ages, listed, level, lists_owed, CORE, core_context;
 	core_context
-/*@ requires is_user_of(x) && are_locks(locks, count, x) && is_known(x) && is_asked_yet(x, locks, 0, count);
+/*@ // what holds between the lock calls of a list
+    predicate goes_on(struct ww_acquire_ctx *x) = is_user_of(x) && is_counted(x) && waits_with_none(x) && is_known(x) &&
+	x->acquired >= held_before + (OWES(x) && x->prelocked == owed ? 1 : 0) && (held_before != 0 ==> (x->state & WAITS_FIRST) == 0 && (OWES(x) ==> x->prelocked == owed)) &&
+	(loops(x) || listed >= x->acquired - held_before); */
+/*@ requires goes_on(x) && are_locks(locks, count, x);
     assigns OF_LIST(x);
-    ensures eased: \result == 0 || is_eased{Old}(x) ==> is_eased(x);
-    ensures told: \result == -EDEADLK ==> is_told(x, locks, count);
+    ensures told: \result == -EDEADLK && loops(x) ==> (x->state & HAS_TO_BACK_OFF) != 0;
     ensures took: \result == 0 && is_asked(locks, count) ==> core_has == 1;
-    ensures known: is_known(x); */
+    ensures known: goes_on(x); */
 static inline int lock_each(struct ww_acquire_ctx *x, struct ww_mutex *const *locks, size_t count);
 
-/* All or nothing: 0 only if the seat has the lock of each, and else none that it hadn't before, unless this is a forked child. */
+/*
+ * All or nothing: 0 only if the seat has the lock of each, and else none that it hadn't before, unless it owed that, or waited for it first;
+ * or this is a forked child.
+ */
 #define ALL_OR_NOTHING(x, locks, count) \
 	ensures took: \result == 0 && is_asked(locks, count) ==> core_has == 1; \
-	ensures none: \result != 0 && had_lock == 0 ==> core_has == 0 || GONE(x)
-/*@ requires is_user_of(x) && are_locks(locks, count, x) && is_known(x);
-    requires by_hand: is_eased(x) && (r == -EDEADLK ==> is_among(x->contending_lock, locks, 0, count));
-    assigns x->gives, x->empty_[0], x->empty_[1], OF_LIST(x);
-    ALL_OR_NOTHING(x, locks, count);
-    ensures exact: r != 0 && r != -EDEADLK ==> \result == r;
-    ensures over: x->gives == (void *)x->own && is_eased(x) && (x->state & HAS_TO_BACK_OFF) == 0; */
-static int lock_as_loop(struct ww_acquire_ctx *x, struct ww_mutex *const *locks, size_t count, int r);
-/*@ requires (x != \null ==> x->own != \null ==> is_user_of(x) && are_locks(locks, count, x)) && had_lock == core_has &&
-	(core_has == 0 || core_has == 1);
-    requires by_hand: x != \null ==> !loops(x) ==> is_eased(x);
+	ensures none: \result != 0 && had_lock == 0 ==> core_has == 0 || GONE(x) || the_mutex == owed
+/*@ requires goes_on(x) && are_locks(locks, count, x) && r != 0;
+    requires told: r == -EDEADLK && held_before == 0 ==> loops(x) && (x->state & HAS_TO_BACK_OFF) != 0;
+    assigns OF_LIST(x);
+    ALL_OR_NOTHING(x, locks, count); */
+static int retry(struct ww_acquire_ctx *x, struct ww_mutex *const *locks, size_t count, const struct before *before, int r);
+/*@ requires x != \null ==> x->own != \null ==> is_user_of(x) && is_counted(x) && waits_with_none(x) && are_locks(locks, count, x);
+    requires had_lock == core_has && (core_has == 0 || core_has == 1) && (x != \null ==> x->acquired == 0 ==> core_has == 0);
+    requires by_hand: x != \null ==> !loops(x) ==> x->gives == (void *)x->own && (x->state & WAITS_FIRST) == 0 && !OWES(x);
     ALL_OR_NOTHING(x, locks, count); */
 int ww_mutex_lock_all(struct ww_acquire_ctx *x, struct ww_mutex *const *locks, size_t count);

@@ -25,11 +25,15 @@
 
     // in ww_until_all_locked, in a list, or behind these
     predicate loops(struct ww_acquire_ctx *x) = x->gives == (void *)x->empty_;
-    // the mutex says that it is the context's, whose list has it; or that it is the seat's
-    predicate says{A, B}(struct ww_mutex *m, struct ww_acquire_ctx *x) = loops{B}(x) || (\at(m->waiters, A) & (1 << 29)) == 0 ==>
-	\at(m->ctx, B) == x;
+    // outside of these a mutex by number doesn't say its context, and no list has it
+    predicate is_noted{A, B}(struct ww_mutex *m, struct ww_acquire_ctx *x) = loops{B}(x) || (\at(m->waiters, A) & (1 << 29)) == 0;
+    // any other says that it is the context's, whose list has it; or that it is the seat's
+    predicate says{A, B}(struct ww_mutex *m, struct ww_acquire_ctx *x) = is_noted{A, B}(m, x) ==> \at(m->ctx, B) == x;
+    predicate newest{A, B}(struct ww_mutex *m, struct ww_acquire_ctx *x) = is_noted{A, B}(m, x) ? \at(x->newest, B) == m :
+	\at(x->newest, B) == \at(x->newest, A);
+    predicate older{A, B}(struct ww_mutex *m, struct ww_acquire_ctx *x) = is_noted{A, B}(m, x) ==> \at(m->older, B) == \at(x->newest, A);
     predicate listed{A, B}(struct ww_mutex *m, struct ww_acquire_ctx *x) = \at(x->acquired, B) == (unsigned)(\at(x->acquired, A) + 1) &&
-	\at(x->newest, B) == m && \at(m->older, B) == \at(x->newest, A);
+	newest{A, B}(m, x) && older{A, B}(m, x);
     predicate says_seat(struct ww_mutex *m, ww_seat *s) = m->ctx == \null && m->alone == (void *)((char *)s + 1);
     predicate unlisted{A, B}(struct ww_acquire_ctx *x) = \at(x->acquired, A) == \at(x->acquired, B) && \at(x->newest, A) == \at(x->newest, B);
 
@@ -41,7 +45,7 @@
     // .. it tells of a deadlock only if the core did, at this lock; ..
     predicate told{A, B}(struct ww_mutex *m, struct ww_acquire_ctx *x, integer r) =
 	r == -EDEADLK ==> \at(core_told, B) == 1 && \at(core_told_of, B) == \at(m->number, B) && \at(core_holds, B) > 0 &&
-		x != \null && \at(x->contending_lock, B) == m && \at(x->state, B) == (\at(x->state, A) | IS_TOLD);
+		x != \null && \at(x->contending_lock, B) == m && \at(x->state, B) == ((\at(x->state, A) | IS_TOLD) & (unsigned)~WAS_TOLD);
     // .. it fails only if the seat has what it had, and the context's list says so; ..
     predicate refused{A, B}(struct ww_acquire_ctx *x, integer r) = r != 0 ==> same_held{A, B} && (x != \null ==> unlisted{A, B}(x));
     // .. and no call is on its way, unless that is what it returns, or an earlier one was
@@ -113,8 +117,8 @@ static inline void ww_make_cancel_pending(ww_seat *s);
     ensures took: took(\result);
     ensures says: x != \null && \result == 0 && !visits ==> says{Old, Here}(m, x);
     ensures counts: x != \null && \result == 0 && !visits ==> x->acquired == (unsigned)(\old(x->acquired) + 1);
-    ensures newest: x != \null && \result == 0 && !visits ==> x->newest == m;
-    ensures older: x != \null && \result == 0 && !visits ==> m->older == \old(x->newest);
+    ensures newest: x != \null && \result == 0 && !visits ==> newest{Old, Here}(m, x);
+    ensures older: x != \null && \result == 0 && !visits ==> older{Old, Here}(m, x);
     ensures says_seat: x == \null && \result == 0 && !visits ==> says_seat(m, s);
     ensures told: told{Old, Here}(m, x, \result);
     ensures refused: refused{Old, Here}(x, \result);
@@ -138,8 +142,8 @@ static int lock_ends(struct ww_mutex *m, struct ww_acquire_ctx *x, ww_seat *s, i
     ensures took: took(\result);
     ensures says: x != \null && \result == 0 && !wait->how->visits ==> says{Old, Here}(m, x);
     ensures counts: x != \null && \result == 0 && !wait->how->visits ==> x->acquired == (unsigned)(\old(x->acquired) + 1);
-    ensures newest: x != \null && \result == 0 && !wait->how->visits ==> x->newest == m;
-    ensures older: x != \null && \result == 0 && !wait->how->visits ==> m->older == \old(x->newest);
+    ensures newest: x != \null && \result == 0 && !wait->how->visits ==> newest{Old, Here}(m, x);
+    ensures older: x != \null && \result == 0 && !wait->how->visits ==> older{Old, Here}(m, x);
     ensures says_seat: x == \null && \result == 0 && !wait->how->visits ==> says_seat(m, s);
     ensures told: told{Old, Here}(m, x, \result);
     ensures keeps: \result != 0 ==> same_held{Old, Here};
@@ -160,8 +164,8 @@ static int wait_on(struct ww_mutex *m, struct ww_acquire_ctx *x, ww_seat *s, int
     ensures took: took(\result);
     ensures says: x != \null && \result == 0 && !how->visits ==> says{Old, Here}(m, x);
     ensures counts: x != \null && \result == 0 && !how->visits ==> x->acquired == (unsigned)(\old(x->acquired) + 1);
-    ensures newest: x != \null && \result == 0 && !how->visits ==> x->newest == m;
-    ensures older: x != \null && \result == 0 && !how->visits ==> m->older == \old(x->newest);
+    ensures newest: x != \null && \result == 0 && !how->visits ==> newest{Old, Here}(m, x);
+    ensures older: x != \null && \result == 0 && !how->visits ==> older{Old, Here}(m, x);
     ensures says_seat: x == \null && \result == 0 && !how->visits ==> says_seat(m, s);
     ensures told: told{Old, Here}(m, x, \result);
     ensures keeps: \result != 0 ==> same_held{Old, Here};
@@ -212,12 +216,14 @@ int ww_release_on(ww_seat *s, int r);
     ensures exact: \result == 0 || (\result == -EINVAL && core_has == 0) || (\result == -EBUSY && !rests); */
 static inline int unlock_by(struct ww_mutex *m, ww_seat *s);
 
-/*@ requires is_mutex(m) && x != \null && is_caller(x, x->own) && apart(m, x, x->own) && !loops(x);
-    assigns m->ctx, x->acquired, OF_SEAT(x->own), CORE;
-    ensures released: \result == 0 ==> x->own->pool->gone || (core_has == 0 && core_holds == \old(core_holds) - 1 && rests);
+/* Of any mutex, by hand: it cuts the list, so that this has only what the context holds. */
+/*@ requires \valid(m) && x != \null && is_caller(x, x->own) && apart(m, x, x->own) && !loops(x);
+    assigns m->ctx, x->acquired, x->newest, OF_SEAT(x->own), CORE;
+    ensures released: \result == 0 ==> x->own->pool->gone || (less_held{Old, Here}(m->number) && rests);
     ensures kept: \result != 0 ==> same{Old, Here};
-    ensures held: \old(core_has) == 1 && rests{Old} ==> \result == 0;
+    ensures held: m->number == the_lock && \old(core_has) == 1 && rests{Old} ==> \result == 0;
     ensures says: m->ctx == \null && x->acquired == (unsigned)(\old(x->acquired) - 1);
+    ensures cuts: x->newest == \null;
     ensures child: !rests{Old} && x->own->pool->gone ==> \result == 0; */
 int ww_unlock_of(struct ww_mutex *m, struct ww_acquire_ctx *x);
 

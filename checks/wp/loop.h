@@ -2,8 +2,8 @@
  * loop.h - contexts in loops: the list of what they acquired, and what releases all of it.
  *
  * source: lock/loop.c
- * proves: ww_become unlist release_newest_first ww_acquire_unlock_all ww_back_off_ ww_accept_held ww_result_in_loop
- * inlines: is_orphaned_by_fork is_loop owes_it enlist unlock_unlisted ww_is_contended
+ * proves: ww_become unlist release_newest release_newest_first ww_acquire_unlock_all ww_back_off_ ww_accept_held ww_result_in_loop
+ * inlines: is_orphaned_by_fork is_loop owes_it enlist unlock_unlisted ww_is_contended is_polled holds_slot holder_of
  */
 #include "mutex.h"
 
@@ -12,20 +12,28 @@
     axiomatic Members {
 	predicate is_member(struct ww_mutex *m) reads \nothing;
 	predicate is_ahead(struct ww_mutex *m) reads \nothing;
+	logic integer behind(struct ww_mutex *m) reads \nothing; // how many the list has from there on
 	logic integer word(void *at) reads \nothing; // which word of a member lies there
     }
     axiomatic Bits { // where two bits are 0 together, each is: CVC4 isn't told what a bit is
-	axiom both: \forall integer state; (state & (WAITS_FIRST | IS_PRELOCKED)) == 0 ==> (state & WAITS_FIRST) == 0 &&
-		(state & IS_PRELOCKED) == 0;
+	axiom both: \forall integer state; ((state & (WAITS_FIRST | IS_PRELOCKED)) == 0 ==> (state & WAITS_FIRST) == 0 &&
+		(state & IS_PRELOCKED) == 0) && ((state & (WAITS_FIRST | IS_PRELOCKED | IS_POLLED)) == 0 ==>
+		(state & (WAITS_FIRST | IS_PRELOCKED)) == 0 && (state & IS_POLLED) == 0);
     }
     predicate are_apart(struct ww_acquire_ctx *x, ww_seat *s, struct ww_pool *p) = \forall struct ww_mutex *m; is_member(m) ==>
 	m != \null && \separated(m, x, s, p) && word(&m->ctx) == 1 && word(&m->older) == 2;
     predicate goes_on = \forall struct ww_mutex *m; is_member(m) ==> (m->older == \null || is_member(m->older)) &&
+	behind(m) == (m->older == \null ? 1 : behind(m->older) + 1) && behind(m) > 0 &&
 	(is_ahead(m) ==> m == the_mutex || (m->older != \null && is_ahead(m->older)));
     predicate has_ahead(struct ww_acquire_ctx *x) = x->newest != \null && is_ahead(x->newest);
     predicate has_members(struct ww_acquire_ctx *x) = (x->newest == \null || is_member(x->newest)) && goes_on &&
 	are_apart(x, x->own, x->own->pool) && is_member(the_mutex) && the_mutex->number == the_lock &&
 	\separated(the_mutex, x, x->own, x->own->pool);
+    // its own slot, by which it reads, is no part of anything else
+    predicate has_slot(ww_seat *s, struct ww_acquire_ctx *x) = s->slot != \null ==> \valid(&s->slot->mutex) &&
+	\separated(&s->slot->mutex, x, s, s->pool) && (&s->slot->mutex == the_mutex || \separated(&s->slot->mutex, the_mutex));
+    // the list has all that the context acquired
+    predicate is_whole(struct ww_acquire_ctx *x) = x->acquired == (x->newest == \null ? 0 : behind(x->newest));
     predicate older_stays{A, B} = \forall struct ww_mutex *m; is_member(m) ==> \at(m->older, A) == \at(m->older, B);
 */
 #define GONE(x) x->own->pool->gone
@@ -39,14 +47,30 @@
 	ensures fixed: the_mutex == \old(the_mutex) && the_lock == \old(the_lock) && the_seat == \old(the_seat); \
 	ensures others: GONE(x) || core_has == 0 || \old(core_has) == core_has; \
 	ensures seat: x->own == \old(x->own) && x->own->pool == \old(x->own->pool)
+/* Of the newest, whichever that is. */
+/*@ requires is_user_of(x) && has_members(x) && x->newest != \null;
+    assigns x->newest, x->acquired, x->newest->ctx, OF_SEAT(x->own), CORE;
+    ensures newest: x->newest == \old(x->newest->older);
+    ensures says: \old(x->newest)->ctx == \null;
+    ensures older: older_stays{Old, Here};
+    ensures counts: x->acquired == (unsigned)(\old(x->acquired) - 1);
+    ensures released: \result == 0 ==> GONE(x) || (less_held{Old, Here}(\old(x->newest->number)) && rests);
+    ensures kept: \result != 0 ==> same{Old, Here};
+    ensures held: \old(x->newest->number) == the_lock && \old(core_has) == 1 && rests{Old} ==> \result == 0; */
+static inline int release_newest(struct ww_acquire_ctx *x);
 /*@ RELEASES(x);
-    ensures state: x->state == \old(x->state); */
+    ensures state: x->state == \old(x->state);
+    ensures user: is_user_of(x) && x->gives == \old(x->gives);
+    ensures whole: is_whole{Old}(x) ==> x->acquired == 0;
+    ensures slot: has_slot{Old}(x->own, x) ==> has_slot(x->own, x); */
 static inline void release_newest_first(struct ww_acquire_ctx *x);
-/* Outside of loops, of which nothing is spoken here. */
-/*@ requires !loops(x); */
-static void release_by_numbers(struct ww_acquire_ctx *x);
-/*@ requires loops(x);
+/*
+ * By hand, too, what is listed is released: there that is what the context acquired since its last unlock, and not by number.  Who comes
+ * back has released all that it acquired.  In a loop that is all.
+ */
+/*@ requires has_slot(x->own, x) && (loops(x) ==> is_whole(x));
     RELEASES(x);
+    ensures all: x->acquired == 0 && (x->state & IS_POLLED) == 0;
     ensures eased: (x->state & WAITS_FIRST) == 0 && (x->state & IS_PRELOCKED) == 0;
     ensures state: (x->state & ~(WAITS_FIRST | IS_PRELOCKED)) == (\old(x->state) & ~(WAITS_FIRST | IS_PRELOCKED)); */
 void ww_acquire_unlock_all(struct ww_acquire_ctx *x);

@@ -2,12 +2,13 @@
  * mutex.h - the calls of ww_mutex.h that lock and unlock, by a context outside of loops, and by none.
  *
  * source: lock/mutex.c
- * proves: phase_of check_call draw_age_by_hand ww_admit ww_lock_as ww_mutex_lock_else_ ww_mutex_lock_further_ ww_lock_slowly
+ * proves: phase_of ww_mutex_is_locked check_call draw_age_by_hand ww_admit ww_lock_as ww_mutex_lock_else_ ww_mutex_lock_further_ ww_lock_slowly
  *	slowly_or_report ww_mutex_lock_slow_checked ww_mutex_lock_slow ww_mutex_lock_slow_until ww_mutex_lock_slow_interruptible
  *	lock_by_seat lock_alone_on lock_by_any lock_alone ww_mutex_lock_alone_ ww_mutex_lock ww_mutex_lock_until
  *	ww_mutex_lock_interruptible try_alone ww_try_by try_admitted ww_mutex_trylock_else_ ww_mutex_trylock ww_mutex_trylock_checked
  *	unlock_alone_on unlock_alone ww_mutex_unlock_checked ww_mutex_unlock ww_mutex_unlock_else_ ww_mutex_unlock_further_
  * inlines: is_orphaned_by_fork holder_of pool_at is_polled fits stop_rest end_unless_unlocked is_loop note_user
+ *	look_at owner_word this_thread
  */
 #include "lock.h"
 #include "../lock/loop.h"
@@ -38,6 +39,8 @@
     ensures is_called(m) && (\result == 0 ==> m->pool != \null);
     ensures \result == 0 || \result == -EINVAL || \result == -ENOSPC || \result == -ENOMEM; */
 int ww_number_at_first(struct ww_mutex *m);
+/*@ assigns ww_mine.thread; exits \false; */
+void ww_number_thread(void);
 /*@ assigns \nothing; exits \false; */
 struct ww_class *ww_find_class_of(const struct ww_mutex *m);
 /*@ assigns \nothing; exits \false; */
@@ -77,7 +80,7 @@ static inline void give_seat(ww_seat *s);
     assigns \nothing;
     ensures \result != \null ==> m->alone == (void *)((char *)\result + 1) && is_seat(\result) && \separated(m, \result, \result->pool); */
 static inline ww_seat *seat_of(const struct ww_mutex *m);
-/*@ assigns \nothing; */
+/*@ requires \valid_read(m); assigns \nothing; */
 bool ww_mutex_is_locked(struct ww_mutex *m);
 
 /* ---- lock calls that succeed without a step, and what a loop has to do then ---- */
@@ -116,8 +119,9 @@ int ww_lock_in_loop(struct ww_mutex *m, struct ww_acquire_ctx *x, const struct w
 /*@ requires \valid_read(x);
     assigns \nothing; exits \false;
     ensures x->own == \null <==> \result == HAS_ENDED;
-    ensures loops: loops(x) && x->own != \null && (void *)x->own != (void *)x->empty_ ==> \result >= LOOP_EASE;
-    ensures !loops(x) && \result != HAS_ENDED && \result != IN_POLL && x->gives == (void *)x->own ==> (x->state & IS_POLLED) == 0; */
+    ensures polled: x->own != \null && (x->state & IS_POLLED) != 0 <==> \result == IN_POLL;
+    ensures hand: x->own != \null && (x->state & IS_POLLED) == 0 && x->gives == (void *)x->own <==> \result == BY_HAND;
+    ensures owes: \result == LOOP_OWES ==> (x->state & IS_PRELOCKED) != 0; */
 static inline enum phase phase_of(const struct ww_acquire_ctx *x);
 
 /*@ requires is_called(m) && (x != \null ==> is_any_context(x, m)) && is_when(until) && \valid(why) && (m != \null ==> \separated(why, m));
@@ -126,9 +130,8 @@ static inline enum phase phase_of(const struct ww_acquire_ctx *x);
     ensures is_called(m);
     ensures number: m != \null && \old(m->pool) != \null ==> m->number == \old(m->number) && the_lock == \old(the_lock);
     ensures mutex: \result == 0 && call != CALL_LIST ==> m != \null && m->pool != \null;
-    ensures context: \result == 0 && x != \null ==> x->own != \null && (x->gives == (void *)x->own ==> (x->state & IS_POLLED) == 0);
+    ensures context: \result == 0 && x != \null ==> x->own != \null && (x->state & IS_POLLED) == 0;
     ensures alone: \result == 0 && x == \null ==> call == CALL_ALONE;
-    ensures list: \result == 0 && call == CALL_LIST && x != \null ==> !loops(x);
     ensures fails: \result <= 0 && \result != -EDEADLK; */
 static int check_call(enum lock_call call, struct ww_mutex *m, const struct ww_acquire_ctx *x, const struct timespec *until, const char **why);
 
@@ -144,9 +147,8 @@ static void draw_age_by_hand(struct ww_acquire_ctx *x);
     ensures is_called(m);
     ensures number: m != \null && \old(m->pool) != \null ==> m->number == \old(m->number) && the_lock == \old(the_lock);
     ensures mutex: \result == 0 && call != CALL_LIST ==> m != \null && m->number == the_lock;
-    ensures context: \result == 0 && x != \null ==> x->own != \null && (x->gives == (void *)x->own ==> (x->state & IS_POLLED) == 0);
+    ensures context: \result == 0 && x != \null ==> x->own != \null && (x->state & IS_POLLED) == 0;
     ensures alone: \result == 0 && x == \null ==> call == CALL_ALONE;
-    ensures list: \result == 0 && call == CALL_LIST && x != \null ==> !loops(x);
     ensures fails: \result <= 0 && \result != -EDEADLK; */
 int ww_admit(const char *name, enum lock_call call, struct ww_mutex *m, struct ww_acquire_ctx *x, const struct timespec *until);
 
@@ -166,8 +168,8 @@ int ww_admit(const char *name, enum lock_call call, struct ww_mutex *m, struct w
 	ensures mutex: \result == 0 ==> m != \null && x != \null && m->number == the_lock; \
 	ensures says: \result == 0 ==> says{Old, Here}(m, x); \
 	ensures counts: \result == 0 ==> x->acquired == (unsigned)(\old(x->acquired) + 1); \
-	ensures newest: \result == 0 ==> x->newest == m; \
-	ensures older: \result == 0 ==> m->older == \old(x->newest); \
+	ensures newest: \result == 0 ==> newest{Old, Here}(m, x); \
+	ensures older: \result == 0 ==> older{Old, Here}(m, x); \
 	ensures told: told{Old, Here}(m, x, \result); \
 	ensures keeps: \result != 0 ==> same_held{Old, Here}; \
 	ensures keeps_list: \result != 0 && x != \null ==> unlisted{Old, Here}(x)
@@ -262,8 +264,8 @@ int ww_mutex_lock_alone_(struct ww_mutex *m);
     ensures took: x != \null ==> took(\result);
     ensures says: x != \null && \result == 0 ==> says{Old, Here}(m, x);
     ensures counts: x != \null && \result == 0 ==> x->acquired == (unsigned)(\old(x->acquired) + 1);
-    ensures newest: x != \null && \result == 0 ==> x->newest == m;
-    ensures older: x != \null && \result == 0 ==> m->older == \old(x->newest);
+    ensures newest: x != \null && \result == 0 ==> newest{Old, Here}(m, x);
+    ensures older: x != \null && \result == 0 ==> older{Old, Here}(m, x);
     ensures told: x != \null ==> told{Old, Here}(m, x, \result);
     ensures keeps: x != \null && \result != 0 ==> same_held{Old, Here};
     ensures keeps_list: x != \null && \result != 0 ==> unlisted{Old, Here}(x);
@@ -336,6 +338,7 @@ static inline int unlock_alone(struct ww_mutex *m);
 /*@ requires is_mutex(m) && (m->ctx == \null ? seat_taken == 1 : \valid(m->ctx) && \separated(m, m->ctx) && !loops(m->ctx) &&
 	(m->ctx->own != \null ==> is_seat(m->ctx->own) && apart(m, m->ctx, m->ctx->own)));
     ensures released: \result == 0 && \old(m->ctx) != \null ==> core_has == 0 || \old(m->ctx)->own->pool->gone;
+    ensures cuts: \result == 0 && \old(m->ctx) != \null ==> \old(m->ctx)->newest == \null;
     ensures released_alone: \result == 0 && \old(m->ctx) == \null ==> core_has == 0 || in_child;
     ensures alone: \result == 0 && \old(m->ctx) == \null ==> m->alone == \null && seat_taken == 0;
     ensures kept: \result != 0 ==> same{Old, Here}; */
@@ -343,6 +346,7 @@ int ww_mutex_unlock_checked(struct ww_mutex *m);
 /*@ requires is_mutex(m) && (m->ctx == \null ? seat_taken == 1 : \valid(m->ctx) && \separated(m, m->ctx) && !loops(m->ctx) &&
 	is_seat(m->ctx->own) && apart(m, m->ctx, m->ctx->own) && m->ctx->gives == (void *)m->ctx->own);
     ensures released: \old(m->ctx) != \null ==> core_has == 0 || \old(m->ctx)->own->pool->gone;
+    ensures cuts: \old(m->ctx) != \null ==> \old(m->ctx)->newest == \null;
     ensures released_alone: \old(m->ctx) == \null ==> core_has == 0 || in_child;
     ensures alone: \old(m->ctx) == \null ==> m->alone == \null && seat_taken == 0; */
 void ww_mutex_unlock(struct ww_mutex *m);
@@ -357,5 +361,6 @@ void ww_mutex_unlock_else_(struct ww_mutex *m);
     requires r > 0 ==> core_call == UNLOCKS && core_of == the_lock && holds(the_lock);
     requires r == -EINVAL ==> lacks(the_lock) && rests;
     assigns CHANGES(m, x);
-    ensures released: core_has == 0 || x->own->pool->gone; */
+    ensures released: core_has == 0 || x->own->pool->gone;
+    ensures cuts: x->newest == \null; */
 void ww_mutex_unlock_further_(struct ww_mutex *m, struct ww_acquire_ctx *x, int r);

@@ -34,6 +34,9 @@ L:	w_core(NO_CALL, 1, 2, 0);
 	w_context.acquired++;
 	/*@ assert has_took: took(0); */
 	/*@ assert has_says: says{L, Here}(&w_mutex, &w_context); */
+	/*@ assert has_is_noted: !loops(&w_context) && w_mutex.waiters == 0; */
+	/*@ assert has_newest: newest{L, Here}(&w_mutex, &w_context); */
+	/*@ assert has_older: older{L, Here}(&w_mutex, &w_context); */
 	/*@ assert has_listed: listed{L, Here}(&w_mutex, &w_context); */
 	/*@ assert has_said: said{L, Here}(&w_mutex, &w_context, &w_seat, 0, 0); */
 	/*@ assert has_ended: ended{L, Here}(&w_seat, 0); */
@@ -45,7 +48,7 @@ void witness_refusals(void)
 	w_locks(NO_CALL, 0);
 L:	w_core(NO_CALL, 0, 1, 1);
 	w_context.contending_lock = &w_mutex;
-	w_context.state |= IS_TOLD;
+	w_context.state = (w_context.state | IS_TOLD) & ~(unsigned)WAS_TOLD;
 	/*@ assert has_unlisted: unlisted{L, Here}(&w_context); */
 	/*@ assert has_refused: refused{L, Here}(&w_context, -EDEADLK); */
 	/*@ assert has_told: told{L, Here}(&w_mutex, &w_context, -EDEADLK); */

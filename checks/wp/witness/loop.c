@@ -16,7 +16,7 @@ static void w_loops(int state)
 
 #define ONE_NODE nodes == 1 && node(0) == &w_mutex && node(1) == \null && place(\null) == 1 && place(&w_mutex) == 0
 #define ONE_MEMBER (\forall struct ww_mutex *m; is_member(m) <==> m == &w_mutex) && (\forall struct ww_mutex *m; is_ahead(m) <==> m == &w_mutex) && \
-	word(&w_mutex.ctx) == 1 && word(&w_mutex.older) == 2
+	behind(&w_mutex) == 1 && word(&w_mutex.ctx) == 1 && word(&w_mutex.older) == 2
 
 /*@ requires ONE_NODE; */
 void witness_list(void)
@@ -47,8 +47,10 @@ void witness_accept_held(void) { w_loops(0); /*@ assert here: node(0)->older == 
 /*@ requires ONE_NODE; */
 void witness_result(void) { w_loops(0); /*@ assert here: node(0)->older == node(1); */ /*@ check never: \false; */ ww_result_in_loop(&w_mutex, &w_context, 0); }
 /*@ requires ONE_MEMBER; */
+void witness_newest(void) { w_loops(0); /*@ check never: \false; */ release_newest(&w_context); }
+/*@ requires ONE_MEMBER; */
 void witness_release(void) { w_loops(0); /*@ check never: \false; */ release_newest_first(&w_context); }
 /*@ requires ONE_MEMBER; */
-void witness_unlock_all(void) { w_loops(0); /*@ check never: \false; */ ww_acquire_unlock_all(&w_context); }
+void witness_unlock_all(void) { w_loops(0); w_context.acquired = 1; /*@ assert has_is_whole: is_whole(&w_context); */ /*@ assert has_has_slot: has_slot(&w_seat, &w_context); */ /*@ check never: \false; */ ww_acquire_unlock_all(&w_context); }
 /*@ requires ONE_MEMBER; */
 void witness_back_off(void) { w_loops(HAS_TO_BACK_OFF); /*@ assert bit: (w_context.state & HAS_TO_BACK_OFF) != 0; */ /*@ check never: \false; */ ww_back_off_(&w_context); }

@@ -85,6 +85,7 @@ void witness_trylock_else(void) { w_by_context(); /*@ check never: \false; */ ww
 void witness_try_admitted(void) { w_by_context(); /*@ check never: \false; */ try_admitted(&w_mutex, &w_context, 0); }
 void witness_try_by(void) { w_by_context(); /*@ check never: \false; */ ww_try_by(&w_mutex, &w_context); }
 void witness_phase_of(void) { w_by_context(); /*@ check never: \false; */ phase_of(&w_context); }
+void witness_is_locked(void) { w_by_context(); /*@ check never: \false; */ ww_mutex_is_locked(&w_mutex); }
 void witness_check_call(void) { const char *why; w_by_context(); /*@ check never: \false; */ check_call(CALL_LOCK, &w_mutex, &w_context, NULL, &why); }
 void witness_draw_age(void) { w_by_context(); /*@ check never: \false; */ draw_age_by_hand(&w_context); }
 void witness_admit(void) { w_by_context(); /*@ check never: \false; */ ww_admit("", CALL_LOCK, &w_mutex, &w_context, NULL); }

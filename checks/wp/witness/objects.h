@@ -14,6 +14,7 @@ static void w_seat_is(int context)
 	w_seat.pool = &w_pool;
 	w_seat.ages = context;
 	w_pool.gone = 0;
+	w_seat.slot = NULL;
 	/*@ ghost the_seat = &w_seat.handle; */
 	/*@ ghost core_context = context; */
 	/*@ ghost core_call = NO_CALL; */
