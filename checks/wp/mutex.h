@@ -264,7 +264,7 @@ int ww_mutex_lock_alone_(struct ww_mutex *m);
     ensures took: x != \null ==> took(\result);
     ensures says: x != \null && \result == 0 ==> says{Old, Here}(m, x);
     ensures counts: x != \null && \result == 0 ==> x->acquired == (unsigned)(\old(x->acquired) + 1);
-    ensures newest: x != \null && \result == 0 ==> newest{Old, Here}(m, x);
+    ensures newest: x != \null && \result == 0 && is_noted{Old, Here}(m, x) ==> x->newest == m;
     ensures older: x != \null && \result == 0 ==> older{Old, Here}(m, x);
     ensures told: x != \null ==> told{Old, Here}(m, x, \result);
     ensures keeps: x != \null && \result != 0 ==> same_held{Old, Here};
@@ -299,11 +299,14 @@ static int try_admitted(struct ww_mutex *m, struct ww_acquire_ctx *x, int r);
 #define TRIES(m, x) \
 	requires is_called(m) && m != \null && (x != \null ? is_any_context(x, m) && !loops(x) : seat_taken == 0) && rests; \
 	ensures took: \result == 1 ==> core_has == 1; \
-	ensures says: \result == 1 && x != \null ==> says{Old, Here}(m, x) && listed{Old, Here}(m, x); \
+	ensures says: \result == 1 && x != \null ==> says{Old, Here}(m, x) && older{Old, Here}(m, x); \
+	ensures counts: \result == 1 && x != \null ==> x->acquired == (unsigned)(\old(x->acquired) + 1); \
+	ensures newest: \result == 1 && x != \null && is_noted{Old, Here}(m, x) ==> x->newest == m; \
 	ensures answers: \result <= 1
 /*@ TRIES(m, x);
     assigns CHANGES(m, x), CHANGES_BY(comer), the_how;
     ensures \result == 0 || \result == 1;
+    ensures listed: \result == 1 && x != \null ==> listed{Old, Here}(m, x);
     ensures refused: \result == 0 && x != \null ==> same_held{Old, Here} && unlisted{Old, Here}(x);
     ensures number: x != \null ==> numbered{Old, Here}(m); */
 int ww_mutex_trylock_else_(struct ww_mutex *m, struct ww_acquire_ctx *x);
