@@ -122,9 +122,9 @@ void ww_acquire_done(struct ww_acquire_ctx *ctx);
 /* Ends it. The program ends with a message if it still holds a mutex, or has ended already. */
 void ww_acquire_fini(struct ww_acquire_ctx *ctx);
 /*
- * Ends it in whatever state it is, for destructors and languages with exceptions: ends a poll's wait and all reads, and does what
- * ww_acquire_unlock_all and ww_acquire_fini do.  -EINVAL: it has ended before, or never began.  ww_acquire_cancel may come at the
- * same time, or later, if no other context begins in this memory and the class isn't freed.
+ * Ends the context in whatever state it is, for destructors and languages with exceptions: ends a poll's wait and all reads, and does
+ * what ww_acquire_unlock_all and ww_acquire_fini do.  -EINVAL: the context has ended before, or never began.  ww_acquire_cancel may
+ * run at the same time, or later, if no other context begins in this memory and the class isn't freed.
  */
 int ww_acquire_end(struct ww_acquire_ctx *ctx);
 /*
@@ -169,9 +169,9 @@ bool ww_mutex_is_locked(struct ww_mutex *lock);
  *		}
  *	}
  *
- * If a lock call returned -EDEADLK, the end of the body, as well as a `break` and a `continue` of it, releases everything that was
- * acquired in the loop, and the body begins again, whatever it made of that error; otherwise they end the loop.  To come there from
- * within another loop or block, there is ww_retry_on_contention.  Only `return` and `goto` leave the loop for good.  The next
+ * The body ends at its last line, or by a `break` or `continue`.  If a lock call returned -EDEADLK, everything that was acquired in
+ * the loop is then released, and the body begins again, whatever it made of that error; otherwise the loop ends.
+ * ww_retry_on_contention does the same from within an inner loop.  Only `return` and `goto` leave the loop without that.  The next
  * lock call first waits for the contended mutex, at which -EDEADLK came, with its own time limit and cancel; a later lock call
  * of that mutex returns 0 (a trylock 1).  A trylock that succeeds before, or a slow lock of that mutex, replaces that wait.  The
  * body may also release everything itself, and go on with ww_mutex_lock_slow.  The context holds nothing when the loop begins.
@@ -211,9 +211,9 @@ bool ww_is_contended(const struct ww_acquire_ctx *ctx);
 static inline void ww_acquire_begin_tries(struct ww_acquire_ctx *ctx);
 static inline bool ww_acquire_end_try(struct ww_acquire_ctx *ctx);
 /*
- * Releases everything that the context holds, the newest first, and ends what it reads.  The program ends with a message while the
- * context waits by a poll; and if the context acquired something that it doesn't know any more: without a loop, tries or a list of
- * locks, it doesn't know what it acquired by number, or before it released another mutex by ww_mutex_unlock.
+ * Releases everything that the context holds, the newest first, and ends its reads.  The program ends with a message if the context
+ * waits by a poll, or holds a mutex that it doesn't list: without a loop, tries or a list of locks, a context lists what it acquired
+ * since it last released a mutex, except by number.
  */
 void ww_acquire_unlock_all(struct ww_acquire_ctx *ctx);
 /*
@@ -226,8 +226,8 @@ void ww_acquire_unlock_to(struct ww_acquire_ctx *ctx, size_t mark);
 /*
  * Acquires all of them, in any order, and backs off by itself.  If it returns an error, it has released what it had acquired.
  * -EALREADY: the list has a mutex twice, or the context held one before; -EINTR; -EINVAL, -ENOSPC, -ENOMEM; -EDEADLK: only if
- * the context held a mutex before, which it has to release.  From its first list on a context is as in a loop, unless it held a
- * mutex before; it may lock several lists, also in loops.
+ * the context held a mutex before, which it has to release.  A context that held nothing is as in a loop from its first list on.  It
+ * may lock several lists, also in loops.
  */
 WW_MUST_CHECK int ww_mutex_lock_all(struct ww_acquire_ctx *ctx, struct ww_mutex *const *locks, size_t count);
 /*
@@ -236,7 +236,7 @@ WW_MUST_CHECK int ww_mutex_lock_all(struct ww_acquire_ctx *ctx, struct ww_mutex 
  * and nothing if this returns anything but 0.
  */
 static inline int ww_mutex_lock_by(struct ww_acquire_ctx *ctx, int (*locks)(struct ww_acquire_ctx *ctx, void *data), void *data);
-/* For a context; the first applies from a loop or a list on, to the end of the context. */
+/* Flags of a context.  WW_IGNORE_DUPLICATES applies from the context's first loop or list on. */
 enum ww_flags {
 	WW_IGNORE_DUPLICATES = 1,	/* a lock of what the context holds returns 0, acquires nothing and needs no unlock */
 	WW_INTERRUPTIBLE = 2,		/* ww_acquire_cancel may end its waits, also those of ww_mutex_lock */

@@ -24,7 +24,7 @@
 // On a variable: it is accessed only under this mutex. On a function: it is called under these.
 #define WW_GUARDED_BY(mutex) WW_SAFETY_(guarded_by(mutex))
 #define WW_REQUIRES(...) WW_SAFETY_(requires_capability(__VA_ARGS__))
-// On a function, or a lambda behind its parameters, that uses data in a way which clang's analysis can't follow: it isn't looked at.
+// On a function, or behind the parameters of a lambda: clang's analysis, which can't follow how it uses data, leaves it out.
 #define WW_NO_SAFETY_ANALYSIS WW_SAFETY_(no_thread_safety_analysis)
 
 // Where the program made a call, which the debug library reports: each call here gets it from its caller.
@@ -44,7 +44,7 @@
 #define WW_NOWHERE_
 #endif
 
-// Flags of ww_acquire_flags together. They are no numbers: 500 converts to none.
+// Combines flags of ww_acquire_flags. No number converts to a flag, so 500 for 500ms doesn't compile.
 constexpr ww_flags operator|(ww_flags a, ww_flags b) noexcept
 {
 	return static_cast<ww_flags>(static_cast<unsigned>(a) | static_cast<unsigned>(b));
@@ -266,8 +266,8 @@ inline const char *message(int error) noexcept
 	}
 }
 
-// What a callable returned under its locks, or the error because of which it wasn't called. Its truth is that it was called, so where
-// the callable returned a bool it has none: ask has_value(), or for the value.
+// What a callable returned under its locks, or the error because of which it wasn't called. The result is true if the callable was
+// called. The result of a bool isn't a condition, since that could be taken for the bool: use has_value() or value_or().
 template <class T> class [[nodiscard]] result {
 	static_assert(!std::is_reference_v<T>, "what is returned is used without the locks: return a value, or a pointer");
 	std::optional<T> value_;
@@ -386,8 +386,8 @@ public:
 	context &operator=(const context &) = delete;
 
 	// 0, or -EDEADLK, -EALREADY, -EINVAL, -ENOSPC, -ENOMEM, as ww_mutex_lock; after -EDEADLK call back_off(). With limits also
-	// -ETIMEDOUT and -EINTR. clang's analysis takes each lock call for a success, since it sees neither what the context's end
-	// releases nor a loop; and only unlock for a release.
+	// -ETIMEDOUT and -EINTR. clang's analysis takes each lock call for a success, and only unlock for a release, since it sees
+	// neither a loop nor what the context's end releases.
 	[[nodiscard]] int lock(mutex &m WW_AND_FROM_) noexcept WW_SAFETY_(assert_capability(m))
 	{
 		return told([&] {
@@ -467,8 +467,8 @@ public:
 	ww_acquire_ctx *get() noexcept { return &it_; }
 
 	// Acquires the mutexes of a list, in any order, and backs off by itself; the context holds nothing before. The list has pointers,
-	// or is an array of mutexes; of shared mutexes it writes all. 0, or an error, after which it holds nothing: -EALREADY for a mutex
-	// that the list has twice, -EINTR, -EINVAL.
+	// or is an array of mutexes; shared mutexes are locked for writing. 0, or an error, after which the context holds nothing:
+	// -EALREADY for a mutex that the list has twice, -EINTR, -EINVAL.
 	template <class List> [[nodiscard]] int lock_all(const List &list WW_AND_FROM_)
 	{
 		return acquire([&] {
@@ -538,7 +538,7 @@ template <class Next, class Fn> auto lock_walk(struct ww_class &c, Next &&next, 
 	return context(c, how WW_AND_THERE_).with_walk(std::forward<Next>(next), std::forward<Fn>(fn) WW_AND_THERE_);
 }
 
-// The same by locks(context), which acquires what it likes by calls of that context: see context::lock_by.
+// Calls fn under what locks(context) acquires by calls of that context: see context::lock_by.
 template <class Locks, class Fn> auto lock_by(struct ww_class &c, Locks &&locks, Fn &&fn, limits how = {} WW_AND_FROM_)
 {
 	context x(c, how WW_AND_THERE_);

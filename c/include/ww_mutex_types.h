@@ -50,13 +50,13 @@ struct ww_acquire_ctx {
 	unsigned int acquired;		/* how many mutexes it holds */
 	unsigned int state;		/* with its flags */
 	struct ww_mutex *contending_lock; /* at which the last -EDEADLK came */
-	struct ww_mutex *newest;	/* what it acquired last; without a loop since its last unlock, and not by number */
+	struct ww_mutex *newest;	/* what it acquired last; outside loops only since its last unlock, and not by number */
 	__extension__ union {		/* `state` says which one it is, or none: */
 		struct ww_mutex *prelocked; /* IS_PRELOCKED: acquired before the body of a loop asked for it */
 		struct ww_mutex *polled; /* IS_POLLED: for which a call of ww_poll.h waits */
 	};
 	unsigned int cancelled;
-	unsigned int puts;		/* how often the number of `contending_lock` had been put back by then */
+	unsigned int puts;		/* how often the number of `contending_lock` had been put back at that -EDEADLK */
 	__extension__ union {
 		__extension__ struct {
 			unsigned int deadlock_inject_countdown, deadlock_inject_interval; /* of the debug library */
@@ -64,7 +64,7 @@ struct ww_acquire_ctx {
 		uint64_t span;		/* its upper half: how many bytes the words of its class's mutexes have */
 	};
 	__extension__ union {
-		unsigned long stamp;	/* likewise */
+		unsigned long stamp;	/* of the debug library */
 		uintptr_t words;	/* where the words of its class's mutexes lie, of which ww_mutex_lock fetches one ahead */
 	};
 	void *empty_[2];		/* in a loop an empty handle: by it an unlock returns that it has more to do */

@@ -22,8 +22,8 @@ WW_MUST_CHECK int ww_number_take(uint32_t *number, struct ww_class *ww_class);
 /*
  * Frees a number that was taken.  -EBUSY: somebody holds it or waits for it, or a context that has read it (ww_shared.h) hasn't
  * ended its reads, and nothing has changed; -EINVAL: it isn't taken.
- * Once this returns 0, no other thread accesses the mutex any more; a context that backed off at it doesn't wait for it, nor for
- * who takes the number next.
+ * Once this returns 0, no other thread accesses the mutex any more.  A context that backed off at the number waits neither for it
+ * nor for the next mutex that has it.
  */
 int ww_number_put(uint32_t number, struct ww_class *ww_class);
 
@@ -37,8 +37,8 @@ void ww_number_leave(uint32_t number, struct ww_class *ww_class);
  *	ww_shared_mutex_trylock_shared(ww_number_at(number, &boxes), &ctx)
  * and by its member mutex_ for those of ww_mutex.h, also without a context (NULL).  Who writes what others read in this way calls
  * ww_shared_mutex_lock, since ww_number_lock waits for no reader.  What a context writes is unlocked by its number, or by
- * ww_shared_mutex_unlock, and what it reads by ww_shared_mutex_unlock_shared.  A context that moves does so outside loops and tries, and makes no ww_mutex_lock and no
- * ww_mutex_trylock, which leave its address there.
+ * ww_shared_mutex_unlock, and what it reads by ww_shared_mutex_unlock_shared.  A context may be moved only outside loops and tries,
+ * and only if it makes no ww_mutex_lock and no ww_mutex_trylock, which leave its address in the mutex.
  * The mutex stays where it is until the class is freed.  NULL: nobody has taken the number.
  */
 struct ww_shared_mutex;

@@ -53,9 +53,9 @@ struct ww_seek {
  * Begins a context, as ww_acquire_init_checked, but waits for one.  The library adapts how many tasks may have one at a time to the
  * number with the highest throughput, which it measures while a task waits: it begins with two for each processor, and lets tasks
  * have at most 896 of the 1,024 that aren't a thread's own.  A free context goes to the next task that asks, but every millisecond
- * to the one that has waited longest.  For each context that comes free one more task is woken, which may be too late for it, and is
- * woken again then.  A task that hasn't polled a millisecond after it was woken, as its loop is busy, keeps no free context from others:
- * whoever polls gets it, and at the next end of that context another task is woken, and this one waits behind all.  If
+ * to the one that has waited longest.  Each context that comes free wakes one more task; if another task takes that context first,
+ * the woken one waits on, and is woken again.  If the loop of a woken task is busy for a millisecond, the context isn't kept for that
+ * task: any task that polls gets it.  When the context ends, the next task is woken, and the one that didn't come waits behind all others.  If
  * ww_class_limit set how many contexts the class has, tasks and threads share these, and wait in one queue, in which only is_within
  * passes others.  Without a waker (NULL) it ends the wait, or doesn't wait, and then seek may be NULL: it returns 0 if a context
  * was begun, else -ETIMEDOUT.
@@ -65,9 +65,10 @@ WW_MUST_CHECK int ww_acquire_init_poll(struct ww_acquire_ctx *ctx, struct ww_cla
 /* Ends a wait for a context, if one goes on, and begins none: for who drops a task, which may be in such a wait. */
 void ww_seek_end(struct ww_seek *seek);
 /*
- * As ww_mutex_lock_interruptible, with any context; in a loop it waits for nothing else first, and returns -EINVAL if the context has
- * waited for a mutex by another call that it has yet to lock.  After -EDEADLK release everything, and poll the same mutex first.  Without a waker (NULL) it ends the wait: 0 if the mutex was
- * acquired first, -EDEADLK or -EINTR if that came first, else -ETIMEDOUT; what was held still is.
+ * As ww_mutex_lock_interruptible, with any context.  In a loop a poll doesn't wait for the contended mutex first, and returns -EINVAL
+ * if another call has waited for a mutex that the body has yet to lock.  After -EDEADLK release everything, and poll the same mutex
+ * first.  Without a waker (NULL) it ends the wait: 0 if the mutex was acquired first, -EDEADLK or -EINTR if that came first, else
+ * -ETIMEDOUT; what was held still is.
  */
 WW_MUST_CHECK int ww_mutex_lock_poll(struct ww_mutex *lock, struct ww_acquire_ctx *ctx, const struct ww_waker *waker);
 /*

@@ -80,12 +80,12 @@ WW_MUST_CHECK int ww_shared_mutex_trylock(struct ww_shared_mutex *lock, struct w
 void ww_shared_mutex_downgrade(struct ww_shared_mutex *lock, struct ww_acquire_ctx *ctx);
 
 /*
- * Of a context that writes it: ends that, and no read.  -EINVAL: the context doesn't write it.  Each lock call to write that
- * returned 0, also one that upgraded, and trylock that returned 1, needs one; or in a loop ww_acquire_unlock_all for all.  (With
- * WW_IGNORE_DUPLICATES a lock call of what the context writes returns 0 and acquires nothing, so it needs none.)
+ * Ends the context's write, and no read.  -EINVAL: the context doesn't write the mutex.  Each call to write that succeeded, also one
+ * that upgraded, needs one unlock; or in a loop ww_acquire_unlock_all ends all.  With WW_IGNORE_DUPLICATES a lock call of what the
+ * context writes returns 0 and acquires nothing, so it needs none.
  */
 int ww_shared_mutex_unlock(struct ww_shared_mutex *lock, struct ww_acquire_ctx *ctx);
-/* Of a context that reads it: ends one of its reads, and no write.  -EINVAL: it doesn't read it.  Each lock call to read needs one. */
+/* Ends one of the context's reads, and no write.  -EINVAL: it doesn't read the mutex.  Each call to read that succeeded needs one. */
 int ww_shared_mutex_unlock_shared(struct ww_shared_mutex *lock, struct ww_acquire_ctx *ctx);
 /* Ends all reads of the context. */
 void ww_acquire_end_reads(struct ww_acquire_ctx *ctx);
