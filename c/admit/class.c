@@ -8,7 +8,7 @@
 #include <string.h>
 #include <sys/mman.h>
 
-/* One more seat, which no context has: see ww_has_users. */
+/* A class has one seat more than contexts, which no context uses: see ww_has_users. */
 enum { SPARE = 1 };
 
 static struct ww_pool *freed; /* the memory of classes that were freed */

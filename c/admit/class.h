@@ -300,7 +300,7 @@ static inline void ww_make_cancel_pending(ww_seat *s) { (void)ww_cancel_(&s->han
 /* Whether each wait of the class that something may end is to end. */
 static inline bool ww_ends_waits(const struct ww_pool *p) { return __atomic_load_n(&p->ends_waits, __ATOMIC_SEQ_CST); }
 
-/* A hint: others may come to be known. */
+/* How many processors there are: a hint, since more may come to be known. */
 static inline uint32_t processors_of(const struct ww_pool *p) { return __atomic_load_n(&p->processors, __ATOMIC_RELAXED); }
 
 /* The seats that polls use. */

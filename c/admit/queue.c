@@ -11,17 +11,17 @@
  *						ends its wait (ww_end_seeking, ww_poll_seat)
  *						out of the queue: it gives up (ww_leave_queue)
  *	CALLED		called, or taken back	SERVED: its poll finds a seat; or it is handed one, or its wait ends there
- *						WAITS: its poll finds none; but first it says that it isn't called any more
- *						WAITS, behind all: it hasn't come for a lease, and another is CALLED for its
+ *						WAITS: its poll finds none, and first says that it isn't called any more
+ *						WAITS, behind all: it hasn't polled for a lease, and another is CALLED for its
  *						seat (call_for)
  *						out of the queue, likewise
  *	SERVED		called, or taken back	it isn't in the queue any more: seat_ is its own, or its wait has ended
  *
- * A task is CALLED for one seat, and one task at most is for each: `called` says so.  If it leaves the queue otherwise than by its own
- * poll, another one is CALLED for that seat (take_out).  A task whose loop is busy doesn't come: so others go on without it, as each
- * seat that is given has a call of its own, and a call lasts for a lease; whoever gives the seat later, or polls, finds that out.
+ * A task is CALLED for one seat, and for each seat at most one task is CALLED, as the pool's `called` says.  If a CALLED task leaves
+ * the queue otherwise than by its own poll, another one is CALLED for that seat (take_out).  If a CALLED task's loop is busy, others
+ * go on without it: each seat that is given has a call of its own, and whoever gives the seat after the call's lease calls another.
  *
- * Each change is made under the lock `queue`, and a waker called after it.
+ * Each change is made under the lock `queue`, and wakers are called after it.
  * tests/admit/seats_model.py tries all that tasks may do by this table and that of seats at the head of seat.c.
  */
 #define _GNU_SOURCE
@@ -51,7 +51,7 @@ static struct ww_waker take_waker(struct ww_seek *it)
 	return waker;
 }
 
-/* Until then a task may come that was called for this seat; 0: none is called for it any more. The queue is locked. */
+/* Notes until when the task that was called for this seat may come; 0: none is called for it any more. The queue is locked. */
 static void note_call(struct ww_seats *of, const ww_seat *s, uint64_t until)
 {
 	__atomic_store_n(&of->pool->called[s - of->seats], until, __ATOMIC_SEQ_CST);
@@ -59,8 +59,8 @@ static void note_call(struct ww_seats *of, const ww_seat *s, uint64_t until)
 }
 
 /*
- * The first in the queue that wasn't called, if there is one, looks for a seat, at this one first. The queue is locked; relaxed,
- * since without that it asks only whether it is served.
+ * Calls the first in the queue that wasn't called, if there is one, to look for a seat, at this one first. The queue is locked. The
+ * store is relaxed, since a waiter asks without the lock only whether it is served.
  */
 static struct ww_waker call_next(struct ww_seats *of, ww_seat *s)
 {
@@ -77,8 +77,8 @@ static struct ww_waker call_next(struct ww_seats *of, ww_seat *s)
 }
 
 /*
- * Who stands at this place doesn't any more, and has this seat, or none; if it was called, another one is in its place, whose waker is
- * to be called.  The queue is locked; whoever waits looks without that whether it is served.
+ * Takes the waiter at this place out of the queue, with this seat or none.  If the waiter was called for a seat, another one is
+ * called for that instead, and its waker is returned.  The queue is locked; a waiter looks without the lock whether it is served.
  */
 static struct ww_waker take_out(struct ww_seats *of, struct ww_seek **at, uint32_t now, ww_seat *s)
 {
@@ -96,7 +96,7 @@ static struct ww_waker take_out(struct ww_seats *of, struct ww_seek **at, uint32
 	return was_for ? call_next(of, was_for) : (struct ww_waker){ 0 };
 }
 
-/* It waits behind all others. The queue is locked. */
+/* Puts a waiter behind all others. The queue is locked. */
 static void append(struct ww_seats *of, struct ww_seek *it)
 {
 	it->next_ = NULL;
@@ -106,8 +106,8 @@ static void append(struct ww_seats *of, struct ww_seek *it)
 }
 
 /*
- * One is called for the seat, unless one was.  If that hasn't come for a lease, and another waits that wasn't called, that is called
- * in its place, and it waits behind all.  The queue is locked.
+ * Calls a task for the seat, unless one was called already.  If that one hasn't come for a lease, and a task waits that wasn't
+ * called, that task is called instead, and the one that didn't come waits behind all.  The queue is locked.
  */
 static struct ww_waker call_for(struct ww_seats *of, ww_seat *s)
 {
@@ -262,8 +262,8 @@ static struct ww_seek **stands_at(struct ww_seats *of, const struct ww_seek *it)
 }
 
 /*
- * Who was called says that it isn't any more, and then looks for a seat, first at that for which it was.  It gets one, or waits
- * again.  While others are called whoever polls looks, too, as does who comes then.  The queue is locked.
+ * A task that was called notes that it isn't any more, and then looks for a seat, first at the one for which it was called.  The task
+ * gets a seat, or waits again.  While any task is called, each task that polls or comes looks, too.  The queue is locked.
  */
 static struct ww_waker look_for_seat(struct ww_seats *of, struct ww_seek *me)
 {
@@ -319,7 +319,7 @@ bool ww_leave_queue(struct ww_seek *me)
 
 /* ---- how a wait begins ---- */
 
-/* Who comes behind one that wasn't called finds no seat that isn't for another.  Who leaves no waker is about to leave. */
+/* A task that comes behind one that wasn't called finds only seats that are for others.  A task without a waker is about to leave. */
 bool ww_queue_up(struct ww_seek *me)
 {
 	struct ww_seats *of = me->of_;

@@ -43,10 +43,10 @@
  *
  * What becomes of a waiter is at the head of queue.c.
  *
- * So wherever nobody is amid a call, none of the seats that may be claimed is free while a thread waits; and while a task waits
- * that wasn't called, another was called for each one that is free: who drops a call has looked at that seat, and who leaves passes
- * the call on.  tests/admit/seats_model.py tries all that tasks may do by these tables, and the search of schedules asks that of
- * the sources.
+ * So if nobody is in a call, none of the seats that may be claimed is free while a thread waits; and while a task waits that wasn't
+ * called, another task was called for each seat that is free: a task that drops its call has looked at that seat, and a task that
+ * leaves passes its call on.  tests/admit/seats_model.py tries all that tasks may do by these tables, and the search of schedules
+ * asks that of the sources.
  *
  * crates/ww_protocols proves that two never use one seat, and that none is free where the paragraph above excludes it, of
  * such steps in any order, by the names in brackets; in the search each access of a `busy` has to be one of them
@@ -132,7 +132,7 @@ int ww_await_seat_to_begin(struct ww_pool *p, const struct timespec *until, bool
 	return r;
 }
 
-/* Tasks have none of their own.  While others wait none is free, unless some of them were called for it. */
+/* A seat for a task, which has none of its own.  While other tasks wait, a seat is free only if some of them were called for it. */
 ww_seat *ww_task_seat(struct ww_pool *p, bool is_within)
 {
 	const struct ww_seats *of = of_tasks(p);
@@ -150,7 +150,7 @@ ww_seat *ww_task_seat(struct ww_pool *p, bool is_within)
 
 /* ---- seats that are given ---- */
 
-/* A task is to be called for a seat: none was, or that hasn't come for a lease. */
+/* Whether a task is to be called for a seat: none was called, or the one that was hasn't come for a lease. */
 static bool needs_call(const uint64_t *called)
 {
 	uint64_t until = __atomic_load_n(called, __ATOMIC_SEQ_CST);

@@ -122,8 +122,8 @@ void ww_give_number(struct ww_numbers *n, uint32_t number)
 }
 
 /*
- * Nobody uses the number, which was left, so it is given, unless another thread has given it.  False if one has been left since there
- * were so many: it may be this one, which somebody took meanwhile.
+ * Frees a number that was left and that nobody uses, unless another thread has freed it.  False if any number has been left since
+ * `leaves` was read: that may be this one, which somebody took and left meanwhile.
  */
 static bool give_left(struct ww_numbers *n, uint32_t number, uint64_t leaves)
 {
@@ -137,7 +137,7 @@ static bool give_left(struct ww_numbers *n, uint32_t number, uint64_t leaves)
 	return is_same;
 }
 
-/* A number stays among those that are left while it is looked at, so several threads may look, and each finds all. */
+/* Frees the numbers that were left and that nobody uses.  While a thread looks at a number, other threads still find it there. */
 void ww_reclaim_numbers(struct ww_numbers *n)
 {
 	ww_is_used *is_used = __atomic_load_n(&n->is_used, __ATOMIC_RELAXED);
@@ -153,7 +153,7 @@ void ww_reclaim_numbers(struct ww_numbers *n)
 		}
 }
 
-/* All are taken if it finds none though it has looked at those that were left, and no other has been left since. */
+/* All numbers are taken if none is free, those that were left are in use, and none has been left since these were looked at. */
 int ww_take_number(struct ww_numbers *n, const struct ww_mutex *m, uint32_t *number)
 {
 	uint64_t leaves = UINT64_MAX, by_now;

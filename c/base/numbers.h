@@ -20,7 +20,7 @@ struct ww_numbers {
 	uint64_t span;	      /* by which an address says its line: see ww_likely_ */
 	uint64_t *used;	      /* a bit for each number, set while it is taken */
 	uint64_t *left;	      /* likewise of those that come free by themselves */
-	uint64_t leaves;      /* how many have been left in all */
+	uint64_t leaves;      /* how often a number was left, in all */
 	ww_is_used *is_used;  /* asked of those that are left: see used.c */
 	struct ww_mutex **lies_at; /* where the mutex lies that has a number, or had it last */
 	uint32_t *puts;	      /* how often each was put back of those that ww_number_take took: by this a stranger's is told */
@@ -46,7 +46,7 @@ static inline struct ww_mutex *mutex_with(const struct ww_numbers *n, uint32_t n
 	return __atomic_load_n(&n->lies_at[number], __ATOMIC_RELAXED);
 }
 
-/* How often the number was put back; and one more, by the one thread that puts it back. It is counted before another takes it. */
+/* How often the number was put back. The thread that puts it back counts that, before another thread can take the number. */
 static inline uint32_t puts_of(const struct ww_numbers *n, uint32_t number) { return __atomic_load_n(&n->puts[number], __ATOMIC_RELAXED); }
 static inline void count_put(struct ww_numbers *n, uint32_t number)
 {

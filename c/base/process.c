@@ -70,9 +70,9 @@ void ww_report_message(const char *message)
 /* ---- processors ---- */
 
 /*
- * Threads that run on one processor each may set that before they open a class, so those of others are found as these come; the
- * classes that are open learn it then.  The sets have room for as many as a kernel has; where that doesn't say which of them a thread
- * may use, all that run count.
+ * A thread that opens a class may have been bound to one processor before, so the processors of other threads are found as these come,
+ * and classes that are open learn of them then.  The sets have room for as many processors as a kernel has; if the kernel doesn't say
+ * which of them a thread may use, all that run count.
  */
 uint32_t ww_processors(void)
 {

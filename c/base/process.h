@@ -44,14 +44,14 @@ WW_HIDDEN extern __thread struct ww_mine ww_mine __attribute__((tls_model("initi
 /* How many threads have seats of their own. */
 WW_HIDDEN extern uint32_t ww_threads;
 /*
- * How many processors the threads of this process may use: the first one, each that has seats of its own, and this one.  So many count
- * at most.  Opening is locked.
+ * How many processors may be used by the process's first thread, by each thread that has seats of its own, and by this one; at most
+ * so many count.  Opening is locked.
  */
 enum { MANY_PROCESSORS = 64 };
 WW_HIDDEN uint32_t ww_processors(void);
 /* This thread has a number from now on. */
 WW_HIDDEN void ww_number_thread(void);
-/* The number of this thread, which no other has, nor had; it isn't 0.  Nothing is compared with one that the thread hasn't yet. */
+/* The number of this thread, which no other thread has or had.  A thread that has no number yet gets one, so the number is never 0. */
 static inline uint64_t this_thread(void)
 {
 	if (__builtin_expect(!ww_mine.thread, 0))

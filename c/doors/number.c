@@ -38,7 +38,7 @@ struct ww_shared_mutex *ww_number_at(uint32_t number, struct ww_class *c)
 	return p ? mutex_at(p, number) : NULL;
 }
 
-/* A thread that knew the number before may still wait for it: it sees with IS_TAKEN that it was put back (wait_first). */
+/* A thread that knew the number before may still wait for it: where it sees IS_TAKEN, it sees that the number was put back (wait_first). */
 int ww_number_take(uint32_t *number, struct ww_class *c)
 {
 	struct ww_mutex *m;

@@ -38,7 +38,7 @@ int ww_poll_on(struct ww_mutex *m, struct ww_acquire_ctx *x, struct ww_how how)
 	} else {
 		r = ww_lock_(&x->own->handle, m->number, false);
 		if (r > 0) {
-			x->polled = m; /* in the place of `prelocked`, which it doesn't owe any more if it could begin to wait */
+			x->polled = m; /* takes the place of `prelocked`, which a context that may begin to wait doesn't owe */
 			x->state = (x->state & ~(unsigned)IS_PRELOCKED) | IS_POLLED;
 		}
 	}
@@ -79,7 +79,7 @@ int ww_acquire_end_wait(struct ww_acquire_ctx *x)
 	return r == -ETIMEDOUT ? 0 : r;
 }
 
-/* Each of the three does nothing to a context that has ended.  A late cancel wakes the seat's next user, who looks again. */
+/* None of these calls does anything to a context that has ended.  A late cancel wakes the seat's next user, which looks again. */
 int ww_acquire_end(struct ww_acquire_ctx *x)
 {
 	(void)ww_acquire_end_wait(x);

@@ -165,7 +165,7 @@ COLD static int try_slot(struct ww_slot *slot, struct ww_acquire_ctx *x)
 	return r;
 }
 
-/* The context comes to its slot, as of which it may acquire, whatever it was told before; that is told again if the read fails. */
+/* The context comes to its slot, and may acquire then even if it got -EDEADLK before; if the read fails, that holds again. */
 ALWAYS_INLINE int take_slot(struct ww_acquire_ctx *x, const struct ww_how how, bool tries)
 {
 	int r = LIKELY(x->own->slot) ? 0 : make_slot(x->own);
@@ -325,8 +325,8 @@ COLD static int reads_in_turn(struct ww_shared_mutex *m, struct ww_acquire_ctx *
 }
 
 /*
- * Whether a trylock to read would fail as it stands.  It asks before it takes a step, since a context that waits for its own slot or
- * comes to it has acquired something: so what it got -EDEADLK for, and what its loop has to do, would be forgotten.
+ * Whether a trylock to read would fail now.  The trylock asks before it takes a step: a context that comes to its own slot has
+ * acquired something, so the mutex at which it got -EDEADLK, and what its loop has to do, would be forgotten.
  */
 static bool is_vain_read(const struct ww_shared_mutex *m, struct ww_acquire_ctx *x)
 {
@@ -359,7 +359,7 @@ ALWAYS_INLINE int read_by(struct ww_shared_mutex *m, struct ww_acquire_ctx *x, s
 
 int ww_shared_mutex_lock_shared(struct ww_shared_mutex *m, struct ww_acquire_ctx *x) { return read_by(m, x, BY_WAITING); }
 
-/* What a trylock returns: after another thread came between a look and its step, the loop is as it was before all the same. */
+/* What a trylock returns.  If another thread came between the trylock's look and its step, the loop is still as it was before. */
 static int ended_try(struct ww_acquire_ctx *x, unsigned int tries, int r)
 {
 	if (r && tries)
@@ -432,7 +432,7 @@ COLD static int await_readers(struct ww_shared_mutex *m, struct ww_acquire_ctx *
 	return 0;
 }
 
-/* Whether others read it, so that a trylock to write would fail as it stands: the slot of each that has a mark is taken. */
+/* Whether a trylock to write would fail now, since others read the mutex: the slot of each context that has a mark is taken. */
 static bool is_vain_write(const struct ww_shared_mutex *m, const struct ww_acquire_ctx *x)
 {
 	const struct ww_pool *p = x->own->pool;
@@ -452,9 +452,9 @@ static bool is_vain_write(const struct ww_shared_mutex *m, const struct ww_acqui
 
 /*
  * Acquires the mutex, and then waits for those who read it.  A poll that waits for one of them has the mutex, and goes
- * on at that slot.  In a loop the context may have the mutex already: one for which the loop has waited is asked for once nobody
- * reads it; and a loop that may ask twice may hold it by a call that waits for no reader (ww_number_lock).  Who got no further than the
- * mutex releases it, unless it had it before or waits by a poll; and if it was told -EDEADLK before, that is so again.
+ * on at that slot.  In a loop the context may have the mutex already: the loop has waited for it, or the body locked it by a call that
+ * waits for no reader (ww_number_lock), and asks for it again.  A call that got no further than the mutex releases it, unless the context
+ * had it before or waits by a poll; and if the context got -EDEADLK before, that holds again.
  */
 ALWAYS_INLINE int write_by(struct ww_shared_mutex *m, struct ww_acquire_ctx *x, struct ww_how how)
 {

@@ -36,7 +36,7 @@ enum {
 	IS_POLLED = 128, /* a lock call of ww_poll.h waits, for `polled` */
 	IS_PRELOCKED = 256, /* the context has waited for `prelocked`, for which the body has yet to ask */
 	IS_TOLD = 512, /* it got -EDEADLK, at `contending_lock`, since it came to its slot */
-	WAS_TOLD = 1024, /* so, but the proved library forgot that, by what a shared lock call acquired on its way before it failed */
+	WAS_TOLD = 1024, /* it got -EDEADLK, but the proved library forgot that: a shared lock call acquired something, and then failed */
 };
 
 /*
@@ -54,9 +54,9 @@ enum {
  *	LOOP_FIRST	S	NO_POOL		empty_	WAITS_FIRST		a wait for `contending_lock`
  *	LOOP_TOLD	S	NO_POOL		empty_	HAS_TO_BACK_OFF		a back-off; it may owe `prelocked`, too
  *
- * The last four are those of a loop, of which loop.c has all that comes next; there what the context acquired is
- * listed.  In and behind a list of locks (list.c) a context is as in a loop.  BY_HAND the list has what the
- * context acquired since its last unlock, which is quick.  IN_POLL comes over each of the others but LOOP_OWES, to which it then returns.  Flags,
+ * The last four phases are those of a loop, of which loop.c has all that comes next; in them the context lists what it
+ * acquired.  From a list of locks (list.c) on, a context is as in a loop.  In BY_HAND the list has what the context acquired
+ * since its last unlock.  A poll turns each other phase but LOOP_OWES into IN_POLL, and its end turns IN_POLL back.  Flags,
  * IS_DONE, IS_TOLD and WAS_TOLD may come in each phase.
  */
 enum phase { HAS_ENDED, IN_POLL, BY_HAND, LOOP_EASE, LOOP_OWES, LOOP_FIRST, LOOP_TOLD };
@@ -78,8 +78,8 @@ static inline bool is_loop(const struct ww_acquire_ctx *x) { return x->gives == 
 #define WAITS_BY_POLL "the context waits by a poll"
 
 /*
- * What a poll asks for (`asks` of the seat), of the mutex `asked`: only the same call goes on with a wait.  It waits for
- * `polled`, which is that mutex, or a slot on the way: its own to read, or another's to write, while it has the mutex.
+ * What a poll asks for (`asks` of the seat), of the mutex `asked`: only the same call goes on with a wait.  The poll waits for
+ * `polled`, which is that mutex, or a slot on the way: the context's own to read, or another's to write, while it has the mutex.
  */
 enum { TO_LOCK, TO_READ, TO_WRITE, TO_AWAIT };
 

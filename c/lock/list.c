@@ -51,7 +51,7 @@ COLD static int lock_further(struct ww_acquire_ctx *x, struct ww_mutex *const *l
 }
 
 /*
- * In a large class it fetches the words of all locks but the first into the cache together; otherwise each would come after
+ * In a large class the words of all locks but the first are fetched into the cache together; otherwise each would come after
  * the step of the lock before.  For a mutex that has no number yet, or is of another class, what is fetched is of no use.
  * (The loads are atomic, since gcc would leave out plain ones that only serve a fetch.)
  */
@@ -76,7 +76,7 @@ COLD static int ends_by_hand(struct ww_acquire_ctx *x, struct ww_mutex *contendi
 	return r;
 }
 
-/* From now on the context lists what it holds, unless it holds something that it locked by itself: then it goes on so. */
+/* From its first list on a context lists what it holds, unless it held something in BY_HAND: then it stays in that phase. */
 int ww_mutex_lock_all(struct ww_acquire_ctx *x, struct ww_mutex *const *locks, size_t count)
 {
 	bool is_quick = x && phase_of(x) == BY_HAND && !IS_DEBUG;

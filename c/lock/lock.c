@@ -112,7 +112,7 @@ COLD int ww_release_on(ww_seat *s, int r)
 	return is_orphaned_by_fork(s, r) ? 0 : r;
 }
 
-/* In a loop a mutex that isn't in the context's list is a copy of one.  By hand an unlock cuts the list, as ww_mutex_unlock does. */
+/* In a loop a mutex that isn't in the context's list is a copy of one.  BY_HAND an unlock cuts the list, as ww_mutex_unlock does. */
 int ww_unlock_of(struct ww_mutex *m, struct ww_acquire_ctx *x)
 {
 	if (!is_loop(x))

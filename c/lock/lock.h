@@ -26,7 +26,7 @@ static inline bool unlist(struct ww_acquire_ctx *x, const struct ww_mutex *m)
 
 /*
  * Makes this context the mutex's holder, or the seat, if there is no context.  Outside loops a mutex by number doesn't
- * say its context, which may move, and no list has it; a context that holds any other mutex stays where it is.
+ * say its context, which may move, and is in no list; a context that holds any other mutex stays where it is.
  */
 static inline void note_holder(struct ww_mutex *m, struct ww_acquire_ctx *x, ww_seat *s)
 {
@@ -71,9 +71,9 @@ static inline bool holds_it(const struct ww_acquire_ctx *x, const struct ww_mute
 }
 
 /*
- * The owner word of a mutex's lock: 0 if nobody has it or waits for it.  So a look is a load, also if all contexts are in use.  It may
- * be out of date when it returns, unless nobody else uses the mutex.  An unlock's last access to the mutex comes before the step that
- * releases its lock; so if it is free, all former holders are through with it, and what they wrote is seen here.
+ * The owner word of a mutex's lock, which is 0 if nobody has the lock or waits for it.  So a look needs no context, and may be out of
+ * date when it returns, unless nobody else uses the mutex.  An unlock's last access to the mutex comes before the step that releases
+ * its lock; so if the lock is free, all former holders are through with the mutex, and what they wrote is seen here.
  */
 static inline uint64_t owner_word(const struct ww_pool *p, uint32_t number)
 {
@@ -89,7 +89,7 @@ static inline uint64_t look_at(const struct ww_pool *p, const struct ww_mutex *m
 	return word;
 }
 
-/* 1 more than the number of the seat in an owner word, or 0: crates/ww_word has its bits, and tests/base/numbers.c compares them. */
+/* 1 more than the number of the seat in an owner word, or 0.  crates/ww_word has its bits; tests/base/numbers.c compares them. */
 static inline uint32_t owner_of_word(uint64_t word)
 {
 	bool is_wide = 0xD4 >> word % 8 & 1;

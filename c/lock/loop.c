@@ -100,8 +100,8 @@ static inline void release_newest_first(struct ww_acquire_ctx *x)
 }
 
 /*
- * By hand a list has what was acquired since the last unlock of one mutex, which is quick and cuts the list, and nothing that was
- * acquired by number.  What is left ends the program; but the context's own slot, by which it reads, is always known.
+ * In BY_HAND a list has what was acquired since the last unlock of a mutex, and nothing that was acquired by number: such an unlock
+ * is quick, and so cuts the list.  If more is held, the program ends; the context's own slot, by which it reads, is always known.
  */
 COLD static void unlocks_no_more(struct ww_acquire_ctx *x)
 {
@@ -119,8 +119,8 @@ COLD static void unlocks_no_more(struct ww_acquire_ctx *x)
 }
 
 /*
- * The context doesn't wait for the contended mutex any more, since that may have been destroyed; and it owes none.  One that has
- * ended holds nothing.
+ * The context doesn't wait for the contended mutex any more, since that may have been destroyed, and owes no mutex to the body.  A
+ * context that has ended holds nothing.
  */
 void ww_acquire_unlock_all(struct ww_acquire_ctx *x)
 {
@@ -159,8 +159,8 @@ int ww_result_in_loop(struct ww_mutex *m, struct ww_acquire_ctx *x, int r)
 }
 
 /*
- * Whether the number of the contended mutex was put back since.  Whoever takes it next says so behind that, in `waiters`: so it
- * isn't another's if it is taken, and has been put back as often as then.
+ * Whether the number of the contended mutex was put back since the -EDEADLK.  The number is still that mutex's if it is taken and was
+ * put back no more often than then, since a put is counted before another takes the number and says so in `waiters`.
  */
 static bool is_gone(const struct ww_acquire_ctx *x, const struct ww_mutex *m)
 {
@@ -169,10 +169,10 @@ static bool is_gone(const struct ww_acquire_ctx *x, const struct ww_mutex *m)
 }
 
 /*
- * Before anything else, waits for the mutex at which the context got -EDEADLK, unless its number was put back: it may be a stranger's
- * by now.  It counts as one that waits before it asks that: so from then on the number is nobody else's until it is through.  If the
- * body of the loop can't ask for the mutex, it is released at once: a reader slot (shared.c), or one whose number was put back
- * meanwhile.
+ * Before anything else, waits for the mutex at which the context got -EDEADLK, unless its number was put back, and so may be a
+ * stranger's by now.  The context counts as a waiter before it asks that, so from then on the number stays with its mutex.  A mutex
+ * for which the body of the loop can't ask is released at once: a reader slot (shared.c), or a mutex whose number was put back during
+ * the wait.
  */
 static int wait_first(struct ww_acquire_ctx *x, struct ww_how how)
 {

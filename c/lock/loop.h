@@ -5,7 +5,7 @@
 
 /* Clears and sets bits of a context's state, and opens or closes the quick way of its lock calls. */
 WW_HIDDEN void ww_become(struct ww_acquire_ctx *x, unsigned int not, unsigned int now);
-/* From now on a list has what the context acquires, and an unlock takes the mutex out of it. */
+/* From now on the context lists what it acquires, and an unlock takes the mutex out of the list. */
 static inline void begin_loop(struct ww_acquire_ctx *x)
 {
 	x->newest = NULL;
