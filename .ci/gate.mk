@@ -1,13 +1,13 @@
-# The gate's checks, each a target, as .ci/run makes them: make -f .ci/gate.mk -s -k -jN all. What a check needs
-# stands behind its name. All others begin at once, and sub-makes share the processors by make's own job server. .ci/check
-# runs one: the first number is the most minutes that it may take.
+# The gate's checks, each a target, as .ci/run makes them: make -f .ci/gate.mk -s -k -jN all. A target's prerequisites are
+# what the check waits for; all others begin at once, and sub-makes share the processors by make's own job server. .ci/check
+# runs a check: the first number is the most minutes that the check may take.
 #
 # target        | what it makes
 # quick         | what takes seconds, and everything else waits for
 # sources       | what is asked of the crates' sources without a proof, each only if something that it reads differs from BASE
 # proofs        | each proof and edit, and what is asked of what was proved; only with PROOFS=yes
 # library       | the library for C, made of the assembly that is kept, which `proofs` compares with what was proved
-# program       | the program, made likewise
+# program       | the program, made of the assembly that is kept
 # all           | all of these
 #
 # environment   | what it says
@@ -21,7 +21,8 @@ WHOLE ?=
 OF_MAKE := c/out/gate
 ARCHIVE := $(OF_MAKE)/archive/libww_c.a
 PROGRAM := out/ww_run
-# A check; and a make, which shares the processors with this one: any other would warn of a job server that it doesn't reach.
+# `check` runs a check; `made` runs a make that shares the processors with this one. Without MAKEFLAGS no make in a check warns of
+# a job server that it doesn't reach.
 check = @env -u MAKEFLAGS -u MFLAGS .ci/check $@ $(1)
 made = +@.ci/check $@ $(1)
 # What a check of the sources reads besides what a proof reads.

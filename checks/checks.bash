@@ -22,14 +22,14 @@ end_check() {
 }
 trap 'end_check $?' EXIT
 
-# pass_over WHAT WHY: what a check can't do here, and why, in a line; the rest it does. (Not for a subshell, which forgets it.)
+# pass_over WHAT WHY: prints what a check can't do here, and why; the check does the rest. (Not for a subshell, which forgets it.)
 pass_over() {
     local line="passed over: $1, since $2"
     [[ $passed_over == *"$line"* ]] || say "$line"
     passed_over+=$line
 }
 
-# Runs a command that says much, which is printed only where it fails.
+# Runs a command, whose output is printed only if it fails.
 quietly() { "$@" >"$work/log" 2>&1 || fail "$* failed: $(tail -n 40 "$work/log")"; }
 
 # has COMMAND WHAT: whether this command is here; without it this is passed over.

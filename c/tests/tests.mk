@@ -55,18 +55,18 @@ WORDS_crowd_threads = 1000
 WORDS_copies = $(abspath $(OUT)/closable.so $(OUT)/libww.so)
 WORDS_closed = $(abspath $(OUT))/closable.so 1500
 
-# What is asked of a run besides that it ends with 0. A program that isn't compiled for the debug library is told so once, and nothing
-# of who acquired a mutex by its calls. Each line that is wrong is told, and no other. The thread sanitizer finds that race.c is wrong.
+# What a run has to show besides that it ends with 0. The debug library tells a program that isn't compiled for it so once, and says
+# nothing of where it acquired a mutex. It reports each line that is wrong, and no other. The thread sanitizer finds race.c wrong.
 ASKS_closed = && $(LIMITED) $(OUT)/closed $(abspath $(OUT))/libww.so 1500
 ASKS_many_unseen = >/dev/null && test "$$(grep -v '\[0x\|\[link' $(LOG) | grep -c .)" = 1 && grep -q 'compiled with -DWW_DEBUG' $(LOG)
 ASKS_line = && sed -n 's/^.*line.cpp:\([0-9]*\): .*/\1/p' $(LOG) | uniq >$@.told && \
 	grep -n 'wrong$$' tests/debug/line.cpp | sed 's/:.*//' | cmp - $@.told
 ASKS_race_threads = ; test $$? -eq 66 && grep -q 'data race .* in work' $(LOG)
 
-# The only limit of time: one that a busy machine doesn't reach, and WW_TEST_PATIENCE times as much. It ends what a test began, too.
+# The only limit of time of a test, which a busy machine doesn't reach. WW_TEST_PATIENCE multiplies it. It ends what a test began, too.
 LIMITED = timeout -k 9 $$((900 * $${WW_TEST_PATIENCE:-1}))
 LOG = $(OUT)/$(@:$(OUT)/%=%).log
-# Runs this; what a search says of programs that are as they should be isn't worth printing.
+# Runs a command, and keeps what it says in LOG. If the command fails, that is printed, without a search's lines on programs that pass.
 NAME = $(@:$(OUT)/%.ran=%)
 told = @mkdir -p $(dir $(LOG)); { $(1); } >$(LOG) 2>&1 || { echo "FAILED ($$?): $(NAME)"; grep -vE ' ok. (bound|whole)' $(LOG) | tail -n 60; exit 1; } >&2; \
 	grep '^passed over' $(LOG); echo $(NAME)
