@@ -90,7 +90,7 @@ size_t ww_acquire_mark(const struct ww_acquire_ctx *x);
     assigns \nothing; */
 static inline void fetch_each(const struct ww_acquire_ctx *x, struct ww_mutex *const *locks, size_t count);
 
-    assigns x->pool, x->acquired, x->state, x->contending_lock, x->puts, x->newest, x->prelocked, x->cancelled, x->own->ages, listed, level, lists_owed, CORE, core_context;
+#define OF_LIST(x) x->pool, x->acquired, x->state, x->contending_lock, x->puts, x->newest, x->prelocked, x->cancelled, x->own->ages, listed, level, lists_owed, CORE, \
 	core_context
 /*@ // what holds between the lock calls of a list
     predicate goes_on(struct ww_acquire_ctx *x) = is_user_of(x) && is_counted(x) && waits_with_none(x) && is_known(x) &&
