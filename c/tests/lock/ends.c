@@ -147,7 +147,6 @@ static void downgrade_amid_a_wait(void) { amid_a_wait(downgrades, true); }
 static void end_of_reads_amid_a_wait(void) { amid_a_wait(ends_reads, false); }
 static void loop_amid_a_wait(void) { amid_a_wait(loops, false); }
 static void unlock_amid_a_wait(void) { amid_a_wait(unlocks, true); }
-static void unlock_all_by_hand(void) { ww_acquire_unlock_all(&x); }
 static void unlock_all_amid_a_wait(void) { amid_a_wait(unlocks_all, true); }
 static void fini_amid_a_wait(void) { amid_a_wait(finishes, false); }
 
@@ -301,7 +300,6 @@ int main(void)
 	ww_acquire_init(&y, &c);
 	MUST(!ww_mutex_lock(&a, &x));
 	ends(fini_with_a_mutex, "ww_acquire_fini: class \"c\": the context still holds a mutex");
-	ends(unlock_all_by_hand, "ww_acquire_unlock_all: class \"c\": the context holds what it locked by itself, without a loop");
 	ends(fini_twice, "ww_acquire_fini: the context has ended");
 	ends(fini_of_a_copy, "ww_acquire_fini: class \"c\": the context has ended by a copy of it, or the class");
 	ends(unlocks_a_copy_in_a_loop, "ww_mutex_unlock: nobody holds the mutex, or it is a copy");
