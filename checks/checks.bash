@@ -12,7 +12,7 @@ fail() {
     exit 1
 }
 
-# A check's folder `work` goes when it ends. One that passed something over ends with 77; or with 1 for CI, where nothing may be.
+# A check's folder `work` is removed when the check ends. A check that passed something over ends with 77, or with 1 if CI=true.
 passed_over=
 end_check() {
     [ -z "${work-}" ] || rm -rf "$work"

@@ -184,8 +184,8 @@ void ww_reset_task_limiter(struct ww_seats *of)
 
 /*
  * Looks how many seats may be claimed; those that may from now on are handed to tasks that wait, all at once, since it is
- * measured from now on what so many do.  What was found for one load isn't for the next: the limiter is opened anew once nobody has waited for long.  Where
- * another number is tried it has just begun to count, and counts givings of so many seats.
+ * measured from now on what so many do.  What was found for one load isn't for the next: the limiter is opened anew once nobody
+ * has waited for long.  Where another number is tried it has just begun to count, and counts givings of so many seats.
  */
 COLD static void look_at_limiter(struct ww_seats *of, uint64_t now)
 {

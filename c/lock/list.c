@@ -64,7 +64,7 @@ static inline void begin_list(struct ww_acquire_ctx *x, struct ww_mutex *const *
 			__builtin_prefetch(words_of(x->own) + 2 * (size_t)__atomic_load_n(&locks[k]->number, __ATOMIC_RELAXED), 1);
 }
 
-/* As before the list, by hand; what a lock call told is gone, but for what a slow lock asks. */
+/* Ends a list in BY_HAND, where the context was before it: what a lock call told is gone, except for what a slow lock asks. */
 COLD static int ends_by_hand(struct ww_acquire_ctx *x, struct ww_mutex *contending_lock, int r)
 {
 	if (r)
