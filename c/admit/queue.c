@@ -19,7 +19,7 @@
  *
  * A task is CALLED for one seat, and for each seat at most one task is CALLED, as the pool's `called` says.  If a CALLED task leaves
  * the queue otherwise than by its own poll, another one is CALLED for that seat (take_out).  If a CALLED task's loop is busy, others
- * go on without it: each seat that is given has a call of its own, and whoever gives the seat after the call's lease calls another.
+ * go on without it: whoever polls may use that seat, and whoever gives it after the call's lease is over calls another task for it.
  *
  * Each change is made under the lock `queue`, and wakers are called after it.
  * tests/admit/seats_model.py tries all that tasks may do by this table and that of seats at the head of seat.c.

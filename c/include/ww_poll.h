@@ -54,8 +54,8 @@ struct ww_seek {
  * number with the highest throughput, which it measures while a task waits: it begins with two for each processor, and lets tasks
  * have at most 896 of the 1,024 that aren't a thread's own.  A free context goes to the next task that asks, but every millisecond
  * to the one that has waited longest.  Each context that comes free wakes one more task; if another task takes that context first,
- * the woken one waits on, and is woken again.  For a woken task that hasn't polled for a millisecond, since its loop is busy, no
- * context is kept: other tasks get it, at its next end another task is woken, and the busy one waits behind all.  If ww_class_limit
+ * the woken one waits on, and is woken again.  No context is kept for a woken task that hasn't polled for a millisecond, since its loop
+ * is busy: another task gets the context, at whose end the next task is woken, and the busy one waits behind all.  If ww_class_limit
  * set how many contexts the class has, tasks and threads share these, and wait in one queue, in which only is_within passes others.
  * Without a waker (NULL) it ends the wait, or doesn't wait, and then seek may be NULL: 0 if a context was begun, else -ETIMEDOUT.
  */
