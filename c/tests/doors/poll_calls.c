@@ -972,7 +972,8 @@ int main(int count, char **words)
 		by_contexts_of_their_own();
 	}
 #ifdef WW_DEBUG
-	MUST(ww_debug_faults() - besides == 36); /* four times the nine calls above that are wrong by themselves */
+	/* four times nine calls above that are wrong by themselves, and twice one of a loop that is so in Wait-Die alone */
+	MUST(ww_debug_faults() - besides == 38);
 #endif
 	puts("poll_calls: as they should be");
 	return 0;

@@ -531,7 +531,7 @@ static void others_are_not_read(void)
 	MUST(!ww_shared_mutex_is_read_by(&other, &x) && ww_shared_mutex_unlock_shared(&other, &x) == -EINVAL && ww_shared_mutex_unlock_shared(&m, &alone) == -EINVAL);
 	other.mutex_.number = number;
 	ww_acquire_fini(&alone);
-	MUST(x.acquired == 1 && !can_write(&m, &y) && !can_write(&n, &y) && faults() == before + 3 * TOLD);
+	MUST(x.acquired == 1 && !can_write(&m, &y) && !can_write(&n, &y) && faults() == before + 4 * TOLD);
 	ww_acquire_end_reads(&x);
 	end_both();
 	MUST(!ww_shared_mutex_destroy(&other) && !ww_class_free(&other_class));
@@ -698,7 +698,7 @@ static void refuse_others_amid_a_poll(void)
 	unlocks(&n, &x);
 	MUST(ww_shared_mutex_await_poll(&x, &waker) == -EINVAL);
 	MUST(polls_read(&m, NULL) == -EINVAL && polls_write(&m, NULL) == -EINVAL && ww_shared_mutex_await_poll(NULL, &waker) == -EINVAL);
-	MUST(faults() == before + 26 * TOLD);
+	MUST(faults() == before + 24 * TOLD);
 	end_both();
 }
 
