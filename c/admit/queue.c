@@ -262,17 +262,22 @@ static struct ww_seek **stands_at(struct ww_seats *of, const struct ww_seek *it)
 }
 
 /*
- * A task that was called notes that it isn't any more, and then looks for a seat, first at the one for which it was called.  The task
- * gets a seat, or waits again.  While any task is called, each task that polls or comes looks, too.  The queue is locked.
+ * A task that was called notes that it isn't any more, and then looks for a seat: the one for which it was called, and only where all
+ * that wait were called any other, since else each seat that is free has a call of its own.  The task gets a seat, or waits again.
+ * While any task is called, each task that polls or comes looks for any seat, too.  The queue is locked.
  */
 static struct ww_waker look_for_seat(struct ww_seats *of, struct ww_seek *me)
 {
-	ww_seat *s;
+	ww_seat *s = me->served_ == CALLED ? me->seat_ : NULL;
+	bool any = !s || of->seekers == of->calls;
 
-	if (me->served_ == CALLED)
-		note_call(of, me->seat_, 0);
 	me->served_ = WAITS;
-	s = is_barred(of->pool) ? NULL : ww_claim_from(of, me->seat_ ? (uint32_t)(me->seat_ - of->seats) : 0);
+	if (s)
+		note_call(of, s, 0);
+	if (is_barred(of->pool))
+		return (struct ww_waker){ 0 };
+	if (!s || s >= &of->seats[of->open] || !claim(s))
+		s = any ? ww_claim_any(of) : NULL;
 	return s ? hand_to(of, stands_at(of, me), s) : (struct ww_waker){ 0 };
 }
 
