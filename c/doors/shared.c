@@ -359,10 +359,10 @@ ALWAYS_INLINE int read_by(struct ww_shared_mutex *m, struct ww_acquire_ctx *x, s
 
 int ww_shared_mutex_lock_shared(struct ww_shared_mutex *m, struct ww_acquire_ctx *x) { return read_by(m, x, BY_WAITING); }
 
-/* What a trylock returns.  If another thread came between the trylock's look and its step, the loop is still as it was before. */
+/* What a trylock returns.  What its step made a loop forget, as another thread came between the trylock's look and that, is so again. */
 static int ended_try(struct ww_acquire_ctx *x, unsigned int tries, int r)
 {
-	if (r && tries)
+	if (r && tries & ~x->state)
 		ww_become(x, 0, tries);
 	return !r;
 }

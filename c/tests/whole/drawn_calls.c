@@ -8,6 +8,9 @@
  *
  * Whoever reads holds a mutex more, its seat's slot, from its first read to the last one's end.  A writer may wait for slots of which
  * nothing is known here, so what a call has to return is told exactly as long as no task reads or writes by a poll.
+ *
+ * Before a context ends, the test draws which leases are over: those of the context's seat, and of the call of a task for that seat.  So
+ * what a call has to do doesn't depend on how busy the machine is.  How long a lease lasts is looked at where it begins.
  */
 #include "../mutex_test.h"
 #include "../../lock/lock.h"
@@ -29,9 +32,10 @@ struct task {
 	enum { NOT_LENT, LENT, WAS_CALLED, TAKEN } waker; /* TAKEN: back, so nobody calls it */
 	bool is_ended;	  /* what is in x may be used, and is refused; else it has never begun */
 	bool of_tasks;	  /* its context is one of those that tasks have for themselves */
-	unsigned place;	  /* WAITS, CALLED or SERVED: where it stands, while it seeks: see seat.c */
+	unsigned place;	  /* WAITS, CALLED or SERVED: where it stands, while it seeks: see queue.c */
+	bool is_roused;	  /* a waker that it left was to be called; it hasn't polled since */
 	bool was_ended;	  /* by a cancel, so it gets none */
-	const void *seat; /* which it got */
+	const ww_seat *seat; /* of tasks: for which it was called, then which it was handed, then its context's */
 	int polled;	  /* the lock for which it waits, or NO_TASK; and what it is to be then */
 	enum what asks;
 	int held[LOCKS + 1]; /* the oldest first */
@@ -71,6 +75,7 @@ static const struct timespec past;
 static unsigned seed, state;
 static struct { const char *what; long task, lock, r; } said[SAID];
 static unsigned long made;
+static uint64_t said_at; /* when the last call began */
 
 static void says(const char *what, const struct task *t, int lock)
 {
@@ -78,6 +83,7 @@ static void says(const char *what, const struct task *t, int lock)
 	said[made % SAID].task = t ? t - w->tasks : NO_TASK;
 	said[made % SAID].lock = lock + 100 * (w - worlds);
 	said[made++ % SAID].r = 9999;
+	said_at = ww_now();
 }
 static void says_result(unsigned long of, long r)
 {
@@ -309,22 +315,81 @@ static void no_wait_for_what_is_free(int k)
 	IS(w->holder[k] != NO_TASK || !lent || others);
 }
 
-/* The first in the queue, or NULL. */
+/* The first in the queue, or NULL; and the first of those that weren't called. */
 static struct task *first(void) { return w->queued ? &w->tasks[w->queue[0]] : NULL; }
+static struct task *first_uncalled(void)
+{
+	for (int j = 0; j < w->queued; j++)
+		if (w->tasks[w->queue[j]].place != CALLED)
+			return &w->tasks[w->queue[j]];
+	return NULL;
+}
 
-/* Who was called, or has a context, was told so; and no context is free for which somebody waits whom nobody called. */
+/* Who was called for this seat, or for any if that is NULL, and hasn't polled since; or NULL. */
+static struct task *called_for(const ww_seat *s)
+{
+	for (int j = 0; j < w->queued; j++)
+		if (w->tasks[w->queue[j]].place == CALLED && (!s || w->tasks[w->queue[j]].seat == s))
+			return &w->tasks[w->queue[j]];
+	return NULL;
+}
+
+/* How many have the seat, one of those of tasks, or were handed it. */
+static int users(const ww_seat *s)
+{
+	int count = 0;
+
+	for (int j = 0; j < TASKS; j++) {
+		const struct task *t = &w->tasks[j];
+
+		count += t->seat == s && (t->phase == BEGUN ? t->of_tasks : t->phase == SEEKS && t->place == SERVED && !t->was_ended);
+	}
+	return count;
+}
+
+/* The library's queue is the model's. */
+static void queue_is_so(void)
+{
+	const struct ww_seats *of = of_tasks(w->c.pool);
+	const struct ww_seek *it = of->first;
+	int calls = 0;
+
+	for (int j = 0; j < w->queued; j++, it = it->next_) {
+		const struct task *t = &w->tasks[w->queue[j]];
+
+		IS(it == &t->seek && it->served_ == t->place && (t->place != CALLED || it->seat_ == t->seat));
+		calls += t->place == CALLED;
+	}
+	IS(!it && of->seekers == (uint32_t)w->queued && of->calls == (uint32_t)calls);
+}
+
+/*
+ * Who was called, or has a context, was told so; and no context is free for which somebody waits whom nobody called, unless another
+ * was called for it.
+ */
 static void no_wait_for_a_free_context(void)
 {
+	const struct ww_pool *p = w->c.pool;
+
 	for (int j = 0; j < TASKS; j++) {
 		const struct task *t = &w->tasks[j];
 
 		if (t->phase != SEEKS)
 			continue;
-		IS(t->waker == TAKEN || (t->waker == WAS_CALLED) == (t->place == CALLED || t->place == SERVED));
+		IS(t->waker == TAKEN || (t->waker == WAS_CALLED) == t->is_roused);
+		IS(t->place == WAITS || t->is_roused);
 		IS(!w->is_cancelled || t->place != WAITS);
-		IS(t->place != CALLED || t == first());
 	}
-	IS(used() == w->contexts || !first() || first()->place == CALLED);
+	IS(!w->is_limited || used() == w->contexts || !first());
+	IS(w->is_limited || (int)p->tasks.open == w->contexts);
+	for (int k = 0; k < (int)p->tasks.open; k++) {
+		const ww_seat *s = &p->tasks.seats[k];
+
+		IS(users(s) == is_in_use(s));
+		IS(!p->called[k] == !called_for(s));
+		IS(users(s) || called_for(s) || !first_uncalled());
+	}
+	queue_is_so();
 }
 
 static void all_is_so(void)
@@ -1092,6 +1157,7 @@ static void has_begun(struct task *t, bool of_tasks)
 	t->age = made;
 	t->waker = NOT_LENT;
 	t->of_tasks = of_tasks;
+	t->seat = of_tasks ? t->x->own : NULL;
 	t->is_ended = true;
 	t->polled = t->contended = t->owing = NO_TASK;
 	t->count = 0;
@@ -1110,34 +1176,59 @@ static void leaves_queue(const struct task *t)
 	w->queued = left;
 }
 
-/* The first one looks for a context, unless there is none. */
-static void is_to_look(void)
+/* Where the library notes until when the task that was called for this seat may come. */
+static uint64_t *lease_of_call(const ww_seat *s) { return &w->c.pool->called[s - w->c.pool->tasks.seats]; }
+
+/* The first that wasn't called, if there is one, is to look for a context, at this seat first; another is called for that after a lease. */
+static void is_to_look(const ww_seat *s)
 {
-	if (!first())
+	struct task *t = first_uncalled();
+
+	if (!t)
 		return;
-	first()->place = CALLED;
+	t->place = CALLED;
+	t->is_roused = true;
+	t->seat = s;
+	IS(*lease_of_call(s) >= said_at + LEASE && *lease_of_call(s) <= ww_now() + LEASE);
 }
 
-/* It leaves the queue; if it was called, the next one is. */
-static void has_got(struct task *t, const void *seat)
+/* It leaves the queue with this seat; if it was called for one, the next one is. */
+static void has_got(struct task *t, const ww_seat *seat)
 {
-	bool was_called = t->place == CALLED;
+	const ww_seat *was_for = t->place == CALLED ? t->seat : NULL;
 
 	t->place = SERVED;
+	t->is_roused = true;
 	t->was_ended = false;
 	t->seat = seat;
 	leaves_queue(t);
-	if (was_called)
-		is_to_look();
+	if (was_for)
+		is_to_look(was_for);
 }
 
-/* A context ended: it is handed to the first one, in a limited class, or if it isn't lent; else that is called. */
-static void is_given(const void *seat, bool is_lent)
+/* The task that was called for the seat hasn't come for a lease.  If another one waits, that is called, and this waits behind all. */
+static void is_passed_on(struct task *t, const ww_seat *seat)
+{
+	if (!first_uncalled())
+		return;
+	leaves_queue(t);
+	t->place = WAITS;
+	is_to_look(seat);
+	w->queue[w->queued++] = id(t);
+}
+
+/*
+ * A context ended.  In a limited class, or if its seat isn't lent, the first one is handed the seat.  Else one is called for the seat,
+ * unless one was called already and isn't late.
+ */
+static void is_given(const ww_seat *seat, bool is_lent, bool is_late)
 {
 	if (first() && !is_lent)
 		has_got(first(), seat);
-	else if (first() && first()->place == WAITS)
-		is_to_look();
+	else if (!called_for(seat))
+		is_to_look(seat);
+	else if (is_late)
+		is_passed_on(called_for(seat), seat);
 }
 
 /* A first call to begin one; r is what it returns if there is none. */
@@ -1188,26 +1279,34 @@ static void begin(struct task *t)
 		if (r == -EINPROGRESS) {
 			t->phase = SEEKS;
 			t->place = WAITS;
+			t->is_roused = false;
 			w->queue[w->queued++] = id(t);
 		}
 		may_begin(t, r, w->is_cancelled ? -EINTR : -EINPROGRESS, true);
 	}
 }
 
-/* Whoever was called looks; in vain, it waits again. Returns whether it finds one. */
+/*
+ * A task polls.  If it was called, it isn't any more.  While any task is called, each that polls looks for a seat: a called one first
+ * at that for which it was called.  In vain, it waits on where it stood.  Returns whether it finds one.
+ */
 static bool finds_one(struct task *t)
 {
-	if (t->place == CALLED && used() < w->contexts)
-		has_got(t, NULL);
-	else if (t->place == CALLED)
+	const ww_seat *was_for = t->place == CALLED ? t->seat : NULL;
+	bool looks = t->place != SERVED && called_for(NULL);
+
+	if (t->place == CALLED)
 		t->place = WAITS;
+	if (looks && used() < w->contexts)
+		has_got(t, was_for && !users(was_for) ? was_for : NULL);
 	return t->place == SERVED;
 }
 
 /* Another poll for a context. */
 static void seek_on(struct task *t)
 {
-	bool lent = !rarely(5), leaves = !lent && t->place == CALLED;
+	bool lent = !rarely(5);
+	const ww_seat *leaves = !lent && t->place == CALLED ? t->seat : NULL, *gets;
 	struct ww_waker waker = { 0 };
 	int r;
 
@@ -1216,6 +1315,7 @@ static void seek_on(struct task *t)
 	else
 		t->waker = NOT_LENT;
 	CALL(r, t, 0, ww_acquire_init_poll(t->x, &w->c, &t->seek, lent ? &waker : NULL));
+	t->is_roused = false;
 	if (t->place == SERVED && t->was_ended)
 		IS(r == -EINTR);
 	else
@@ -1227,21 +1327,26 @@ static void seek_on(struct task *t)
 	t->phase = ENDED;
 	t->is_ended = true;
 	if (leaves)
-		is_to_look();
-	if (!r)
-		has_begun(t, !w->is_limited);
+		is_to_look(leaves);
+	if (r)
+		return;
+	gets = t->seat;
+	has_begun(t, !w->is_limited);
+	IS(!gets || t->x->own == gets);
 }
 
 static void end_context(struct task *t)
 {
 	ww_seat *seat = t->x->own;
-	bool is_lent = t->of_tasks && draw(2);
+	bool is_lent = t->of_tasks && draw(2), is_late = draw(2);
 	int r;
 
 	if (t->polled != NO_TASK && t->count)
 		return; /* nothing lists what it holds */
 	if (t->of_tasks)
 		seat->lease = is_lent ? UINT64_MAX : 0;
+	if (t->of_tasks && called_for(seat))
+		*lease_of_call(seat) = is_late ? 1 : UINT64_MAX;
 	if (t->polled != NO_TASK || ((t->loop || !t->count) && rarely(3))) {
 		CALL(r, t, 0, ww_acquire_end(t->x));
 		IS(!r && ww_acquire_end(t->x) == -EINVAL);
@@ -1260,7 +1365,7 @@ static void end_context(struct task *t)
 		return;
 	t->phase = ENDED;
 	if (w->is_limited || t->of_tasks)
-		is_given(seat, is_lent);
+		is_given(seat, is_lent, is_late);
 }
 
 static int destroy(int k)
@@ -1412,7 +1517,7 @@ static void alone(int k)
 		IS(!r);
 		w->holder[k] = NO_TASK;
 		if (w->is_limited)
-			is_given(NULL, false);
+			is_given(NULL, false, false);
 		return;
 	}
 	if (locks)
@@ -1492,7 +1597,7 @@ static void cancel_class(void)
 			continue;
 		leaves_queue(t);
 		t->place = SERVED;
-		t->was_ended = true;
+		t->is_roused = t->was_ended = true;
 	}
 }
 
