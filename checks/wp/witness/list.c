@@ -23,7 +23,8 @@ static void w_list(unsigned state)
 	/*@ ghost level = 1; */
 	/*@ ghost lists_owed = 0; */
 	/*@ ghost held_before = 0; */
-	/*@ ghost owed = &w_mutex; */
+	/*@ ghost unlisted = 0; */
+	/*@ ghost was_owed = &w_mutex; */
 }
 
 /*@ requires NO_BITS(state); */
@@ -50,15 +51,12 @@ void witness_kept(unsigned state)
 /*@ requires NO_BITS(state); */
 void witness_lock_each(unsigned state) { w_list(state); /*@ check never: \false; */ lock_each(&w_context, w_locks, 1); }
 /*@ requires NO_BITS(state); */
-void witness_fetch_each(unsigned state) { w_list(state); /*@ check never: \false; */ fetch_each(&w_context, w_locks, 1); }
+void witness_retry(unsigned state) { w_list(state); /*@ check never: \false; */ retry(&w_context, w_locks, 1, 0, -EINTR); }
 /*@ requires NO_BITS(state); */
-void witness_retry(unsigned state)
-{
-	struct before before = { .waits_for = &w_mutex };
-
-	w_list(state);
-	/*@ check never: \false; */
-	retry(&w_context, w_locks, 1, &before, -EINTR);
-}
+void witness_lock_further(unsigned state) { w_list(state); /*@ ghost had_lock = 1; */ /*@ check never: \false; */ lock_further(&w_context, w_locks, 1); }
+/*@ requires NO_BITS(state); */
+void witness_begin_list(unsigned state) { w_list(state); /*@ check never: \false; */ begin_list(&w_context, w_locks, 1); }
+/*@ requires NO_BITS(state); */
+void witness_ends_by_hand(unsigned state) { w_list(state); /*@ check never: \false; */ ends_by_hand(&w_context, &w_mutex, 0); }
 /*@ requires NO_BITS(state); */
 void witness_lock_all(unsigned state) { w_list(state); /*@ ghost had_lock = 1; */ /*@ check never: \false; */ ww_mutex_lock_all(&w_context, w_locks, 1); }
