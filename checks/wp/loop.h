@@ -66,11 +66,12 @@ static inline int release_newest(struct ww_acquire_ctx *x);
 static inline void release_newest_first(struct ww_acquire_ctx *x);
 /*
  * By hand, too, what is listed is released: there that is what the context acquired since its last unlock, and not by number.  Who comes
- * back has released all that it acquired.  In a loop that is all.
+ * back has released all that it acquired.  In a loop that is all, but for what the context had by hand when a list of locks began.
  */
-/*@ requires has_slot(x->own, x) && (loops(x) ==> is_whole(x));
+/*@ requires has_slot(x->own, x);
     RELEASES(x);
-    ensures all: x->acquired == 0 && (x->state & IS_POLLED) == 0;
+    ensures all: (loops{Old}(x) ==> is_whole{Old}(x)) ==> x->acquired == 0;
+    ensures polled: (x->state & IS_POLLED) == 0;
     ensures eased: (x->state & WAITS_FIRST) == 0 && (x->state & IS_PRELOCKED) == 0;
     ensures state: (x->state & ~(WAITS_FIRST | IS_PRELOCKED)) == (\old(x->state) & ~(WAITS_FIRST | IS_PRELOCKED)); */
 void ww_acquire_unlock_all(struct ww_acquire_ctx *x);
