@@ -66,16 +66,16 @@ by_rattle: | prove              ; $(call check,30) bash -c 'for it in crates/ww_
 growths_of_tests: | prove       ; $(call check,60) checks/refuse_library_growths
 passes: | prove                 ; $(call check,30) checks/check_instructions --passes
 
-made_library: | quick           ; $(call made,30) bash -c '$(MAKE) -s -C c OUT=out/gate all && mkdir -p $(dir $(ARCHIVE)) && ar rcsD $(ARCHIVE) $(OF_MAKE)/core.o'
-c_tests: | made_library         ; $(call made,60) $(MAKE) -s -k -C c OUT=out/gate check
-c_threads: | made_library       ; $(call made,60) $(MAKE) -s -k -C c OUT=out/gate check-thread
+made_library:                   ; $(call made,30) bash -c '$(MAKE) -s -C c OUT=out/gate all && mkdir -p $(dir $(ARCHIVE)) && ar rcsD $(ARCHIVE) $(OF_MAKE)/core.o'
+c_tests: | quick made_library   ; $(call made,60) $(MAKE) -s -k -C c OUT=out/gate check
+c_threads: | quick made_library ; $(call made,60) $(MAKE) -s -k -C c OUT=out/gate check-thread
 c_compilers c_pages: | quick    ; $(call check,60) checks/check_$@
-c_installed: | made_library     ; $(call check,60) checks/check_$@
+c_installed: | quick made_library; $(call check,60) checks/check_$@
 $(KILLS:%=kills_%): kills_%: | quick ; $(call check,90) c/tests/search/kills -p $*/$(words $(KILLS)) $(if $(WHOLE),,$(BASE:%=--changed %))
 simulated: | quick              ; $(call check,60) checks/check_simulated
-kernel: | made_library          ; $(call check,60) checks/check_kernel $(ARCHIVE)
-instructions: | made_library    ; $(call check,60) checks/check_instructions $(ARCHIVE)
-rust: | made_library            ; $(call check,60) checks/check_rust $(ARCHIVE)
+kernel: | quick made_library    ; $(call check,60) checks/check_kernel $(ARCHIVE)
+instructions: | quick made_library; $(call check,60) checks/check_instructions $(ARCHIVE)
+rust: | quick made_library      ; $(call check,60) checks/check_rust $(ARCHIVE)
 aarch64: | quick                ; $(call check,60) checks/check_aarch64 $(WHOLE:%=--both)
 dist: | quick                   ; $(call check,60) checks/check_dist $(WHOLE:%=--twice)
 make: | quick                   ; $(call check,60) checks/check_make
@@ -83,8 +83,8 @@ wp_text: | quick                ; $(call check,20) checks/check_wp --text
 wp_faults: | quick              ; $(call check,60) checks/check_wp --self-test
 $(WP:%=wp_%): wp_%: | quick     ; $(call check,60) $(if $(WHOLE),env CHECK_WP_CACHE=) checks/check_wp -j 1 $*
 
-made_program: | quick           ; $(call made,30) $(MAKE) -s $(PROGRAM)
-soak refuse_growths large parks program_fails tools run: | made_program
+made_program:                   ; $(call made,30) $(MAKE) -s $(PROGRAM)
+soak refuse_growths large parks program_fails tools run: | quick made_program
 soak large parks tools run:     ; $(call check,60) checks/check_$@ $(PROGRAM)
 refuse_growths:                 ; $(call check,60) checks/$@ $(PROGRAM)
 program_fails:                  ; $(call check,30) checks/check_program $(PROGRAM)
