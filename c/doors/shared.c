@@ -362,7 +362,7 @@ int ww_shared_mutex_lock_shared(struct ww_shared_mutex *m, struct ww_acquire_ctx
 /* What a trylock returns.  What its step made a loop forget, as another thread came between the trylock's look and that, is so again. */
 static int ended_try(struct ww_acquire_ctx *x, unsigned int tries, int r)
 {
-	if (r && tries & ~x->state)
+	if (r && tries && tries & ~x->state)
 		ww_become(x, 0, tries);
 	return !r;
 }
