@@ -1655,7 +1655,7 @@ static void step(void)
 			takes_back(t);
 		else if (rarely(4))
 			with_none(t);
-		else if (t->waker == WAS_CALLED || rarely(3)) /* those that are called come late, too */
+		else if (t->place == CALLED ? rarely(12) : t->waker == WAS_CALLED || rarely(3)) /* a called one's loop is busy */
 			seek_on(t);
 	} else if (t->polled != NO_TASK) {
 		switch (draw(8)) {
