@@ -2,8 +2,8 @@
  * list.h - lists of locks: of each mutex in one, whichever that is.
  *
  * source: lock/list.c
- * proves: lock_each retry lock_further begin_list ends_by_hand ww_mutex_lock_all
- * inlines: phase_of is_polled is_loop begin_loop let_be_older share_age
+ * proves: lock_each retry lock_further begin_list ends_by_hand
+ * inlines: is_loop begin_loop let_be_older share_age
  */
 #include "lock.h"
 #include "../lock/loop.h"
@@ -83,10 +83,6 @@ void ww_back_off_(struct ww_acquire_ctx *x);
     assigns x->pool, x->acquired, x->state, x->newest, x->own->ages, listed, level, lists_owed, CORE;
     RELEASES_LIST(x); */
 void ww_acquire_unlock_all(struct ww_acquire_ctx *x);
-/*@ requires m == \null;
-    assigns \nothing; exits \false;
-    ensures \result <= 0; ensures \result == 0 ==> x != \null && x->own != \null && (x->state & IS_POLLED) == 0; */
-int ww_admit(const char *name, enum lock_call call, struct ww_mutex *m, struct ww_acquire_ctx *x, const struct timespec *until);
 /* Without what it owes, if that is listed. */
 /*@ requires is_user_of(x) && is_counted(x);
     assigns \nothing;
@@ -122,15 +118,13 @@ static inline int lock_each(struct ww_acquire_ctx *x, struct ww_mutex *const *lo
 static int retry(struct ww_acquire_ctx *x, struct ww_mutex *const *locks, size_t count, size_t held, int r);
 
 /*
- * All or nothing: 0 only if the seat has the lock of each, and else none that it hadn't before, unless it owed that, or waited for it first;
- * or this is a forked child.
+ * In a loop, or behind a list, all or nothing: 0 only if the seat has the lock of each, and else none that it hadn't before, unless it
+ * owed that, or waited for it first; or this is a forked child.  Of ww_mutex_lock_all, which calls this, nothing is proved.
  */
-#define ALL_OR_NOTHING(x, locks, count) \
-	ensures took: \result == 0 && is_asked(locks, count) ==> core_has == 1; \
-	ensures none: \result != 0 && had_lock == 0 ==> core_has == 0 || GONE(x) || the_mutex == was_owed
 /*@ requires is_user_of(x) && is_counted(x) && loops(x) && unlisted == 0 && waits_with_none(x) && are_locks(locks, count, x);
     requires had_lock == core_has && (core_has == 0 || core_has == 1);
-    ALL_OR_NOTHING(x, locks, count); */
+    ensures took: \result == 0 && is_asked(locks, count) ==> core_has == 1;
+    ensures none: \result != 0 && had_lock == 0 ==> core_has == 0 || GONE(x) || the_mutex == was_owed; */
 static int lock_further(struct ww_acquire_ctx *x, struct ww_mutex *const *locks, size_t count);
 /* After a list by hand, of which an error releases all. */
 /*@ requires is_user_of(x) && is_counted(x) && loops(x);
@@ -140,9 +134,3 @@ static int lock_further(struct ww_acquire_ctx *x, struct ww_mutex *const *locks,
     ensures released: r != 0 && \old(level) > 0 ==> core_has == 0 || GONE(x);
     ensures others: GONE(x) || core_has == 0 || core_has == \old(core_has); */
 static int ends_by_hand(struct ww_acquire_ctx *x, struct ww_mutex *contending_lock, int r);
-/*@ requires x != \null ==> x->own != \null ==> is_user_of(x) && is_counted(x) && waits_with_none(x) && are_locks(locks, count, x);
-    requires had_lock == core_has && (core_has == 0 || core_has == 1);
-    requires loop: x != \null ==> loops(x) ==> unlisted == 0;
-    requires by_hand: x != \null ==> !loops(x) ==> x->gives == (void *)x->own && (x->state & WAITS_FIRST) == 0 && !OWES(x);
-    ALL_OR_NOTHING(x, locks, count); */
-int ww_mutex_lock_all(struct ww_acquire_ctx *x, struct ww_mutex *const *locks, size_t count);

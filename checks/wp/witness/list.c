@@ -58,5 +58,3 @@ void witness_lock_further(unsigned state) { w_list(state); /*@ ghost had_lock = 
 void witness_begin_list(unsigned state) { w_list(state); /*@ check never: \false; */ begin_list(&w_context, w_locks, 1); }
 /*@ requires NO_BITS(state); */
 void witness_ends_by_hand(unsigned state) { w_list(state); /*@ check never: \false; */ ends_by_hand(&w_context, &w_mutex, 0); }
-/*@ requires NO_BITS(state); */
-void witness_lock_all(unsigned state) { w_list(state); /*@ ghost had_lock = 1; */ /*@ check never: \false; */ ww_mutex_lock_all(&w_context, w_locks, 1); }

@@ -64,6 +64,12 @@ L:	w_core(NO_CALL, 1, 1, 0);
 	w_mutex.ctx = &w_context;
 	w_context.newest = &w_mutex;
 	w_context.acquired++;
+	/*@ assert bit: !loops(&w_context) && (\at(w_mutex.waiters, L) & (1 << 29)) == 0; */
+	/*@ assert says: says{L, Here}(&w_mutex, &w_context); */
+	/*@ assert is_noted: is_noted{L, Here}(&w_mutex, &w_context) && w_context.newest == &w_mutex; */
+	/*@ assert newest: newest{L, Here}(&w_mutex, &w_context); */
+	/*@ assert older: older{L, Here}(&w_mutex, &w_context); */
+	/*@ assert lists: listed{L, Here}(&w_mutex, &w_context); */
 	/*@ assert has_lock_result_at_first: lock_result_at_first{L, Here}(&w_mutex, &w_context, 0) && numbered{L, Here}(&w_mutex); */
 	/*@ check never: \false; */
 }
