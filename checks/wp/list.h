@@ -2,7 +2,7 @@
  * list.h - lists of locks: of each mutex in one, whichever that is.
  *
  * source: lock/list.c
- * proves: lock_each retry lock_further begin_list ends_by_hand
+ * proves: retry lock_further begin_list ends_by_hand
  * inlines: is_loop begin_loop let_be_older share_age
  */
 #include "lock.h"

@@ -49,8 +49,6 @@ void witness_kept(unsigned state)
 	/*@ check never: \false; */
 }
 /*@ requires NO_BITS(state); */
-void witness_lock_each(unsigned state) { w_list(state); /*@ check never: \false; */ lock_each(&w_context, w_locks, 1); }
-/*@ requires NO_BITS(state); */
 void witness_retry(unsigned state) { w_list(state); /*@ check never: \false; */ retry(&w_context, w_locks, 1, 0, -EINTR); }
 /*@ requires NO_BITS(state); */
 void witness_lock_further(unsigned state) { w_list(state); /*@ ghost had_lock = 1; */ /*@ check never: \false; */ lock_further(&w_context, w_locks, 1); }

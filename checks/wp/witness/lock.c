@@ -45,9 +45,10 @@ L:	w_core(NO_CALL, 1, 2, 0);
 	/*@ assert has_lock_result: lock_result{L, Here}(&w_mutex, &w_context, &w_seat, 0, 0); */
 	/*@ check never: \false; */
 }
-void witness_refusals(void)
+void witness_refusals(unsigned state)
 {
 	w_locks(NO_CALL, 0);
+	w_context.state = state;
 L:	w_core(NO_CALL, 0, 1, 1);
 	w_context.contending_lock = &w_mutex;
 	w_context.state = (w_context.state | IS_TOLD) & ~(unsigned)WAS_TOLD;
