@@ -147,6 +147,7 @@ static void *until_cancelled(void *arg)
 	int r = 0;
 
 	while (!r && !__atomic_load_n(&stops, __ATOMIC_SEQ_CST)) {
+		is_awake(); /* on a busy machine it would pass without a permit, as who sleeps does */
 		r = ww_acquire_init_until(&x, c, NULL);
 		MUST(!r || r == -EINTR);
 		if (r)
