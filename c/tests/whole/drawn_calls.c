@@ -1287,18 +1287,21 @@ static void begin(struct task *t)
 }
 
 /*
- * A task polls.  If it was called, it isn't any more.  While any task is called, each that polls looks for a seat: a called one first
- * at that for which it was called.  In vain, it waits on where it stood.  Returns whether it finds one.
+ * A task polls.  If it was called, it isn't any more, and it looks at the seat for which it was; at others only if all that wait were
+ * called.  While any task is called, each that polls and wasn't called looks for a seat, too.  In vain, a task waits on where it stood.
+ * Returns whether it finds one.
  */
 static bool finds_one(struct task *t)
 {
 	const ww_seat *was_for = t->place == CALLED ? t->seat : NULL;
-	bool looks = t->place != SERVED && called_for(NULL);
+	bool looks = t->place != SERVED && called_for(NULL), at_others = !was_for || !first_uncalled();
 
 	if (t->place == CALLED)
 		t->place = WAITS;
-	if (looks && used() < w->contexts)
-		has_got(t, was_for && !users(was_for) ? was_for : NULL);
+	if (looks && was_for && !users(was_for))
+		has_got(t, was_for);
+	else if (looks && at_others && used() < w->contexts)
+		has_got(t, NULL);
 	return t->place == SERVED;
 }
 
