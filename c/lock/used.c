@@ -33,9 +33,11 @@ bool ww_has_users(struct ww_numbers *n, uint32_t number, const void *of)
 	struct ww_pool *p = (struct ww_pool *)((char *)n - offsetof(struct ww_pool, numbers));
 	ww_seat *spare = spare_of(p);
 	struct ww_waker waker = { 0 };
+	uint64_t word = owner_word(p, number);
 	bool is;
 
-	if (owner_word(p, number))
+	/* Another call that looks whether somebody uses the mutex is no user. */
+	if (word && owner_of_word(word) != place_among(spare))
 		return true;
 	pthread_mutex_lock(&p->spare);
 	is = ww_try_(&spare->handle, number);
