@@ -33,15 +33,17 @@ SOURCES := format refuse_abuses scene try_cases try_using
 PROVED := prove generated_ww_c generated_ww_run by_rattle growths_of_tests passes
 WP := $(shell checks/check_wp --units) eva
 KILLS := 1 2 3
-OF_C := c_tests c_threads rust $(KILLS:%=kills_%) $(WP:%=wp_%) wp_text wp_faults dist aarch64 c_compilers c_pages c_installed simulated kernel instructions make
+OF_KILLS := $(KILLS:%=kills_%)
+OF_C := c_tests c_threads rust $(WP:%=wp_%) wp_text wp_faults dist aarch64 c_compilers c_pages c_installed simulated kernel instructions make
 OF_PROGRAM := soak refuse_growths tools run large parks program_fails
-.PHONY: all quick sources proofs library program list made_library made_program $(QUICK) $(SOURCES) $(PROVED) $(OF_C) $(OF_PROGRAM)
+.PHONY: all quick sources proofs library program kills list made_library made_program $(QUICK) $(SOURCES) $(PROVED) $(OF_C) $(OF_KILLS) $(OF_PROGRAM)
 
 # The longest come first.
 all: quick proofs library sources program
 quick: $(QUICK)
-library: $(OF_C)
+library: $(OF_C) $(if $(WHOLE),$(OF_KILLS))
 program: $(OF_PROGRAM)
+kills: $(OF_KILLS)
 proofs: $(if $(filter yes,$(PROOFS)),$(PROVED))
 READS_format := checks/check_format
 READS_refuse_abuses := checks/refuse_abuses checks/abuses.blocks
@@ -50,7 +52,7 @@ READS_try_cases := checks/try_cases program/cases program/examples
 READS_try_using := checks/try_using docs/RATTLE.md
 sources: $(call asked,$(SOURCES))
 list:
-	@printf '%s\n' $(QUICK) $(call asked,$(SOURCES)) $(if $(filter yes,$(PROOFS)),$(PROVED)) made_library made_program $(OF_C) $(OF_PROGRAM)
+	@printf '%s\n' $(QUICK) $(call asked,$(SOURCES)) $(if $(filter yes,$(PROOFS)),$(PROVED)) made_library made_program $(OF_C) $(if $(WHOLE),$(OF_KILLS)) $(OF_PROGRAM)
 
 edits:                          ; $(call check,20) checks/check_edits $(BASE)
 $(filter-out edits,$(QUICK)):   ; $(call check,20) checks/check_$@
@@ -71,7 +73,7 @@ c_tests: | quick made_library   ; $(call made,60) $(MAKE) -s -k -C c OUT=out/gat
 c_threads: | quick made_library ; $(call made,60) $(MAKE) -s -k -C c OUT=out/gate check-thread
 c_compilers c_pages: | quick    ; $(call check,60) checks/check_$@
 c_installed: | quick made_library; $(call check,60) checks/check_$@
-$(KILLS:%=kills_%): kills_%: | quick ; $(call check,90) c/tests/search/kills -p $*/$(words $(KILLS)) $(if $(WHOLE),,$(BASE:%=--changed %))
+$(OF_KILLS): kills_%: | quick ; $(call check,90) c/tests/search/kills -p $*/$(words $(KILLS)) $(if $(WHOLE),,$(BASE:%=--changed %))
 simulated: | quick              ; $(call check,60) checks/check_simulated
 kernel: | quick made_library    ; $(call check,60) checks/check_kernel $(ARCHIVE)
 instructions: | quick made_library; $(call check,60) checks/check_instructions $(ARCHIVE)
