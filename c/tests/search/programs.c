@@ -621,7 +621,7 @@ static void back_off_by_hand(struct user *u, const char *at, unsigned contended)
 static const char *loop(struct user *u, const char *at, char way)
 {
 	ww_until_all_locked(u->x) {
-		/* The debug library may make up an -EDEADLK at a mutex that is held. */
+		/* After an -EDEADLK that the debug library made up, it refuses what is held with -EINVAL, and not with -EALREADY. */
 		bool goes_back = way == 'Q' && !IS_DEBUG;
 
 		for (const char *k = at; *k != ';'; k++) {
