@@ -1,6 +1,8 @@
 # make: the program ww_run and the library for C, of the proved assembly in program/core and c/core, in seconds, with
 # a C compiler alone (gcc or clang). The program stands at out/ww_run, where ./run finds it, and the library in c/out.
 #
+# make demo: two threads that lock two mutexes in opposite orders, with plain mutexes and with this library.
+#
 # make check: what was made gives what is stored for each input of program/, with its exit status, and passes
 # each test and example in C and C++ that needs no sanitizer, or with FEW=--few some of them.  make install: the
 # program, the library, the pages, below PREFIX (and DESTDIR).  make clean: what was made goes.
@@ -20,19 +22,23 @@ PROGRAM = $(OUT)/ww_run
 ASSEMBLY = program/core/$(PROCESSOR).s
 AS_C = -std=c11 -Wall -Wextra -Wpedantic -Ic/include $(CPPFLAGS) $(CFLAGS)
 PREFIX = /usr/local
+$(if $(word 2,$(PREFIX))$(word 2,$(DESTDIR)),$(error a PREFIX or DESTDIR with a space is refused: make would take it for two))
 MANDIR = $(PREFIX)/share/man
 DOCDIR = $(PREFIX)/share/doc/ww
 TOOLS = explain trace picture json
 TOOLSDIR = $(PREFIX)/share/ww/tools
 MAKES_C = $(MAKE) --no-print-directory -C c CROSS='$(CROSS)' RUN='$(RUN)' PREFIX='$(abspath $(PREFIX))'
 
-all: $(PROGRAM) library
+# The program's assembly is kept for x86_64. ./build --assembly aarch64 makes that for AArch64: ASSEMBLY=out/program/aarch64.s.
+MADE = $(if $(wildcard $(ASSEMBLY)),$(PROGRAM),no-program) library
+all: $(MADE)
+	@echo 'made: c/$(OUT)/libww.a and libww.so, libww_debug.a and libww_debug.so$(if $(wildcard $(ASSEMBLY)),; $(PROGRAM)). Next: make demo'
+
+no-program:
+	@echo 'There is no $(ASSEMBLY), so the library is made, and not ww_run.'
 
 library:
 	+@$(MAKES_C) all
-
-program/core/%.s:
-	@echo 'there is no $@: the proved program is there for x86_64 and aarch64 alone' >&2 && false
 
 # The checksum of the sources of which this program is stands beside it, for ./run and ./test.
 $(PROGRAM): $(ASSEMBLY) program/program.c c/include/ww_steps.h
@@ -43,20 +49,25 @@ $(PROGRAM): $(ASSEMBLY) program/program.c c/include/ww_steps.h
 	@sed -n 's/^ \* sources: //p' $(ASSEMBLY) >$@.sources
 	@tools/is_of_sources $@ || true
 
-check: all
-	+@checks/check_made $(FEW) $(PROGRAM) '$(CROSS)' $(RUN)
+demo: library
+	@mkdir -p $(OUT)
+	$(CC) $(CPPFLAGS) $(CFLAGS) -I c/include c/examples/demo.c c/$(OUT)/libww.a $(LDFLAGS) -pthread -o $(OUT)/demo
+	@$(RUN) $(OUT)/demo
+
+check: $(MADE)
+	+@checks/check_made $(FEW) $(if $(wildcard $(ASSEMBLY)),$(PROGRAM),--library) '$(CROSS)' $(RUN)
 
 # As programs of another processor are run.
 check-program: $(PROGRAM)
 	+@checks/check_made --program $(PROGRAM) '$(CROSS)' $(RUN)
 
-install: all
+install: $(MADE)
 	install -d $(DESTDIR)$(PREFIX)/bin $(DESTDIR)$(MANDIR)/man1 $(DESTDIR)$(DOCDIR) $(DESTDIR)$(TOOLSDIR)
-	install -m 755 $(PROGRAM) $(DESTDIR)$(PREFIX)/bin
-	install -m 644 program/ww_run.1 $(DESTDIR)$(MANDIR)/man1
+	[ ! -e $(ASSEMBLY) ] || install -m 755 $(PROGRAM) $(DESTDIR)$(PREFIX)/bin
+	[ ! -e $(ASSEMBLY) ] || install -m 644 program/ww_run.1 $(DESTDIR)$(MANDIR)/man1
 	tools/install_pages $(DESTDIR)$(DOCDIR)
 	install -m 755 $(TOOLS:%=tools/%) $(DESTDIR)$(TOOLSDIR)
-	install -m 644 tools/command.py tools/core.py tools/inputs.py tools/printed.py $(DESTDIR)$(TOOLSDIR)
+	install -m 644 tools/command.py tools/core.py tools/inputs.py tools/printed.py tools/waits.py $(DESTDIR)$(TOOLSDIR)
 	+$(MAKES_C) install
 	@[ -n '$(DESTDIR)' ] || echo 'Programs find libww.so after ldconfig, or with -Wl,-rpath,$(abspath $(PREFIX))/lib; pkg-config --static ww takes libww.a.'
 
@@ -66,7 +77,7 @@ uninstall:
 	+$(MAKES_C) uninstall
 
 clean:
-	rm -f $(PROGRAM) $(PROGRAM).o $(PROGRAM).sources
+	rm -f $(PROGRAM) $(PROGRAM).o $(PROGRAM).sources $(OUT)/demo
 	+$(MAKES_C) clean
 
-.PHONY: all library check check-program install uninstall clean
+.PHONY: all no-program library demo check check-program install uninstall clean

@@ -30,29 +30,30 @@ asked = $(if $(filter yes,$(PROOFS)),$(1),$(foreach it,$(1),$(if $(filter yes,$(
 
 QUICK := budget c_names documents edits gate layers limits names packages prototypes unused
 SOURCES := format refuse_abuses scene try_cases try_using
-PROVED := prove generated_ww_c generated_ww_run by_rattle growths_of_tests passes
+PROVED := prove generated_ww_c generated_ww_run by_rattle aarch64_program growths_of_tests
 WP := $(shell checks/check_wp --units) eva
 KILLS := 1 2 3
 OF_KILLS := $(KILLS:%=kills_%)
-OF_C := c_tests c_threads rust $(WP:%=wp_%) wp_text wp_faults dist aarch64 c_compilers c_pages c_installed simulated kernel instructions make
+OF_C := c_tests c_threads rust $(WP:%=wp_%) wp_text wp_faults dist aarch64 c_compilers c_pages c_installed gdb simulated kernel instructions make
 OF_PROGRAM := soak refuse_growths tools run large parks program_fails
 .PHONY: all quick sources proofs library program kills list made_library made_program $(QUICK) $(SOURCES) $(PROVED) $(OF_C) $(OF_KILLS) $(OF_PROGRAM)
 
-# The longest come first.
+# The longest come first. All wait for what some need, since make would begin the others before these, and the longest last.
 all: quick proofs library sources program
 quick: $(QUICK)
-library: $(OF_C) $(if $(WHOLE),$(OF_KILLS))
+library: $(OF_C) $(OF_KILLS)
 program: $(OF_PROGRAM)
 kills: $(OF_KILLS)
+$(OF_C) $(OF_KILLS) $(OF_PROGRAM): | quick made_library made_program
 proofs: $(if $(filter yes,$(PROOFS)),$(PROVED))
 READS_format := checks/check_format
 READS_refuse_abuses := checks/refuse_abuses checks/abuses.blocks
-READS_scene := checks/check_scene checks/scenes.py checks/endless.py
+READS_scene := checks/check_scene checks/scenes.py checks/endless.py checks/loops.py
 READS_try_cases := checks/try_cases program/cases program/examples
 READS_try_using := checks/try_using docs/RATTLE.md
 sources: $(call asked,$(SOURCES))
 list:
-	@printf '%s\n' $(QUICK) $(call asked,$(SOURCES)) $(if $(filter yes,$(PROOFS)),$(PROVED)) made_library made_program $(OF_C) $(if $(WHOLE),$(OF_KILLS)) $(OF_PROGRAM)
+	@printf '%s\n' $(QUICK) $(call asked,$(SOURCES)) $(if $(filter yes,$(PROOFS)),$(PROVED)) made_library made_program $(OF_C) $(OF_KILLS) $(OF_PROGRAM)
 
 edits:                          ; $(call check,20) checks/check_edits $(BASE)
 $(filter-out edits,$(QUICK)):   ; $(call check,20) checks/check_$@
@@ -65,28 +66,28 @@ prove: | quick                  ; $(call check,170) checks/prove $(WHOLE)
 generated_ww_c: | prove         ; $(call check,60) bash -c 'checks/link_proved ww_c out/gate/proving && checks/check_generated ww_c crates/ww_c/out/generated'
 generated_ww_run: | prove       ; $(call check,60) bash -c 'checks/link_proved ww_run out/gate/proving && checks/check_generated ww_run crates/ww_run/out/generated'
 by_rattle: | prove              ; $(call check,30) bash -c 'for it in crates/ww_run/out/ww_run{,.by-rattle}; do [ ! -e $$it ] || checks/check_program $$it || exit 1; done'
+aarch64_program: | generated_ww_run; $(call check,60) checks/check_aarch64 --program crates/ww_run/out/generated/aarch64.s
 growths_of_tests: | prove       ; $(call check,60) checks/refuse_library_growths
-passes: | prove                 ; $(call check,30) checks/check_instructions --passes
 
 made_library:                   ; $(call made,30) bash -c '$(MAKE) -s -C c OUT=out/gate all && mkdir -p $(dir $(ARCHIVE)) && ar rcsD $(ARCHIVE) $(OF_MAKE)/core.o'
-c_tests: | quick made_library   ; $(call made,60) $(MAKE) -s -k -C c OUT=out/gate check
-c_threads: | quick made_library ; $(call made,60) $(MAKE) -s -k -C c OUT=out/gate check-thread
-c_compilers c_pages: | quick    ; $(call check,60) checks/check_$@
-c_installed: | quick made_library; $(call check,60) checks/check_$@
-$(OF_KILLS): kills_%: | quick ; $(call check,90) c/tests/search/kills -p $*/$(words $(KILLS)) $(if $(WHOLE),,$(BASE:%=--changed %))
-simulated: | quick              ; $(call check,60) checks/check_simulated
-kernel: | quick made_library    ; $(call check,60) checks/check_kernel $(ARCHIVE)
-instructions: | quick made_library; $(call check,60) checks/check_instructions $(ARCHIVE)
-rust: | quick made_library      ; $(call check,60) checks/check_rust $(ARCHIVE)
-aarch64: | quick                ; $(call check,60) checks/check_aarch64 $(WHOLE:%=--both)
-dist: | quick                   ; $(call check,60) checks/check_dist $(WHOLE:%=--twice)
-make: | quick                   ; $(call check,60) checks/check_make
-wp_text: | quick                ; $(call check,20) checks/check_wp --text
-wp_faults: | quick              ; $(call check,60) checks/check_wp --self-test
-$(WP:%=wp_%): wp_%: | quick     ; $(call check,60) $(if $(WHOLE),env CHECK_WP_CACHE=) checks/check_wp -j 1 $*
+c_tests:                        ; $(call made,60) $(MAKE) -s -k -C c OUT=out/gate check
+c_threads:                      ; $(call made,60) $(MAKE) -s -k -C c OUT=out/gate check-thread
+c_compilers c_pages:            ; $(call check,60) checks/check_$@
+c_installed:                    ; $(call check,60) checks/check_$@
+gdb:                            ; $(call check,30) checks/check_$@ $(OF_MAKE)
+$(OF_KILLS): kills_%:           ; $(call check,90) c/tests/search/kills -p $*/$(words $(KILLS)) $(if $(WHOLE),,--most 30 $(BASE:%=--changed %))
+simulated:                      ; $(call check,60) checks/check_simulated
+kernel:                         ; $(call check,60) checks/check_kernel $(ARCHIVE)
+instructions:                   ; $(call check,60) checks/check_instructions $(ARCHIVE)
+rust:                           ; $(call check,60) checks/check_rust $(ARCHIVE)
+aarch64:                        ; $(call check,60) checks/check_aarch64 $(WHOLE:%=--both)
+dist:                           ; $(call check,60) checks/check_dist $(WHOLE:%=--twice)
+make:                           ; $(call check,60) checks/check_make
+wp_text:                        ; $(call check,20) checks/check_wp --text
+wp_faults:                      ; $(call check,60) checks/check_wp --self-test
+$(WP:%=wp_%): wp_%:             ; $(call check,60) $(if $(WHOLE),env CHECK_WP_CACHE=) checks/check_wp -j 1 $*
 
 made_program:                   ; $(call made,30) $(MAKE) -s $(PROGRAM)
-soak refuse_growths large parks program_fails tools run: | quick made_program
 soak large parks tools run:     ; $(call check,60) checks/check_$@ $(PROGRAM)
 refuse_growths:                 ; $(call check,60) checks/$@ $(PROGRAM)
 program_fails:                  ; $(call check,30) checks/check_program $(PROGRAM)

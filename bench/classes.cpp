@@ -5,6 +5,7 @@
  */
 #include <array>
 #include <cstdlib>
+#include <type_traits>
 #include <ww_mutex.h>
 #include <ww_number.h>
 #include <ww_poll.h>
@@ -152,11 +153,13 @@ template <class Way, class Release> [[gnu::noinline]] void context()
 	ww_acquire_fini(&x);
 }
 
-// By itself a context doesn't know what it holds: at once it is refused (c/tests/lock/ends.c).
+// By itself a context knows what it has acquired since its last unlock, but for mutexes by number (c/tests/lock/unlock_all.c).
 template <class Way> void by_itself()
 {
 	context<by_hand<Way>, newest_first>();
 	context<by_hand<Way>, oldest_first>();
+	if constexpr (!std::is_base_of_v<of_number, Way>)
+		context<by_hand<Way>, at_once>();
 }
 template <class Way> void listed()
 {

@@ -17,6 +17,7 @@
 #if __has_include(<peer.h>)
 #include <peer.h> // the kernel's code, as bench/kernel_peer compiles it for user space
 #define HAS_PEER
+using bench::peer;
 #endif
 
 namespace {

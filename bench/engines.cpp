@@ -16,7 +16,9 @@
  * engines contexts ENGINE TAKES LOCKS TIMES makes so many by one thread, and prints
  * nothing: for who counts what they do. engines open CONTEXTS LOCKS prints the bytes
  * of the heap that an open class has, those that are resident, and the milliseconds
- * of opening it. engines peer prints the name of the peer, if there is one.
+ * of opening it. engines use CLASSES prints the bytes that are resident of each of so many
+ * classes that say nothing, and that one thread uses, and its milliseconds. engines peer
+ * prints the name of the peer, if there is one.
  */
 #include <algorithm>
 #include <array>
@@ -295,6 +297,29 @@ void open(unsigned contexts, unsigned locks)
 	here::close(its);
 }
 
+// Of so many classes that say nothing, and that one thread uses: bytes that are resident, and milliseconds, of each.
+void use(unsigned many)
+{
+	std::vector<ww_class> classes(many);
+	std::vector<ww_mutex> locks(many);
+	const std::size_t before = resident();
+	const auto from = steady::now();
+
+	for (unsigned k = 0; k < many; k++) {
+		ww_acquire_ctx x;
+
+		ww_class_init(&classes[k], WW_WOUND_WAIT, "bench");
+		ww_mutex_init(&locks[k], &classes[k]);
+		ww_acquire_init(&x, &classes[k]);
+		if (ww_mutex_lock(&locks[k], &x))
+			std::exit(cant_open);
+		ww_mutex_unlock(&locks[k]);
+		ww_acquire_fini(&x);
+	}
+	const std::chrono::duration<double, std::milli> took = steady::now() - from;
+	std::printf("%zu %.4f\n", (resident() - before) / many, took.count() / many);
+}
+
 } // namespace
 
 int main(int count, char **words)
@@ -314,6 +339,8 @@ int main(int count, char **words)
 		engine_of(engines, words[2]).contexts(number(words[5]));
 	} else if (what == "open" && count == 4) {
 		open(number(words[2]), number(words[3]));
+	} else if (what == "use" && count == 3) {
+		use(number(words[2]));
 	} else if (what == "peer" && count == 2) {
 		std::puts(peer_name());
 	} else {

@@ -1,40 +1,25 @@
 """What the scripts that measure share: their words, and goes that nothing disturbs."""
 import argparse
 import os
-import statistics
-import sys
 import time
 
 # how often a go is made anew at most
 ANEW = 10
 
 
-def asked(text, default, before=None, writes=False, more=None):
-    """What the command line asks for, by the script's own text; `before` names the program that may be compared,
-    `writes` says whether figures may be written into a file, and `more` adds words of the script's own to the parser."""
+def asked(text, default, more):
+    """What the command line asks for, by the script's own text; `more` adds words of the script's own to the parser."""
     head, _, rest = text.partition("\n\n")
     form = argparse.RawDescriptionHelpFormatter
     parser = argparse.ArgumentParser(description=head, epilog=rest, formatter_class=form)
     often = f"{default} if none is named"
     parser.add_argument("goes", type=int, nargs="?", default=default, metavar="GOES", help=often)
     parser.add_argument("--minutes", type=float, metavar="M", help="no round begins after so many minutes")
-    if before is not None:
-        parser.add_argument("--before", metavar="PROGRAM", type=os.path.abspath, help=f"another {before}, side by side")
-    if writes:
-        parser.add_argument("--csv", metavar="FILE", help="the figures for bench/plot")
-    if more is not None:
-        more(parser)
+    more(parser)
     words = parser.parse_args()
     if words.goes < 1:
         parser.error("a number of goes above 0 is needed")
-    if before is not None and words.before is not None and not os.access(words.before, os.X_OK):
-        parser.error(f"{words.before} isn't there")
     return words
-
-
-def need_program(path, made_by):
-    if not os.access(path, os.X_OK):
-        sys.exit(f"{path} isn't there: {made_by} makes it")
 
 
 def stolen():
@@ -81,8 +66,3 @@ class Goes:
         """Of what the figures are."""
         goes = f"{self.made} goes of each row, of which {self.disturbed} were disturbed; {self.left_out} more left out"
         return f"({goes}; of {os.cpu_count()} processors {self.load_before:.1f} were in use before)"
-
-
-def middle(goes):
-    """The middle of each number that the goes tell, by itself."""
-    return tuple(statistics.median_low(numbers) for numbers in zip(*goes))

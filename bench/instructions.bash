@@ -58,13 +58,3 @@ by_function() {
                 }
         }' "$work/$many.functions" "$work/$few.functions"
 }
-
-# The timed program of passes, as `rt ci` leaves it.
-bench=../crates/ww_bench/out/ww_bench
-
-# Those of one transaction of passes that locks so many of 64 nodes, reads each and releases all, by one thread in
-# Wound-Wait. The drawing of its list is counted too.
-of_passes() {
-    local words=("$bench" reads wound-wait 1 "$2" 64)
-    echo $((($(count_of "${words[@]}" $many 0 1) - $(count_of "${words[@]}" $few 0 1)) / (many - few)))
-}

@@ -17,6 +17,7 @@
  * reads             of a hundred records it only reads so many
  * work, sleep       so many nanoseconds of work with each lock; and of sleep with all of them
  * rest              it sleeps for so many nanoseconds between two transactions
+ * contexts          the class says that it has so many contexts more than threads; 0: it says no number
  * seconds           how long that goes on
  * marks             1: it tells how many were locked after 100 ms, and after each second
  *
@@ -51,7 +52,7 @@ namespace {
 using namespace bench;
 
 struct {
-	unsigned tasks, locks, hot, is_ring, longer, often, work, sleep, rest, marks;
+	unsigned tasks, locks, hot, is_ring, longer, often, work, sleep, rest, marks, contexts;
 	double skew;
 	unsigned pauses;
 } load;
@@ -224,6 +225,16 @@ template <class Lock = std::mutex> struct tried {
 		fn();
 		release_all(all, it, it.count);
 		return again;
+	}
+};
+
+// ww_mutex.h, by a class that says how many contexts it has, if the load does.
+struct as_said : here {
+	static void open(class_ &c, int is_wait_die, unsigned mutexes, unsigned threads)
+	{
+		ww_class_init(&c, is_wait_die, "bench");
+		if (ww_class_limit(&c, mutexes, load.contexts ? threads + load.contexts : 0) || ww_class_open(&c))
+			std::exit(cant_open);
 	}
 };
 
@@ -433,8 +444,8 @@ constexpr named engines[]{
 	{ "one mutex", go<one_mutex>, go<one_mutex>, poll<queues<one_for_all>> },
 	{ "sorted", go<sorted_mutexes<>>, go<sorted_mutexes<std::shared_mutex>>, poll<queues<in_order>> },
 	{ "tried", go<tried<>>, go<tried<std::shared_mutex>>, nullptr },
-	ours<wound_wait, here>("ours wound-wait", poll<polled<wound_wait>>),
-	ours<wait_die, here>("ours wait-die", poll<polled<wait_die>>),
+	ours<wound_wait, as_said>("ours wound-wait", poll<polled<wound_wait>>),
+	ours<wait_die, as_said>("ours wait-die", poll<polled<wait_die>>),
 	ours<wound_wait, without_permits>("no limit wound-wait", poll<polled<wound_wait, true>>),
 	ours<wait_die, without_permits>("no limit wait-die", poll<polled<wait_die, true>>),
 #ifdef HAS_PEER
@@ -481,6 +492,7 @@ int main(int count, char **words)
 	now = { by.whole("threads", 1), by.whole("takes", 1), by.real("seconds", 1), by.whole("reads") };
 	load = { by.whole("tasks"), by.whole("locks", 1), by.whole("hot"),   by.whole("ring"), by.whole("long"),
 		 by.whole("often"), by.whole("work"),     by.whole("sleep"), by.whole("rest"), by.whole("marks"),
+		 by.whole("contexts"),
 		 by.real("skew"),   0 };
 	const unsigned longest = std::max(now.takes, load.longer);
 

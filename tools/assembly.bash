@@ -3,12 +3,14 @@
 # at the top of the repository, behind tools/crates.bash.
 # shellcheck shell=bash disable=SC2034
 
-# The processors for which assembly is kept, and the crates of which it is.
+# The processors for which these are made. The library's assembly is kept for both, and the program's for x86_64: that for aarch64
+# would be a seventh of the repository.
 processors=(x86_64 aarch64)
-assembled=(ww_c ww_run)
+kept_for() { [ "$1" = ww_c ] && echo "${processors[@]}" || echo x86_64; }
 
-# Where the assembly of such a crate is kept, and the command that writes it.
+# Where the assembly of such a crate is kept, and where that of another processor is made; and the command that writes it.
 kept_in() { [ "$1" = ww_c ] && echo c/core || echo program/core; }
+made_in() { [[ " $(kept_for "$1") " = *" $2 "* ]] && kept_in "$1" || echo out/program; }
 written_by() { [ "$1" = ww_c ] && echo './build c --assembly' || echo './build --assembly'; }
 
 # make_assembly CRATE PROCESSOR MADE TEXT [WORD..]: proves the crate, and writes what the compiler makes of it, which is an

@@ -1,6 +1,7 @@
 """The core of the locks, as docs/RULES.md has it: written from that page, and not from the program.
 
-Names here are the words of the page.
+Names here are the words of the page. What it says of an event that isn't possible has those of users: a seat is a thread, a lock a
+mutex, a stamp a timestamp, and a sign a wound.
 """
 STAMPS = 2**56
 
@@ -85,42 +86,42 @@ class Core:
     def tell(self, n):
         """The owner of n, in words."""
         if self.owner[n] is None:
-            return f"lock {n} is free"
-        return f"seat {self.owner[n]} {'was handed' if self.is_handed[n] else 'has taken'} lock {n}"
+            return f"mutex {n} is free"
+        return f"thread {self.owner[n]} {'was handed' if self.is_handed[n] else 'has taken'} mutex {n}"
 
     # -- conditions that several rows have
 
     def must_be_away(self, s):
-        must(self.guarded(s) is None, f"seat {s} isn't away: it is inside the guard of lock {self.guarded(s)}")
+        must(self.guarded(s) is None, f"thread {s} isn't away: it is inside the guard of mutex {self.guarded(s)}")
         for n in self.lists(s):
-            raise Impossible(f"seat {s} isn't away: it stands in the list of lock {n}")
+            raise Impossible(f"thread {s} isn't away: it stands in the list of mutex {n}")
 
     def must_be_inside(self, s, n):
         where = self.guarded(s)
-        inside = "no guard" if where is None else f"that of lock {where}"
-        must(where == n, f"seat {s} isn't inside the guard of lock {n}: it is inside {inside}")
+        inside = "no guard" if where is None else f"that of mutex {where}"
+        must(where == n, f"thread {s} isn't inside the guard of mutex {n}: it is inside {inside}")
 
     def must_have_context(self, s):
-        must(self.stamp[s] > 0, f"seat {s} has no context")
+        must(self.stamp[s] > 0, f"thread {s} has no context")
 
     def must_own_none(self, s):
         for n in self.owned(s):
-            raise Impossible(f"seat {s} owns lock {n}")
+            raise Impossible(f"thread {s} owns mutex {n}")
 
     def must_want(self, s):
         owned = self.owned(s)
-        must(self.stamp[s] or not owned, f"seat {s} may want no lock: it has no context, and owns a lock")
-        must(not self.sign[s] or owned, f"seat {s} may want no lock: it has the sign {self.sign[s]}, and owns none")
+        must(self.stamp[s] or not owned, f"thread {s} may want no mutex: it has no context, and owns a mutex")
+        must(not self.sign[s] or owned, f"thread {s} may want no mutex: it has the wound {self.sign[s]}, and owns none")
 
     def must_have_other(self, s, n):
-        must(self.has_other(s, n), f"lock {n} has no other owner: {self.tell(n)}")
+        must(self.has_other(s, n), f"mutex {n} has no other owner: {self.tell(n)}")
 
     def must_wait(self, s, n):
         self.must_be_inside(s, n)
-        must(s in self.waiters[n], f"seat {s} doesn't stand in the list of lock {n}")
+        must(s in self.waiters[n], f"thread {s} doesn't stand in the list of mutex {n}")
 
     def must_have_heeded_none(self, s):
-        must(self.heeded[s] is None, f"seat {s} has heeded a cancel, of seat {self.heeded[s]}: it has to leave")
+        must(self.heeded[s] is None, f"thread {s} has heeded a cancel, of thread {self.heeded[s]}: it has to leave")
 
     def leave_list(self, s, n):
         """HANDOFF goes with the last waiter."""
@@ -131,9 +132,9 @@ class Core:
 
     def begin(self, s):
         self.must_be_away(s)
-        must(not self.stamp[s], f"seat {s} has a context, with stamp {self.stamp[s]}")
+        must(not self.stamp[s], f"thread {s} has a context, with timestamp {self.stamp[s]}")
         self.must_own_none(s)
-        must(self.drawn < STAMPS - 1, "no stamp is left")
+        must(self.drawn < STAMPS - 1, "no timestamp is left")
         self.drawn += 1
         self.stamp[s] = self.drawn
         return f"stamp {self.drawn}"
@@ -143,7 +144,7 @@ class Core:
         where = self.guarded(s)
         if self.is_wait_die and where is not None:
             dies = self.dies_of(s, where)
-            must(not dies, f"seat {s} must die at lock {where}, of stamp {dies}")
+            must(not dies, f"thread {s} must die at mutex {where}, of timestamp {dies}")
         else:
             self.must_be_away(s)
             self.must_own_none(s)
@@ -153,24 +154,24 @@ class Core:
     def fast(self, s, n):
         self.must_be_away(s)
         self.must_want(s)
-        must(self.owner[n] is None, f"the word of lock {n} isn't 0: {self.tell(n)}")
-        must(not self.waiters[n], f"the word of lock {n} isn't 0: its list isn't empty")
+        must(self.owner[n] is None, f"the word of mutex {n} isn't 0: {self.tell(n)}")
+        must(not self.waiters[n], f"the word of mutex {n} isn't 0: its list isn't empty")
         self.owner[n] = s
         return "locked"
 
     def fast_give(self, s, n):
         self.must_be_away(s)
-        must(self.has_taken(s, n), f"seat {s} doesn't own lock {n}: {self.tell(n)}")
-        must(not self.waiters[n], f"the word of lock {n} has a flag: its list isn't empty")
+        must(self.has_taken(s, n), f"thread {s} doesn't own mutex {n}: {self.tell(n)}")
+        must(not self.waiters[n], f"the word of mutex {n} has a flag: its list isn't empty")
         self.owner[n] = None
         return "ok"
 
     def guard(self, s, n):
         where, lists = self.guarded(s), self.lists(s)
-        must(where is None, f"seat {s} is inside the guard of lock {where}")
-        must(self.inside[n] is None, f"seat {self.inside[n]} is inside the guard of lock {n}")
+        must(where is None, f"thread {s} is inside the guard of mutex {where}")
+        must(self.inside[n] is None, f"thread {self.inside[n]} is inside the guard of mutex {n}")
         if lists != [n]:
-            must(not lists, f"seat {s} stands in the list of another lock, {lists[0] if lists else ''}")
+            must(not lists, f"thread {s} stands in the list of another mutex, {lists[0] if lists else ''}")
             if not self.has_taken(s, n):
                 self.must_want(s)
         self.inside[n] = s
@@ -178,7 +179,7 @@ class Core:
 
     def join(self, s, n):
         self.must_be_inside(s, n)
-        must(s not in self.waiters[n], f"seat {s} stands in the list of lock {n}")
+        must(s not in self.waiters[n], f"thread {s} stands in the list of mutex {n}")
         self.must_want(s)
         self.must_have_other(s, n)
         younger = [at for at, it in enumerate(self.waiters[n]) if self.older(s, it)]
@@ -187,9 +188,9 @@ class Core:
 
     def sign_of(self, s, v):
         where = self.guarded(s)
-        must(where is not None, f"seat {s} is inside no guard")
-        must(v in self.owed(s, where), f"no sign is owed to seat {v} at lock {where}")
-        must(not self.sign[v], f"seat {v} has a sign, {self.sign[v]}")
+        must(where is not None, f"thread {s} is inside no guard")
+        must(v in self.owed(s, where), f"no wound is due to thread {v} at mutex {where}")
+        must(not self.sign[v], f"thread {v} is wounded, by timestamp {self.sign[v]}")
         self.sign[v] = self.owed(s, where)[v]
         return f"met {self.sign[v]}"
 
@@ -197,7 +198,7 @@ class Core:
         self.must_be_inside(s, n)
         self.must_want(s)
         is_his = self.owner[n] is None or (self.owner[n] == s and self.is_handed[n])
-        must(is_his, f"lock {n} is neither free nor handed to seat {s}: {self.tell(n)}")
+        must(is_his, f"mutex {n} is neither free nor handed to thread {s}: {self.tell(n)}")
         if s in self.waiters[n]:
             self.leave_list(s, n)
         self.owner[n], self.is_handed[n], self.handoff[n] = s, False, False
@@ -205,16 +206,16 @@ class Core:
 
     def ask(self, s, n):
         self.must_be_inside(s, n)
-        must(self.waiters[n][:1] == [s], f"seat {s} isn't first in the list of lock {n}")
+        must(self.waiters[n][:1] == [s], f"thread {s} isn't first in the list of mutex {n}")
         has_taken = self.has_other(s, n) and not self.is_handed[n]
-        must(has_taken, f"no other seat has taken lock {n}: {self.tell(n)}")
-        must(not self.handoff[n], f"HANDOFF of lock {n} is on")
+        must(has_taken, f"no other thread has taken mutex {n}: {self.tell(n)}")
+        must(not self.handoff[n], f"HANDOFF of mutex {n} is on")
         self.handoff[n] = True
         return "ok"
 
     def give(self, s, n):
         self.must_be_inside(s, n)
-        must(self.has_taken(s, n), f"seat {s} doesn't own lock {n}: {self.tell(n)}")
+        must(self.has_taken(s, n), f"thread {s} doesn't own mutex {n}: {self.tell(n)}")
         self.owner[n], self.is_handed[n] = (self.waiters[n][0], True) if self.handoff[n] else (None, False)
         self.handoff[n] = False
         return f"handed {self.owner[n]}" if self.is_handed[n] else "free"
@@ -224,26 +225,26 @@ class Core:
         self.must_have_other(s, n)
         self.must_have_heeded_none(s)
         dies = self.dies_of(s, n)
-        must(dies, f"seat {s} need not die at lock {n}")
+        must(dies, f"thread {s} need not die at mutex {n}")
         self.leave_list(s, n)
         return f"deadlk {dies}"
 
     def unguard(self, s, n):
         self.must_be_inside(s, n)
         for v, stamp in self.still_owed(s, n).items():
-            raise Impossible(f"a sign is still owed to seat {v}, of stamp {stamp}")
+            raise Impossible(f"a wound is still due to thread {v}, of timestamp {stamp}")
         self.must_have_heeded_none(s)
         if s in self.waiters[n]:
             self.must_have_other(s, n)
         if self.is_wait_die:
-            must(not self.dies_of(s, n), f"seat {s} must die at lock {n}, of stamp {self.dies_of(s, n)}")
-            must(not self.sign[s], f"seat {s} has a sign, {self.sign[s]}")
+            must(not self.dies_of(s, n), f"thread {s} must die at mutex {n}, of timestamp {self.dies_of(s, n)}")
+            must(not self.sign[s], f"thread {s} is wounded, by timestamp {self.sign[s]}")
         self.inside[n] = None
         return "ok"
 
     def commit(self, s):
         self.must_be_away(s)
-        must(self.owned(s), f"seat {s} owns no lock")
+        must(self.owned(s), f"thread {s} owns no mutex")
         self.commits += 1
         return f"place {self.commits - 1}"
 
@@ -251,20 +252,20 @@ class Core:
         self.must_be_away(s)
         self.must_have_context(s)
         self.must_own_none(s)
-        must(not self.sign[s], f"seat {s} has a sign, {self.sign[s]}")
+        must(not self.sign[s], f"thread {s} is wounded, by timestamp {self.sign[s]}")
         self.stamp[s] = 0
         return "ok"
 
     def cancel(self, s, v):
         self.must_be_away(s)
-        must(self.cancelled_by[v] is None, f"a cancel of seat {v} is pending, of seat {self.cancelled_by[v]}")
+        must(self.cancelled_by[v] is None, f"a cancel of thread {v} is pending, of thread {self.cancelled_by[v]}")
         self.cancelled_by[v] = s
         return "ok"
 
     def heed(self, s, n):
         self.must_wait(s, n)
         self.must_have_other(s, n)
-        must(self.cancelled_by[s] is not None, f"no cancel of seat {s} is pending")
+        must(self.cancelled_by[s] is not None, f"no cancel of thread {s} is pending")
         self.must_have_heeded_none(s)
         self.heeded[s], self.cancelled_by[s] = self.cancelled_by[s], None
         return "ok"
@@ -272,7 +273,7 @@ class Core:
     def leave(self, s, n):
         self.must_wait(s, n)
         by = self.heeded[s]
-        must(by is not None, f"seat {s} has heeded no cancel")
+        must(by is not None, f"thread {s} has heeded no cancel")
         self.leave_list(s, n)
         self.heeded[s] = None
         return f"interrupted {by}"

@@ -7,6 +7,8 @@ import itertools
 import re
 
 LONGEST = 100
+# What a terminal of 80 columns shows of a line that isn't filled.
+WIDEST = 72
 COMMENT = re.compile(r"^/\*.*?\*/$", re.DOTALL | re.MULTILINE)
 # A call, a macro that takes arguments (but for those that only add a line to a call), and a value with what it is for.
 ARGUMENTS = r"((?:[^()]|\([^()]*\))*)"
@@ -41,14 +43,35 @@ def filled(text):
         yield roff(line)
 
 
+def rows(lines):
+    """The rows of a table of two columns, or nothing if these lines are none: a first column that ends with a comma goes on below."""
+    lines = [f" *{line}".expandtabs(8)[8:] for line in lines]
+    first = re.match(r"\S.*?  +(?=\S)", lines[0])
+    at = first.end() if first else 0
+    if len(lines) < 3 or not at or any(line[at:] and not (line[at - 1] == " " != line[at]) for line in lines):
+        return []
+    made = []
+    for line in lines:
+        left, right = line[:at].strip(), line[at:]
+        if left and not (made and made[-1][0].endswith(",")):
+            made.append([left, right])
+        else:
+            made[-1] = [f"{made[-1][0]} {left}".strip(), f"{made[-1][1]} {right}"]
+    return made
+
+
 def told(lines, between):
-    """A comment with its paragraphs, which what is given stands between, and the code in it, as it is."""
+    """A comment with its paragraphs, which what is given stands between, its tables as lists, and the code in it, as it is."""
     made = []
     for kind, run in itertools.groupby(lines, lambda line: "code" if line.startswith("\t") else bool(line)):
+        run = list(run)
         if not kind:
             continue
         made += [between] if made else []
-        if kind == "code":
+        table = rows(run) if kind == "code" else []
+        if table:
+            made += [".RS", *(line for left, right in table for line in (".TP", f".B {roff(left)}", *filled([right]))), ".RE"]
+        elif kind == "code":
             made += [".nf", *(line.replace("\\", r"\e").expandtabs(4) for line in run), ".fi"]
         else:
             made += filled(run)
@@ -62,12 +85,13 @@ def declared(kind, name, arguments):
     # An argument may be a function's address, whose name stands within.
     each = re.split(r", (?![^()]*\))", " ".join(arguments.split()))
     parts = [re.fullmatch(r"(.*?)(\w+)(\[.*\]|\).*|)", it).groups() for it in each]
-    lines, before, width = [[f"{kind}{name}("]], "", len(kind + name)
+    lines, before, width = [[f"{kind}{name}("]], "", len(kind + name) + 1
     for of, argument, after in parts:
-        width += len(of + argument + after)
-        if before and width > LONGEST - 10:
+        length = len(of + argument + after) + 2
+        if before and width + length > WIDEST:
             lines.append([" " * 8])
-            before, width = "", 0
+            before, width = "", 8
+        width += len(before) + length
         lines[-1][-1] += before + of
         lines[-1] += [argument, after + ("," if (of, argument, after) != parts[-1] else ");" if kind else ")")]
         before = " "

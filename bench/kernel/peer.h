@@ -31,7 +31,7 @@ struct peer {
 #endif
 
 	static void begin_thread() { kernel_begin_thread(); }
-	static void open(class_ &c, int is_wait_die, unsigned, unsigned) { kernel_class_init(&c, is_wait_die); }
+	static void open(class_ &c, int is_wait_die, unsigned, unsigned) { kernel_class_init(&c, is_wait_die != 0); }
 	static void close(class_ &) {}
 	static void make(mutex &m, class_ &c) { kernel_mutex_init(&m, &c); }
 	static void destroy(mutex &) {}

@@ -1,24 +1,105 @@
-/* claim.c - a thread's own seat, and any that is free: in which order a thread looks.  Whose a seat is: see seat.c. */
+/*
+ * claim.c - a thread's own seat, and any that is free: in which order a thread looks, and how seats are made.  Whose a seat is: see
+ * seat.c.
+ *
+ * A class opens with three seats: the spare one, one for threads, and one for tasks.  Every other seat is made when it is first needed.  A
+ * thread's own seat is made as the thread first asks for it (seat.c).  A seat for anybody is made where a thread or a task comes and finds
+ * none free of those that were made.  Seats for anybody are made in an order.  Tasks begin with the first seat of tasks.  Threads begin
+ * with the seats that tasks may not have, and then come those of tasks, the last one first.  Where memory is refused, the class has fewer
+ * contexts meanwhile, and a caller that finds none waits in the queue.
+ *
+ * Making a seat is no step of the seat's `busy`, since nobody looks at the word before.  A claim looks at a seat for anybody only if it
+ * stands among the first `made` of that order; the claim acquires `made`, which the maker released once the seat was ready.  A task that
+ * was called for a seat looks at that seat under the lock of the queue, which the maker had, too.  At a thread's own seat only that thread
+ * looks: it made the seat itself, or came to the seat's place after the thread that did.  So each user of a seat sees what the maker wrote.
+ */
 #define _GNU_SOURCE
 #include "claim.h"
 
+/* ---- seats that are made ---- */
+
+/* How many of these come first for who looks for one: for threads those that tasks don't have. */
+static uint32_t near_seats(const struct ww_seats *of) { return of->count - (of == &of->pool->threads ? of->pool->tasks.count : 0); }
+
+/* The one at this place in their order: behind the near ones the others, of which the last one comes first. */
+static ww_seat *seat_at(const struct ww_seats *of, uint32_t place)
+{
+	uint32_t near = near_seats(of);
+
+	return &of->seats[place < near ? place : of->count - 1 - (place - near)];
+}
+
 /*
- * From this one on all of these; for a thread those of tasks come last, and of them the last one first.  A thread with a seat of
- * its own comes back to that, and not to one that it claimed besides.
+ * Sequentially consistent: who cancels the class says so, and then looks which seats are there; who makes one looks later, amid a wait
+ * by it, whether that was said.
+ */
+bool ww_make_seat(struct ww_pool *p, ww_seat *s)
+{
+	uint32_t number = (uint32_t)(s - p->seats);
+
+	if (is_made(s))
+		return true;
+	if (ww_open_seat_(&p->world, (uint16_t)number, &s->handle))
+		return false;
+	s->of = s >= p->tasks.seats && number < p->threads.count ? &p->tasks : &p->threads;
+	__atomic_store_n(&s->pool, p, __ATOMIC_SEQ_CST);
+	ww_make_cancel_pending(s);
+	if (number >= p->threads.count && s != spare_of(p))
+		__atomic_store_n(&s->busy, IS_OWN, __ATOMIC_RELEASE);
+	return true;
+}
+
+static ww_seat *claim_and_note(const struct ww_seats *of, ww_seat *s)
+{
+	if (!claim(s))
+		return NULL;
+	note_last(of, s);
+	return s;
+}
+
+/* Another may claim one that has just been made, so it goes on to the next. */
+ww_seat *ww_claim_next(struct ww_seats *of, uint32_t most)
+{
+	uint32_t made = made_seats(of);
+	ww_seat *s = NULL;
+
+	while (!s && made < most && ww_make_seat(of->pool, seat_at(of, made))) {
+		s = seat_at(of, made++);
+		__atomic_store_n(&of->made, made, __ATOMIC_RELEASE);
+		s = claim_and_note(of, s);
+	}
+	for (uint32_t k = 0; !s && k < most && made < most; k++)
+		s = is_made(&of->seats[k]) ? claim_and_note(of, &of->seats[k]) : NULL;
+	return s;
+}
+
+ww_seat *ww_claim_new(struct ww_seats *of, uint32_t most)
+{
+	ww_seat *s;
+
+	if (LIKELY(made_seats(of) >= most))
+		return NULL;
+	pthread_mutex_lock(&of->pool->queue);
+	s = ww_claim_next(of, most);
+	pthread_mutex_unlock(&of->pool->queue);
+	return s;
+}
+
+/* ---- seats that are free ---- */
+
+/*
+ * From this one on all of these, of the near ones.  A thread with a seat of its own comes back to that, and not to one that it claimed
+ * besides.
  */
 ww_seat *ww_claim_from(const struct ww_seats *of, uint32_t from)
 {
-	uint32_t open = open_seats(of), near = of == &of->pool->threads ? of->count - of->pool->tasks.count : open;
+	uint32_t open = open_seats(of), made = made_seats(of), there = made < open ? made : open;
+	uint32_t near = near_seats(of) < there ? near_seats(of) : there;
+	ww_seat *s = NULL;
 
-	for (uint32_t k = 0; k < open; k++) {
-		ww_seat *s = &of->seats[k < near ? (from + k) % near : of->count - 1 - (k - near)];
-
-		if (!claim(s))
-			continue;
-		note_last(of, s);
-		return s;
-	}
-	return NULL;
+	for (uint32_t k = 0; k < there && !s; k++)
+		s = claim_and_note(of, k < near ? &of->seats[(from + k) % near] : seat_at(of, k));
+	return s;
 }
 
 /* The search begins at the one that this thread used last, or, where threads have their own, at one where others don't begin. */
@@ -30,11 +111,14 @@ ww_seat *ww_claim_any(const struct ww_seats *of)
 	return ww_claim_from(of, is_last ? (uint32_t)(ww_mine.last.seat - of->seats) : spreads ? (uint32_t)ww_mine.thread : 0);
 }
 
-ww_seat *ww_own_or_any(const struct ww_pool *p)
+ww_seat *ww_own_or_any(struct ww_pool *p)
 {
 	ww_seat *own = own_seat(p), *s = own ? use_own(own) : NULL;
 
-	return s || is_barred(p) ? s : ww_claim_any(&p->threads);
+	if (s || is_barred(p))
+		return s;
+	s = ww_claim_any(&p->threads);
+	return LIKELY(s) ? s : ww_claim_new(&p->threads, p->threads.count);
 }
 
 void ww_set_at_hand(struct ww_pool *p, bool is)

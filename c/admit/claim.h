@@ -1,4 +1,4 @@
-/* claim.h - the bits that say whose a seat is, and how a thread claims one: see claim.c.  It isn't installed. */
+/* claim.h - the bits that say whose a seat is, and how a seat is made and claimed: see claim.c.  It isn't installed. */
 #ifndef WW_CLAIM_H
 #define WW_CLAIM_H
 #include "class.h"
@@ -9,11 +9,24 @@
 /* The id of seats to which nobody comes back. */
 #define NO_ID UINT64_MAX
 
-/* Any of these seats that is free, from this one on or from where this thread begins; or NULL. */
+/*
+ * Makes a seat, unless it was made before; false if memory is refused.  The queue is locked, or nobody else sees the class yet.
+ */
+COLD WW_HIDDEN bool ww_make_seat(struct ww_pool *p, ww_seat *s);
+/* Whether the seat was made.  Until then it is memory of zeros, in which nobody writes but who makes it. */
+static inline bool is_made(const ww_seat *s) { return __atomic_load_n(&s->pool, __ATOMIC_SEQ_CST); }
+
+/* Any of these seats that was made and is free, from this one on or from where this thread begins; or NULL. */
 WW_HIDDEN ww_seat *ww_claim_from(const struct ww_seats *of, uint32_t from);
 WW_HIDDEN ww_seat *ww_claim_any(const struct ww_seats *of);
+/*
+ * If these found none: makes the next of these seats, and claims that, unless `most` of them were made; or NULL.  For the first one the
+ * queue is locked.
+ */
+COLD WW_HIDDEN ww_seat *ww_claim_next(struct ww_seats *of, uint32_t most);
+WW_HIDDEN ww_seat *ww_claim_new(struct ww_seats *of, uint32_t most);
 /* This thread's own seat, or any, unless others wait; or NULL. */
-WW_HIDDEN ww_seat *ww_own_or_any(const struct ww_pool *p);
+WW_HIDDEN ww_seat *ww_own_or_any(struct ww_pool *p);
 /* Threads find their own seats at hand from now on, or not: then each begin of a context asks further. */
 WW_HIDDEN void ww_set_at_hand(struct ww_pool *p, bool is);
 
@@ -41,6 +54,9 @@ static inline bool is_used_here(const ww_seat *s)
 }
 
 static inline bool is_in_use(const ww_seat *s) { return s && __atomic_load_n(&s->busy, __ATOMIC_RELAXED) & BUSY; }
+/* Whether a context runs by it: one that is suspended doesn't. */
+static inline bool is_suspended(const ww_seat *s) { return __atomic_load_n(&s->ticket, __ATOMIC_RELAXED); }
+static inline bool runs_by(const ww_seat *s) { return is_in_use(s) && !is_suspended(s); }
 
 /*
  * This thread's own seat, or NULL if it is in use: a context that was begun here may go on in another thread, which
@@ -57,7 +73,7 @@ static inline ww_seat *use_own(ww_seat *s)
 
 /* ---- a seat that anybody may use ---- */
 
-static inline bool has_seekers(const struct ww_seats *of) { return __atomic_load_n(&of->seekers, __ATOMIC_SEQ_CST); }
+static inline bool has_seekers(const struct ww_seats *of) { return __atomic_load_n(&of->lines[WAITS].seekers, __ATOMIC_SEQ_CST); }
 
 /* If it is neither in use nor a thread's own. */
 static inline bool claim(ww_seat *s)
@@ -74,6 +90,8 @@ static inline bool is_barred(const struct ww_pool *p) { return has_seekers(&p->t
 
 /* How many of the seats may be claimed. */
 static inline uint32_t open_seats(const struct ww_seats *of) { return __atomic_load_n(&of->open, __ATOMIC_SEQ_CST); }
+/* How many were made, in their order: who sees that one was sees what it has. */
+static inline uint32_t made_seats(const struct ww_seats *of) { return __atomic_load_n(&of->made, __ATOMIC_ACQUIRE); }
 
 /* This thread used that last, if anybody comes back to these: what has no id may be of any class. */
 static inline void note_last(const struct ww_seats *of, ww_seat *s)

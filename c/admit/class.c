@@ -31,15 +31,18 @@ static void make_locks(struct ww_pool *p)
 	p->queue = (pthread_mutex_t)MET_OFTEN;
 }
 
-/* Whether nobody uses a seat, nor waits, which who waits for a permit and then for a seat does throughout. Opening is locked. */
-static bool is_idle(struct ww_pool *p)
+/*
+ * Whether nobody uses a seat, but by a suspended context if there may be such, nor waits, which who waits for a permit and then for a
+ * seat does throughout.  Opening is locked.
+ */
+static bool is_idle(struct ww_pool *p, bool may_be_suspended)
 {
 	bool idle;
 
 	pthread_mutex_lock(&p->queue);
-	idle = !p->threads.first && !p->tasks.first && !waiting_threads(p);
+	idle = !p->threads.lines[WAITS].first && !p->tasks.lines[WAITS].first && !p->tasks.lines[CALLED].first && !waiting_threads(p);
 	for (uint32_t k = 0; k < seats_of(p) && idle; k++)
-		idle = !(__atomic_load_n(&p->seats[k].busy, __ATOMIC_ACQUIRE) & BUSY);
+		idle = !(__atomic_load_n(&p->seats[k].busy, __ATOMIC_ACQUIRE) & BUSY) || (may_be_suspended && is_suspended(&p->seats[k]));
 	pthread_mutex_unlock(&p->queue);
 	return idle;
 }
@@ -55,14 +58,15 @@ static bool is_free(pthread_mutex_t *lock) { return !pthread_mutex_trylock(lock)
  */
 static bool was_idle(struct ww_pool *p)
 {
-	return is_free(&p->queue) && is_free(&p->spare) && is_free(&p->numbers.lock) && is_idle(p);
+	return is_free(&p->queue) && is_free(&p->spare) && is_free(&p->numbers.lock) && is_idle(p, true);
 }
 
-/* Threads that are gone leave no age. */
+/* Threads that are gone leave no age; but contexts that are suspended go on, here and there. */
 static void stop_rests(struct ww_pool *p)
 {
 	for (uint32_t k = 0; k < seats_of(p); k++)
-		stop_rest(&p->seats[k]);
+		if (!is_suspended(&p->seats[k]))
+			stop_rest(&p->seats[k]);
 }
 
 /*
@@ -85,7 +89,7 @@ static void in_child(void)
 		p->tasks.id = NO_ID;
 		ww_set_at_hand(p, false);
 		for (struct ww_seats *of = &p->threads; of <= &p->tasks; of++) {
-			of->seekers = 0;
+			of->lines[WAITS].seekers = 0;
 			of->due = UINT64_MAX;
 		}
 		p->crowd.quiet_until = UINT64_MAX;
@@ -110,8 +114,12 @@ static void thread_ends(void)
 	}
 }
 
-/* Nobody else uses the library yet. */
-__attribute__((constructor(101))) static void load(void) { ww_load(thread_ends, in_child); }
+/* Nobody else uses the library yet.  With this function the linker takes the table for debuggers into each program. */
+__attribute__((constructor(101))) static void load(void)
+{
+	__asm__ volatile("" ::"r"(&ww_layout_));
+	ww_load(thread_ends, in_child);
+}
 
 /* ---- what an open class consists of ---- */
 
@@ -132,15 +140,19 @@ static struct ww_pool *memory_of_pool(void)
 	make_locks(p);
 	for (struct ww_seats *of = &p->threads; of <= &p->tasks; of++) {
 		of->pool = p;
-		of->end = &of->first;
+		for (uint32_t k = 0; k < SERVED; k++)
+			of->lines[k].end = &of->lines[k].first;
 	}
 	return p;
 }
 
+/* Of all seats, made or not. */
+static size_t bytes_of_seats(const struct ww_pool *p) { return (seats_of(p) + SPARE) * sizeof *p->seats; }
+
 static void keep_memory(struct ww_pool *p)
 {
 	ww_close_numbers(&p->numbers);
-	free(p->seats);
+	ww_return_zeros(p->seats, bytes_of_seats(p));
 	p->next = (struct ww_open *)freed;
 	freed = p;
 }
@@ -157,48 +169,58 @@ static void open_seats_of(struct ww_pool *p)
 	ww_reset_task_limiter(tasks);
 	tasks->open = tasks->limiter.width;
 	for (struct ww_seats *of = &p->threads; of <= &p->tasks; of++) {
+		__atomic_store_n(&of->made, 0, __ATOMIC_RELAXED);
 		__atomic_store_n(&of->due, 0, __ATOMIC_RELAXED);
 		__atomic_store_n(&of->sought, 0, __ATOMIC_RELAXED);
 	}
 }
 
-/* The handles of a new world are moved into the seats. */
-static void fill_seats(struct ww_pool *p, ww_handle *handles)
+static void close_world(struct ww_pool *p)
 {
-	memset(p->seats, 0, (seats_of(p) + SPARE) * sizeof *p->seats);
+	for (uint32_t k = 0; k < seats_of(p) + SPARE; k++) {
+		ww_seat *s = &p->seats[k];
+
+		if (!is_made(s))
+			continue;
+		stop_rest(s);
+		NOTE(SEAT_CLOSED, .seat = s);
+		if (ww_close_(&s->handle))
+			abort(); /* nobody has a seat of it */
+	}
+	ww_close_world_(&p->world);
+}
+
+/* Besides the spare seat threads have one that they may come to, and tasks too: so whoever waits in a queue waits for somebody. */
+static int make_first_seats(struct ww_pool *p)
+{
 	p->threads.seats = p->seats;
 	p->tasks.seats = &p->seats[p->threads.count - p->tasks.count];
 	p->before_own = &p->seats[p->threads.count - 1];
-	for (uint32_t k = seats_of(p) + SPARE; k--;) {
-		ww_seat *s = &p->seats[k];
-
-		ww_swap_(&s->handle, &handles[k]);
-		s->pool = p;
-		ww_make_cancel_pending(s);
-		s->busy = k >= p->threads.count && k < seats_of(p) ? IS_OWN : 0;
-		s->of = s >= p->tasks.seats && k < p->threads.count ? &p->tasks : &p->threads;
-	}
+	if (ww_make_seat(p, spare_of(p)) && ww_make_seat(p, p->seats) && (!p->tasks.count || ww_make_seat(p, p->tasks.seats)))
+		return 0;
+	close_world(p);
+	return -ENOMEM;
 }
 
-static int open_world(struct ww_pool *p, bool is_wait_die, ww_handle *handles)
+static int open_world(struct ww_pool *p, bool is_wait_die)
 {
 	int r;
 
 	ww_heap_opens();
-	r = ww_open_(is_wait_die, p->numbers.locks, ((uint64_t)1 << 52) - 1, handles, seats_of(p) + SPARE);
+	r = ww_open_world_(is_wait_die, p->numbers.locks, ((uint64_t)1 << 52) - 1, (uint16_t)(seats_of(p) + SPARE), &p->world);
+	if (!r)
+		r = make_first_seats(p);
 	if (!r) {
-		fill_seats(p, handles);
 		p->span = p->numbers.span;
 		p->words = (uintptr_t)words_of(p->seats);
 	}
-	ww_heap_opened();
+	p->bytes = ww_heap_opened() + bytes_of_seats(p) + ww_bytes_of_numbers(&p->numbers);
 	return r;
 }
 
 static int make_pool(struct ww_class *c, bool has_own, struct ww_pool **made)
 {
 	struct ww_pool *p = memory_of_pool();
-	ww_handle *handles;
 	bool has_numbers;
 	int r;
 
@@ -212,16 +234,14 @@ static int make_pool(struct ww_class *c, bool has_own, struct ww_pool **made)
 	open_seats_of(p);
 	__atomic_store_n(&p->ends_waits, false, __ATOMIC_SEQ_CST);
 	has_numbers = ww_open_numbers(&p->numbers, c->mutexes);
-	p->seats = aligned_alloc(_Alignof(ww_seat), (seats_of(p) + SPARE) * sizeof *p->seats);
-	handles = calloc(seats_of(p) + SPARE, sizeof *handles);
-	r = has_numbers && p->seats && handles ? ww_debug_open(p) : -ENOMEM;
+	p->seats = ww_take_zeros(bytes_of_seats(p));
+	r = has_numbers && p->seats ? ww_debug_open(p) : -ENOMEM;
 	if (!r) {
-		r = open_world(p, !!c->is_wait_die, handles);
+		r = open_world(p, !!c->is_wait_die);
 		ww_reset_crowd(p);
 		if (r)
 			NOTE(CLASS_FREED, .pool = p);
 	}
-	free(handles);
 	if (r)
 		keep_memory(p);
 	*made = p;
@@ -257,6 +277,20 @@ COLD int ww_class_open_with(struct ww_class *c, bool has_own)
 
 /* A class that says how many contexts it has has no more, so no thread has its own. */
 int ww_class_open(struct ww_class *c) { return ww_class_open_with(c, !c->contexts); }
+
+/* Each slot of a reader is a mutex of the class. */
+int ww_class_open_for(struct ww_class *c, uint32_t contexts, uint32_t keys, size_t *bytes)
+{
+	uint32_t slots = contexts ? contexts : MANY_CONTEXTS + MANY_OWN;
+	int r = keys > WW_MAX_LOCKS ? -EINVAL : ww_class_limit(c, (keys ? keys : MANY_MUTEXES) + slots, contexts);
+	struct ww_pool *p;
+
+	if (!r)
+		r = open_pool_of(c, &p);
+	if (!r && bytes)
+		*bytes = p->bytes;
+	return r;
+}
 
 size_t ww_class_size(void) { return sizeof(struct ww_class); }
 size_t ww_mutex_size(void) { return sizeof(struct ww_mutex); }
@@ -341,7 +375,7 @@ struct ww_class *ww_find_class_of(const struct ww_mutex *m)
 
 /* ---- how a class is cancelled, and freed ---- */
 
-/* Said before anybody is woken, who looks at it after that. */
+/* Said before anybody is woken, who looks at it after that; so does the user of a seat that isn't there yet. */
 int ww_class_cancel(struct ww_class *c)
 {
 	struct ww_pool *p;
@@ -351,11 +385,12 @@ int ww_class_cancel(struct ww_class *c)
 		return r;
 	__atomic_store_n(&p->ends_waits, true, __ATOMIC_SEQ_CST);
 	for (uint32_t k = 0; k < seats_of(p); k++)
-		ww_unpark(&p->seats[k]);
+		if (is_made(&p->seats[k]))
+			ww_unpark(&p->seats[k]);
 	ww_end_seeking(&p->threads);
 	ww_end_seeking(&p->tasks);
 	pthread_mutex_lock(&p->queue);
-	ww_call_waiting(p, INT_MAX);
+	ww_call_waiting(p, true);
 	pthread_mutex_unlock(&p->queue);
 	return 0;
 }
@@ -372,12 +407,7 @@ static void free_slots(struct ww_pool *p)
 static void free_pool(struct ww_pool *p)
 {
 	NOTE(CLASS_FREED, .pool = p);
-	for (uint32_t k = 0; k < seats_of(p) + SPARE; k++) {
-		stop_rest(&p->seats[k]);
-		NOTE(SEAT_CLOSED, .seat = &p->seats[k]);
-		if (ww_close_(&p->seats[k].handle))
-			abort(); /* nobody has a seat of it */
-	}
+	close_world(p);
 	free_slots(p);
 	free(p->numbered);
 	p->numbered = NULL;
@@ -395,7 +425,7 @@ int ww_class_free(struct ww_class *c)
 	p = c->pool;
 	if (p && !p->gone)
 		ww_reclaim_numbers(&p->numbers);
-	if (p && !p->gone && (taken_numbers(&p->numbers) || !is_idle(p))) {
+	if (p && !p->gone && (taken_numbers(&p->numbers) || !is_idle(p, false))) {
 		r = -EBUSY;
 	} else if (p) {
 		while (*at != &p->open)
@@ -427,8 +457,7 @@ void ww_class_stats(struct ww_class *c, struct ww_class_counts *counts)
 			.context_waits = __atomic_load_n(&p->threads.sought, __ATOMIC_RELAXED) +
 				__atomic_load_n(&p->tasks.sought, __ATOMIC_RELAXED),
 			.permit_waits = __atomic_load_n(&p->crowd.sought, __ATOMIC_RELAXED),
-			.context_waiters = __atomic_load_n(&p->threads.seekers, __ATOMIC_RELAXED) +
-				__atomic_load_n(&p->tasks.seekers, __ATOMIC_RELAXED),
+			.context_waiters = waiters_of(&p->threads) + waiters_of(&p->tasks),
 			.task_contexts = open_seats(of_tasks(p)),
 		};
 	for (uint32_t k = 0; p && k < seats_of(p); k++) {

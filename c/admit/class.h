@@ -18,6 +18,7 @@
  *	pool number	mutex		who locks it first, under `ww_opening`; who makes or destroys it	static
  *	own cancelled	context		its user; anybody cancels				cancel-once
  *	pool		class		who opens and frees it, under `ww_opening`			free-and-use
+ *	pool		seat		who makes it, under `queue`				made-cancel
  *	id at_hand is_crowded	pool	who opens the class; a crowd's begin and end, under `queue`	crowd-ends
  *	numbered	pool		who takes the first number, under `numbers`		number-again
  *	lies_at		numbers		who makes a mutex, of its number			numbers
@@ -30,12 +31,14 @@
  *	ww_threads	process		who comes to have seats of its own, or ends, under `ww_opening`	own-end-3
  *	ends_waits	pool		who cancels the class					class-cancel
  *	next		pool		who opens and frees a class, under `ww_opening`		free-3
- *	seekers calls	seats		who waits, or hands a seat over, under `queue`		tasks-late-held
+ *	seekers		line		who waits, or hands a seat over, under `queue`		tasks-late-held
  *	called		pool		likewise						tasks-unanswered
  *	sought		seats		likewise						contexts-3
- *	first end	seats		likewise						contexts-in-turn
+ *	first end	line		likewise						contexts-in-turn
  *	open due limiter	seats	who gives a seat while tasks wait, or looks at a crowd, under `queue`	tasks-wider
- *	calls waiting	crowd		who waits for a permit, and calls those that do, likewise	class-cancel-permit
+ *	made		seats		who makes a seat, likewise				made
+ *	waiting first end	crowd	who waits for a permit, under `queue`				class-cancel-permit
+ *	calls next	turn		who waits, and who calls it, likewise				class-cancel-permit
  *	served_ seat_ waker_	seek	likewise						poll-contexts-end
  *	begun		crowd		who begins contexts					crowd-checked
  *	quiet_until	crowd		who looks at it, under `queue`; others read it		crowd-ends
@@ -43,12 +46,21 @@
  *	since held waited	crowd	who puts a permit back, likewise			crowd
  *	seat ends	permit		who takes it and puts it back, likewise		crowd-stale
  *	awaits		seat		its user						ring
+ *	target label	seat		its user							why
+ *	ticket		seat		its user suspends its context; who has the value takes it: see retry.c	retry
+ *	set_aside	seats		who does so by a seat of tasks, under `queue`			retry
+ *	suspended	pool		who suspends, resumes and drops				retry
  *	readers_	shared mutex	each that reads it, and who writes it: see shared.c	read-write
  *	marks		slot		who has it: likewise					again
  *	reads		slot		its seat's user						destroy-again
  *	slots of_slots	pool, numbers	who makes one, under the lock of `numbers`				one-bit
+ *	before is_read is_written is_waiting	use	who has the lock of the bucket		table-raise
+ *	root uses ways is_dead	table	likewise						table-tree
+ *	joined other has_left	table	likewise						table-owners
+ *	entries		table		who makes or frees an entry				table-full
  *	first_		event		who wakes a task, and the loop that takes them		poll_wakers
  *	last_thread	copy		each thread, once					contexts
+ *	last_ticket	copy		each that suspends a context				retry
  *	reports_to	copy		who says it, before others use the library		ends
  *	reports_data	copy		likewise						ends
  */
@@ -125,15 +137,20 @@ static inline bool is_of_number(const struct ww_mutex *m) { return __atomic_load
  * anybody may use, and `tasks`, the last ones, for polls too.  If it says how many contexts it has, `tasks` is empty, and
  * all are in the one queue.
  */
+enum { WAITS, CALLED, SERVED }; /* `served_` of one that waits: see queue.c */
+struct ww_line {
+	struct ww_seek *first, **end; /* in the order in which they came, and the last link */
+	uint32_t seekers;	      /* how many there are */
+};
 struct ww_seats {
 	struct ww_pool *pool;
 	uint64_t id; /* by which a thread knows that it used one of them last; NO_ID if none comes back to them, or in a crowd */
 	ww_seat *seats;
 	uint32_t count;
 	uint32_t open;		      /* so many of them may be claimed now: all of threads */
-	uint32_t seekers;	      /* how many wait */
-	uint32_t calls;		      /* how many of these, tasks, were called for a seat and are to look */
-	struct ww_seek *first, **end; /* the queue, in the order in which they came, and its last link */
+	uint32_t made;		      /* the first so many in their order are there, and maybe others: see claim.c */
+	uint32_t set_aside;	      /* by so many of these, tasks, a context is suspended, so as many more may be claimed */
+	struct ww_line lines[SERVED]; /* those that wait, and tasks that were called for a seat and are to look */
 	uint64_t sought;	      /* how many have waited in all */
 	uint64_t due;		      /* of tasks: when to look at the limiter next */
 	struct ww_limiter limiter;
@@ -145,11 +162,16 @@ struct ww_permit {
 	uint64_t ends;	     /* its lease; or when it was given back */
 	const ww_seat *seat; /* its thread's own, by which that begins contexts; or NULL */
 };
+/* Of a thread that waits for a permit. */
+struct ww_turn {
+	struct ww_turn *next;
+	uint32_t calls; /* how often it was called: the word on which it sleeps */
+};
 struct ww_crowd {
 	uint64_t begun __attribute__((aligned(64))); /* contexts, in this crowd */
 	uint64_t quiet_until __attribute__((aligned(64))); /* until then there is no crowd, since the last one was of no use */
-	uint32_t calls;				     /* how often threads that wait were called, the word on which they sleep */
 	uint32_t waiting;			     /* how many wait for a permit */
+	struct ww_turn *first, **end;		     /* these, in the order in which they came, and the last link */
 	uint64_t sought;			     /* how many have waited in all */
 	uint64_t due;				     /* when to look at the limiter next */
 	struct ww_limiter limiter;		     /* what follows is changed under the lock `queue` */
@@ -174,7 +196,12 @@ struct ww_pool {
 			OPEN_CLASS;
 		};
 	};
-	ww_seat *seats; /* of one world: those of `threads`, threads' own ones, and the spare seat, which no context has */
+	/*
+	 * Those of `threads`, threads' own ones, and the spare seat, which no context has.  Memory of zeros, of which a seat's is written
+	 * as that is made, by `world`: see claim.c.
+	 */
+	ww_seat *seats;
+	ww_world world;
 	struct ww_class *class_;
 	uint64_t at_hand; /* `copy`, whose threads have their own seats at hand; 0 if there are none, and in a crowd */
 	ww_seat *before_own; /* the seat before those */
@@ -187,7 +214,9 @@ struct ww_pool {
 	struct ww_seats threads, tasks;
 	uint64_t called[MANY_TASKS]; /* for each seat of tasks: until when the one that was called for it may come; 0: nobody was */
 	pthread_mutex_t queue; /* the lock of their queues, and of `crowd` */
+	size_t bytes;	       /* how much address space it takes, but for what is small */
 	bool ends_waits;       /* all that something may end, for good */
+	uint32_t suspended;    /* how many contexts are */
 	struct ww_numbers numbers __attribute__((aligned(64)));
 	struct ww_slot *slots[MANY_BITS]; /* of readers, by their bits: lists that only grow, under the lock of `numbers` */
 	/* The lock of the spare seat. */
@@ -238,6 +267,11 @@ static inline bool is_time(const struct timespec *at)
 	return !at || (at->tv_nsec >= 0 && at->tv_nsec < 1000000000);
 }
 
+/* ---- of layout.c ---- */
+
+/* Where a debugger finds what. */
+WW_HIDDEN extern const struct ww_layout ww_layout_;
+
 /* ---- of class.c ---- */
 
 /* Opens the class, unless it is open; then threads have seats of their own in it, or not. */
@@ -284,6 +318,9 @@ static inline const uint64_t *words_of(const ww_seat *s)
 	return (const uint64_t *)(*(void **const *)s->handle.at)[1] + 16;
 }
 
+/* And behind so many bytes of it, for a debugger, the timestamp of its context is, or 0. */
+enum { STAMP_AT = 40 };
+
 /* The next one in the list of open classes, or of freed ones. Opening is locked. */
 static inline struct ww_pool *next_pool(const struct ww_pool *p) { return (struct ww_pool *)p->next; }
 
@@ -302,6 +339,13 @@ static inline bool ww_ends_waits(const struct ww_pool *p) { return __atomic_load
 
 /* How many processors there are: a hint, since more may come to be known. */
 static inline uint32_t processors_of(const struct ww_pool *p) { return __atomic_load_n(&p->processors, __ATOMIC_RELAXED); }
+
+/* How many wait for one of these seats, called or not. */
+static inline uint32_t waiters_of(const struct ww_seats *of)
+{
+	return __atomic_load_n(&of->lines[WAITS].seekers, __ATOMIC_RELAXED) +
+	       __atomic_load_n(&of->lines[CALLED].seekers, __ATOMIC_RELAXED);
+}
 
 /* The seats that polls use. */
 static inline struct ww_seats *of_tasks(struct ww_pool *p) { return p->tasks.count ? &p->tasks : &p->threads; }

@@ -7,7 +7,7 @@
  * 2. There is one permit at first, and at most one for each processor, unless the class says how many.  How many are
  *    best is measured (limiter.c).
  * 3. A permit lasts for a lease, in which its thread begins as many contexts as it likes.  Each thread that waits for
- *    one sleeps until its turn should come.
+ *    one sleeps until its turn should come; the one that has waited longest is called for a permit that is put back.
  * 4. A crowd ends if nobody waits for a permit; if the threads of two leases on end slept elsewhere; or if a limit is of
  *    no use.  Where each thread has a processor, it is of no use if no limit is better, or if contexts are so long that
  *    fewer save no cache lines; elsewhere, if with a permit for each processor threads hardly wait for locks (where
@@ -27,7 +27,6 @@
 #define _GNU_SOURCE
 #include "crowd.h"
 #include "../base/sleep.h"
-#include <limits.h>
 #include <string.h>
 #include <sys/resource.h>
 
@@ -69,11 +68,20 @@ static uint64_t nanoseconds(const struct timespec *at)
 
 /* ---- whether there is one ---- */
 
-/* Relaxed: who sleeps on the word meanwhile wakes, and who is about to sees the new value. */
-void ww_call_waiting(struct ww_pool *p, int many)
+/*
+ * Of the threads that sleep the one that has waited longest comes first, also if it has looked since: threads that were called as they
+ * fell asleep would pass a thread that looked in vain, lease for lease.  A thread that doesn't sleep has been woken by its time or a
+ * call; it may have no processor for long, so the next one is called too.  Relaxed: a thread that is about to sleep on its word sees
+ * the new value.  The queue is locked.
+ */
+void ww_call_waiting(struct ww_pool *p, bool all)
 {
-	__atomic_fetch_add(&p->crowd.calls, 1, __ATOMIC_RELAXED);
-	ww_futex_wake(&p->crowd.calls, many);
+	bool is_woken = false;
+
+	for (struct ww_turn *it = p->crowd.first; it && (all || !is_woken); it = it->next) {
+		__atomic_store_n(&it->calls, it->calls + 1, __ATOMIC_RELAXED);
+		is_woken = ww_futex_wake(&it->calls);
+	}
 }
 
 /* Nobody uses the class yet. */
@@ -82,6 +90,8 @@ void ww_reset_crowd(struct ww_pool *p)
 	struct ww_crowd *crowd = &p->crowd;
 
 	memset(crowd->permits, 0, sizeof crowd->permits);
+	crowd->first = NULL;
+	crowd->end = &crowd->first;
 	set_crowded(p, false);
 	crowd->quiet = QUIET;
 	__atomic_store_n(&crowd->sought, 0, __ATOMIC_RELAXED);
@@ -158,7 +168,7 @@ static void end_crowd(struct ww_pool *p, uint64_t now)
 	__atomic_store_n(&crowd->quiet_until, now + crowd->quiet, __ATOMIC_RELAXED);
 	crowd->quiet = crowd->quiet < LONGEST_QUIET ? 2 * crowd->quiet : LONGEST_QUIET;
 	set_crowded(p, false);
-	ww_call_waiting(p, INT_MAX);
+	ww_call_waiting(p, true);
 }
 
 /*
@@ -168,7 +178,7 @@ static void end_crowd(struct ww_pool *p, uint64_t now)
  */
 static void count_ended_lease(struct ww_crowd *crowd, const struct ww_my_permit *had, uint64_t now)
 {
-	uint64_t held = now - (had->ends - LEASE);
+	uint64_t held = now - had->taken;
 
 	crowd->sleepers = sleeps_elsewhere() ? crowd->sleepers + 1 : 0;
 	crowd->held += held;
@@ -194,6 +204,9 @@ static bool sum_up_waits(struct ww_crowd *crowd, uint64_t now)
 	crowd->waited = crowd->held = 0;
 	return does;
 }
+
+/* More threads are known than run at a time, so one that is woken may not run for long. */
+static bool is_short_of_processors(const struct ww_pool *p) { return p->own_seats && !has_processors(p); }
 
 /* Looks at the limiter; false once that is of no use. The queue is locked. */
 static bool look_whether_of_use(struct ww_pool *p, uint64_t now)
@@ -229,7 +242,7 @@ static void look_at_crowd(struct ww_pool *p, uint64_t now)
 
 static bool is_over(const struct ww_permit *it, uint64_t now)
 {
-	return now + TIMER_SLACK >= it->ends && (!is_in_use(it->seat) || now >= it->ends + GRACE);
+	return now + TIMER_SLACK >= it->ends && (!runs_by(it->seat) || now >= it->ends + GRACE);
 }
 
 /* The queue is locked. */
@@ -241,15 +254,26 @@ static struct ww_permit *find_over(struct ww_pool *p, uint64_t now)
 	return NULL;
 }
 
+/*
+ * How long a permit lasts that is taken now.  While the limiter knows no rate yet, or tries another width, nobody knows whether that is of
+ * use, so no thread is to wait long for it; then permits last an eighth.  But where there are more threads than processors, a turn is a
+ * change of threads, which costs more than it may win.
+ */
+static uint64_t lease_of(const struct ww_pool *p)
+{
+	return (p->crowd.limiter.tries || !p->crowd.limiter.rate) && !is_short_of_processors(p) ? LEASE / 8 : LEASE;
+}
+
 /* The queue is locked. */
 static bool take_permit(struct ww_pool *p, uint64_t now)
 {
 	struct ww_permit *it = find_over(p, now);
+	uint64_t lease = lease_of(p);
 
 	if (!it && p->crowd.limiter.width != NO_LIMIT)
 		return false;
 	ww_mine.permit = (struct ww_my_permit){
-		.id = p->id, .it = it, .ends = now + LEASE, .seen = now, .brief = LEASE / 16,
+		.id = p->id, .it = it, .taken = now, .ends = now + lease, .seen = now, .brief = lease / 16,
 	};
 	if (it)
 		*it = (struct ww_permit){ .ends = ww_mine.permit.ends, .seat = own_seat(p) };
@@ -266,19 +290,19 @@ static void call_one(struct ww_pool *p, uint64_t now)
 	uint64_t since = p->crowd.limiter.width < processors_of(p) ? 0 : LEASE / 16 + TIMER_SLACK;
 
 	if (waiting_threads(p) && find_over(p, now - since - TIMER_SLACK))
-		ww_call_waiting(p, 1);
+		ww_call_waiting(p, false);
 }
 
 /* When a thread looks for a permit that has so many before it. The queue is locked. */
 static uint64_t turn_of(const struct ww_pool *p, uint64_t now, uint64_t place)
 {
 	uint32_t width = p->crowd.limiter.width;
-	uint64_t first = now + LEASE, soon = now + LEASE / 16;
+	uint64_t lease = lease_of(p), first = now + lease, soon = now + LEASE / 16;
 
 	for (uint32_t k = 0; k < width && k < MANY_PERMITS; k++)
 		first = p->crowd.permits[k].ends < first ? p->crowd.permits[k].ends : first;
-	first = first > soon ? first - TIMER_SLACK : soon;
-	return first + LEASE * place / width;
+	first = first > soon + TIMER_SLACK ? first - TIMER_SLACK : soon;
+	return first + lease * place / width;
 }
 
 /*
@@ -288,13 +312,16 @@ static uint64_t turn_of(const struct ww_pool *p, uint64_t now, uint64_t place)
 static void wait_for_permit(struct ww_pool *p, uint64_t now, uint64_t until, bool heeds)
 {
 	struct ww_crowd *crowd = &p->crowd;
+	struct ww_turn me = { 0 }, **at = &crowd->first;
 	uint64_t before = crowd->sought;
 
+	*crowd->end = &me;
+	crowd->end = &me.next;
 	__atomic_fetch_add(&crowd->waiting, 1, __ATOMIC_SEQ_CST);
 	count(&crowd->sought);
 	DTRACE_PROBE1(ww, permit_wait, p->class_);
 	do {
-		uint32_t calls = __atomic_load_n(&crowd->calls, __ATOMIC_RELAXED);
+		uint32_t calls = me.calls;
 		int64_t place = (int64_t)(before + waiting_threads(p) - crowd->sought);
 		uint64_t turn = turn_of(p, now, place > 0 ? (uint64_t)place : 0);
 		const struct timespec then = timespec_of(turn < until ? turn : until);
@@ -302,16 +329,25 @@ static void wait_for_permit(struct ww_pool *p, uint64_t now, uint64_t until, boo
 		if (heeds && ww_ends_waits(p))
 			break;
 		pthread_mutex_unlock(&p->queue);
-		ww_futex_wait(&crowd->calls, calls, &then);
+		ww_futex_wait(&me.calls, calls, &then);
 		pthread_mutex_lock(&p->queue);
 		now = ww_now();
 	} while (is_crowded(p) && now < until && !take_permit(p, now));
+	while (*at != &me)
+		at = &(*at)->next;
+	*at = me.next;
+	if (crowd->end == &me.next)
+		crowd->end = at;
 	call_one(p, now);
 }
 
-/* The lease of this thread's last permit is over; those that wait come before it gets another. */
-COLD static bool find_permit(struct ww_pool *p, uint64_t now, uint64_t until, bool heeds)
+/*
+ * The lease of this thread's last permit is over; those that wait come before it gets another.  It is refused if its time came first,
+ * while there is a crowd.
+ */
+COLD static bool find_permit(struct ww_pool *p, uint64_t until, bool heeds, bool *refused)
 {
+	uint64_t now = ww_now();
 	struct ww_my_permit had = ww_mine.permit;
 	bool had_one = had.id == p->id && had.it, waits;
 
@@ -326,16 +362,17 @@ COLD static bool find_permit(struct ww_pool *p, uint64_t now, uint64_t until, bo
 	look_at_crowd(p, now);
 	call_one(p, now);
 	waits = is_crowded(p) && !sleeps_elsewhere() && (waiting_threads(p) || !take_permit(p, now));
-	if (waits)
+	if (waits && now < until)
 		wait_for_permit(p, now, until, heeds);
+	*refused = waits && is_crowded(p) && !ww_mine.permit.ends;
 	pthread_mutex_unlock(&p->queue);
 	(void)count_sleeps(); /* a sleep for the lock doesn't count */
 	ww_mine.permit.ran = ww_mine.ran;
-	return waits;
+	return waits && now < until;
 }
 
 /* Whether this thread already runs a context by its own seat: others may wait for what that holds. */
-static bool has_another(const struct ww_pool *p) { return is_in_use(own_seat(p)); }
+static bool has_another(const struct ww_pool *p) { return runs_by(own_seat(p)); }
 
 /* This thread's lease isn't over. */
 static void goes_on(struct ww_pool *p, uint64_t now)
@@ -349,9 +386,9 @@ static void goes_on(struct ww_pool *p, uint64_t now)
 	}
 }
 
-bool ww_await_permit(struct ww_pool *p, const struct timespec *until, bool heeds)
+bool ww_await_permit(struct ww_pool *p, const struct timespec *until, bool heeds, bool *refused)
 {
-	uint64_t now = ww_now(), last = nanoseconds(until);
+	uint64_t now = ww_now();
 	uint32_t unreported = ww_mine.permit.id == p->id ? ww_mine.permit.begun - ww_mine.permit.reported : 0;
 	bool waits = false;
 
@@ -359,8 +396,10 @@ bool ww_await_permit(struct ww_pool *p, const struct timespec *until, bool heeds
 		return false;
 	if (ww_mine.permit.id == p->id && now < ww_mine.permit.ends)
 		goes_on(p, now);
-	else if (now < last)
-		waits = find_permit(p, now, last, heeds);
+	else
+		waits = find_permit(p, nanoseconds(until), heeds, refused);
+	if (*refused)
+		return waits;
 	ww_mine.permit.reported = ++ww_mine.permit.begun;
 	__atomic_fetch_add(&p->crowd.begun, unreported + 1, __ATOMIC_RELAXED);
 	return waits;

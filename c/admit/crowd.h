@@ -6,26 +6,23 @@
 WW_HIDDEN void ww_reset_crowd(struct ww_pool *p);
 /*
  * Called in a crowd before a context begins: waits for a permit, until a time if that isn't NULL, or until the class ends
- * waits if it heeds that.  Whether this thread has waited: then it counts as one that waits until stop_waiting, so that
- * nobody frees the class.
+ * waits if it heeds that.  It is refused if it got none, and needs one.  Whether this thread has waited: then it counts as one that
+ * waits until stop_waiting, so that nobody frees the class.
  */
-WW_HIDDEN bool ww_await_permit(struct ww_pool *p, const struct timespec *until, bool heeds);
+WW_HIDDEN bool ww_await_permit(struct ww_pool *p, const struct timespec *until, bool heeds, bool *refused);
 static inline void stop_waiting(struct ww_pool *p) { __atomic_fetch_sub(&p->crowd.waiting, 1, __ATOMIC_SEQ_CST); }
 /* How many threads wait for a permit, or have one since and no seat yet. */
 static inline uint32_t waiting_threads(const struct ww_pool *p) { return __atomic_load_n(&p->crowd.waiting, __ATOMIC_SEQ_CST); }
-/* So many of the threads that wait for a permit look for one. The queue is locked. */
-WW_HIDDEN void ww_call_waiting(struct ww_pool *p, int many);
+/* The thread that has waited longest for a permit looks for one, or all that wait do. The queue is locked. */
+WW_HIDDEN void ww_call_waiting(struct ww_pool *p, bool all);
 /* This thread has waited for a lock for so long. */
 WW_HIDDEN void ww_note_wait(struct ww_pool *p, uint64_t now, uint64_t took);
 
-/* Each thread has a processor, as far as the library knows of threads: by seats of their own. */
+/* Each thread is known to have a processor, by the seats of their own; so where a class has none of these this is never known. */
 static inline bool has_processors(const struct ww_pool *p)
 {
 	return p->own_seats && __atomic_load_n(&ww_threads, __ATOMIC_RELAXED) <= processors_of(p);
 }
-
-/* There are more threads than run at a time, so one that is woken may not run for long. */
-static inline bool is_short_of_processors(const struct ww_pool *p) { return p->own_seats && !has_processors(p); }
 
 /* Relaxed: a thread that sees it late begins one context more without a permit, or looks once more for one. */
 static inline void set_crowded(struct ww_pool *p, bool crowded)

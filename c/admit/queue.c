@@ -9,17 +9,18 @@
  *	WAITS		there, or taken back	CALLED: a task's, the first of these, for a seat that was given (call_next)
  *						SERVED: a seat is handed to it (ww_serve, ww_hands_over), or NULL, which
  *						ends its wait (ww_end_seeking, ww_poll_seat)
- *						out of the queue: it gives up (ww_leave_queue)
- *	CALLED		called, or taken back	SERVED: its poll finds a seat; or it is handed one, or its wait ends there
- *						WAITS: its poll finds none, and first says that it isn't called any more
+ *						out of its line: it gives up (ww_leave_queue)
+ *	CALLED		called, or taken back	SERVED: its poll finds a seat, or its wait ends there
+ *						WAITS, before all: its poll finds none
  *						WAITS, behind all: it hasn't polled for a lease, and another is CALLED for its
- *						seat (call_for)
- *						out of the queue, likewise
- *	SERVED		called, or taken back	it isn't in the queue any more: seat_ is its own, or its wait has ended
+ *						seat (pass_on_late)
+ *						out of its line, likewise
+ *	SERVED		called, or taken back	it stands in no line any more: seat_ is its own, or its wait has ended
  *
- * A task is CALLED for one seat, and for each seat at most one task is CALLED, as the pool's `called` says.  If a CALLED task leaves
- * the queue otherwise than by its own poll, another one is CALLED for that seat (take_out).  If a CALLED task's loop is busy, others
- * go on without it: whoever polls may use that seat, and whoever gives it after the call's lease is over calls another task for it.
+ * Those that are CALLED stand in a line of their own, in the order of their calls.  So whoever gives a seat finds the next one that
+ * WAITS at once, and whoever comes to wait finds at once which call has lasted longest.  A task is CALLED for one seat, and for each seat
+ * at most one task is CALLED, as the pool's `called` says.  If a CALLED task gives up, another one is CALLED for that seat.  If a CALLED
+ * task's loop is busy, others go on without it: after a lease whoever gives its seat, or comes to wait for any, passes its call on.
  *
  * Each change is made under the lock `queue`, and wakers are called after it.
  * tests/admit/seats_model.py tries all that tasks may do by this table and that of seats at the head of seat.c.
@@ -39,10 +40,10 @@ enum { ANOTHER_LOAD = 16000000 };
 static void wake_seeker(void *nothing, void *served)
 {
 	(void)nothing;
-	ww_futex_wake(served, 1); /* uses only the address: the thread may have ended */
+	ww_futex_wake(served); /* uses only the address: the thread may have ended */
 }
 
-/* Takes its waker, which is then called at most once. The queue is locked. */
+/* Takes the waker of one that waits, which is then called at most once. The queue is locked. */
 static struct ww_waker take_waker(struct ww_seek *it)
 {
 	struct ww_waker waker = it->waker_;
@@ -52,103 +53,103 @@ static struct ww_waker take_waker(struct ww_seek *it)
 }
 
 /* Notes until when the task that was called for this seat may come; 0: none is called for it any more. The queue is locked. */
-static void note_call(struct ww_seats *of, const ww_seat *s, uint64_t until)
+static void note_call(const ww_seat *s, uint64_t until)
 {
-	__atomic_store_n(&of->pool->called[s - of->seats], until, __ATOMIC_SEQ_CST);
-	__atomic_store_n(&of->calls, until ? of->calls + 1 : of->calls - 1, __ATOMIC_SEQ_CST);
+	__atomic_store_n(&s->pool->called[s - s->of->seats], until, __ATOMIC_SEQ_CST);
 }
 
 /*
- * Calls the first in the queue that wasn't called, if there is one, to look for a seat, at this one first. The queue is locked. The
+ * Puts a waiter at this place into the line of those that wait, or into that of those that were called.  The queue is locked.  The
  * store is relaxed, since a waiter asks without the lock only whether it is served.
  */
-static struct ww_waker call_next(struct ww_seats *of, ww_seat *s)
+static void put_into(struct ww_seats *of, uint32_t which, struct ww_seek **at, struct ww_seek *it)
 {
-	struct ww_seek *it = of->first;
+	struct ww_line *line = &of->lines[which];
 
-	while (it && it->served_ == CALLED)
-		it = it->next_;
+	it->next_ = *at;
+	*at = it;
+	if (!it->next_)
+		line->end = &it->next_;
+	__atomic_fetch_add(&line->seekers, 1, __ATOMIC_SEQ_CST);
+	__atomic_store_n(&it->served_, which, __ATOMIC_RELAXED);
+}
+
+/* Takes a waiter out of its line, and returns the seat for which it was called, or NULL. The queue is locked. */
+static ww_seat *take_out(struct ww_seats *of, struct ww_seek *it)
+{
+	bool is_called = it->served_ == CALLED;
+	struct ww_line *line = &of->lines[it->served_];
+	struct ww_seek **at = &line->first;
+
+	while (*at != it)
+		at = &(*at)->next_;
+	*at = it->next_;
+	if (!*at)
+		line->end = at;
+	__atomic_fetch_sub(&line->seekers, 1, __ATOMIC_SEQ_CST);
+	if (is_called)
+		note_call(it->seat_, 0);
+	return is_called ? it->seat_ : NULL;
+}
+
+/* Calls the first one that waits, if there is one, to look for a seat, at this one first. The queue is locked. */
+static struct ww_waker call_next(struct ww_seats *of, ww_seat *s, uint64_t now)
+{
+	struct ww_seek *it = of->lines[WAITS].first;
+
 	if (!it)
 		return (struct ww_waker){ 0 };
+	(void)take_out(of, it);
 	it->seat_ = s;
-	__atomic_store_n(&it->served_, CALLED, __ATOMIC_RELAXED);
-	note_call(of, s, ww_now() + LEASE);
+	put_into(of, CALLED, of->lines[CALLED].end, it);
+	note_call(s, now + LEASE);
 	return take_waker(it);
 }
 
 /*
- * Takes the waiter at this place out of the queue, with this seat or none.  If the waiter was called for a seat, another one is
- * called for that instead, and its waker is returned.  The queue is locked; a waiter looks without the lock whether it is served.
+ * If the task that was called first hasn't come for a lease, the first one that waits is called for its seat instead, if there is
+ * one, and the task that didn't come waits behind all.  The queue is locked.
  */
-static struct ww_waker take_out(struct ww_seats *of, struct ww_seek **at, uint32_t now, ww_seat *s)
+static struct ww_waker pass_on_late(struct ww_seats *of, uint64_t now)
 {
-	struct ww_seek *it = *at;
-	ww_seat *was_for = it->served_ == CALLED ? it->seat_ : NULL;
+	struct ww_seek *late = of->lines[CALLED].first;
+	struct ww_waker waker;
 
-	if (was_for)
-		note_call(of, was_for, 0);
-	it->seat_ = s;
-	*at = it->next_;
-	if (!*at)
-		of->end = at;
-	__atomic_fetch_sub(&of->seekers, 1, __ATOMIC_SEQ_CST);
-	__atomic_store_n(&it->served_, now, __ATOMIC_RELEASE);
-	return was_for ? call_next(of, was_for) : (struct ww_waker){ 0 };
-}
-
-/* Puts a waiter behind all others. The queue is locked. */
-static void append(struct ww_seats *of, struct ww_seek *it)
-{
-	it->next_ = NULL;
-	*of->end = it;
-	of->end = &it->next_;
-	__atomic_fetch_add(&of->seekers, 1, __ATOMIC_SEQ_CST);
-}
-
-/*
- * Calls a task for the seat, unless one was called already.  If that one hasn't come for a lease, and a task waits that wasn't
- * called, that task is called instead, and the one that didn't come waits behind all.  The queue is locked.
- */
-static struct ww_waker call_for(struct ww_seats *of, ww_seat *s)
-{
-	struct ww_seek **at = &of->first, *it;
-	struct ww_waker waker = { 0 };
-	uint64_t until = of->pool->called[s - of->seats];
-
-	if (!until)
-		return call_next(of, s);
-	if (of->seekers > of->calls && ww_now() >= until) {
-		while ((it = *at)->served_ != CALLED || it->seat_ != s)
-			at = &it->next_;
-		waker = take_out(of, at, WAITS, NULL);
-		append(of, it);
-	}
+	if (!late || !of->lines[WAITS].first || now < of->pool->called[late->seat_ - of->seats])
+		return (struct ww_waker){ 0 };
+	waker = call_next(of, take_out(of, late), now);
+	put_into(of, WAITS, of->lines[WAITS].end, late);
 	return waker;
 }
 
 /*
- * The waiter at this place gets the seat, and may not exist any more then. Its waker is called, or the next one's. The
- * queue is locked.
+ * A waiter gets the seat, or NULL, which ends its wait; it may not exist any more then.  Returns its waker; or if it was called for
+ * another seat, which calls the next one, the waker of that.  The queue is locked; a waiter looks without the lock whether it is served.
  */
-static struct ww_waker hand_to(struct ww_seats *of, struct ww_seek **at, ww_seat *s)
+static struct ww_waker hand_to(struct ww_seats *of, struct ww_seek *it, ww_seat *s)
 {
-	struct ww_waker waker = take_waker(*at), next;
+	struct ww_waker waker = take_waker(it);
+	ww_seat *was_for = take_out(of, it);
 
 	NOTE(SEAT_HANDED, .seats = of, .seat = s);
-	next = take_out(of, at, SERVED, s);
-	return waker.wake ? waker : next;
+	it->seat_ = s;
+	__atomic_store_n(&it->served_, SERVED, __ATOMIC_RELEASE);
+	return was_for && was_for != s ? call_next(of, was_for, ww_now()) : waker;
 }
 
-/* Whether a seat that is free, or given, is for the first in the queue. The queue is locked. */
+/* Whether a seat that is free, or given, is for those that wait. The queue is locked. */
 static bool is_for(const struct ww_seats *of, const ww_seat *s)
 {
 	const struct ww_pool *p = of->pool;
 
-	return of->first && (of == &p->threads || (!p->threads.first && s < &of->seats[of->open]));
+	return of == &p->threads || (!is_barred(p) && s < &of->seats[of->open]);
 }
 
-/* Others may have freed the class since then. In a forked child nobody waits. */
-COLD void ww_serve(struct ww_seats *of, uint64_t id, ww_seat *s, bool hands)
+/*
+ * Others may have freed the class since then. In a forked child nobody waits.  A seat of tasks that may be claimed from now on is made
+ * first, so that who is called for it finds it.
+ */
+COLD void ww_serve(struct ww_seats *of, uint64_t id, ww_seat *s, uint64_t now)
 {
 	struct ww_pool *p = of->pool;
 	struct ww_waker waker = { 0 };
@@ -156,8 +157,12 @@ COLD void ww_serve(struct ww_seats *of, uint64_t id, ww_seat *s, bool hands)
 	if (!has_seekers(of))
 		return;
 	pthread_mutex_lock(&p->queue);
-	if (__atomic_load_n(&p->id, __ATOMIC_RELAXED) == id && is_for(of, s) && (!hands || claim(s)))
-		waker = hands ? hand_to(of, &of->first, s) : call_for(of, s);
+	if (__atomic_load_n(&p->id, __ATOMIC_RELAXED) == id && is_for(of, s) && has_seekers(of)) {
+		if (of == &p->threads && claim(s))
+			waker = hand_to(of, of->lines[WAITS].first, s);
+		else if (of != &p->threads && ww_make_seat(p, s) && !is_in_use(s))
+			waker = p->called[s - of->seats] ? pass_on_late(of, now) : call_next(of, s, now);
+	}
 	pthread_mutex_unlock(&p->queue);
 	call_waker(waker);
 }
@@ -183,38 +188,49 @@ void ww_reset_task_limiter(struct ww_seats *of)
 }
 
 /*
- * Looks how many seats may be claimed; those that may from now on are handed to tasks that wait, all at once, since it is
+ * Looks how many seats may be claimed; tasks that wait are called for those that may from now on, all at once, since it is
  * measured from now on what so many do.  What was found for one load isn't for the next: the limiter is opened anew once nobody
- * has waited for long.  Where another number is tried it has just begun to count, and counts givings of so many seats.
+ * has waited for long.  Where another number is tried it has just begun to count, and counts givings of so many seats.  So many more
+ * contexts are suspended, `more`: these don't count among those that the limiter allows, so for each there is one seat more.
  */
-COLD static void look_at_limiter(struct ww_seats *of, uint64_t now)
+COLD static void look_at_limiter(struct ww_seats *of, uint64_t now, uint32_t more)
 {
 	struct ww_pool *p = of->pool;
 	uint64_t id = p->id;
-	uint32_t was, limit;
+	uint32_t was, limit, width;
 
 	pthread_mutex_lock(&p->queue);
-	was = limit = of->open;
+	was = of->open;
+	width = of->limiter.width;
+	of->set_aside += more;
 	if (now >= of->due) {
-		if (!of->first && now - of->due > ANOTHER_LOAD)
+		if (!of->lines[WAITS].first && now - of->due > ANOTHER_LOAD)
 			ww_reset_task_limiter(of);
 		else
 			(void)ww_limiter_look(&of->limiter, now, given(of), now);
 		__atomic_store_n(&of->due, now + LEASE / 4, __ATOMIC_RELAXED);
-		limit = of->limiter.width < of->count ? of->limiter.width : of->count;
+	}
+	limit = of->limiter.width < of->count - of->set_aside ? of->limiter.width + of->set_aside : of->count;
+	if (limit != was) {
+		of->limiter.begun = width != of->limiter.width ? 0 : of->limiter.begun - given(of);
 		__atomic_store_n(&of->open, limit, __ATOMIC_SEQ_CST);
-		if (limit != was)
-			of->limiter.begun = given(of);
+		of->limiter.begun += given(of);
 	}
 	pthread_mutex_unlock(&p->queue);
 	for (uint32_t k = was; k < limit; k++)
-		ww_serve(of, id, &of->seats[k], true);
+		ww_serve(of, id, &of->seats[k], now);
 }
 
 static inline void look_if_due(struct ww_seats *of, uint64_t now)
 {
 	if (now >= __atomic_load_n(&of->due, __ATOMIC_RELAXED))
-		look_at_limiter(of, now);
+		look_at_limiter(of, now, 0);
+}
+
+void ww_note_suspended(struct ww_seats *of, uint32_t more)
+{
+	if (!of->pool->gone)
+		look_at_limiter(of, ww_now(), more);
 }
 
 /*
@@ -227,63 +243,63 @@ COLD void ww_note_task_wait(const ww_seat *s)
 		look_if_due(s->of, ww_now());
 }
 
-/* While tasks wait the seat, whose user is through, is handed to the first of them if its lease is over. */
-bool ww_hands_over(struct ww_seats *of, ww_seat *s)
+/*
+ * While tasks wait the seat, whose user is through, is handed to the one that was called first, or else to the first that waits, if its
+ * lease is over.
+ */
+bool ww_hands_over(struct ww_seats *of, ww_seat *s, uint64_t now)
 {
 	struct ww_pool *p = of->pool;
-	uint64_t now = ww_now();
 	struct ww_waker waker = { 0 };
-	bool hands;
+	struct ww_seek *it = NULL;
 
 	look_if_due(of, now);
 	if (now < s->lease)
 		return false;
 	pthread_mutex_lock(&p->queue);
-	hands = is_for(of, s);
-	if (hands) {
+	if (is_for(of, s))
+		it = of->lines[CALLED].first ? of->lines[CALLED].first : of->lines[WAITS].first;
+	if (it) {
 		s->lease = now + LEASE;
-		waker = hand_to(of, &of->first, s);
+		waker = hand_to(of, it, s);
 	}
 	pthread_mutex_unlock(&p->queue);
 	call_waker(waker);
-	return hands;
+	return it;
 }
 
 /* ---- waits of tasks ---- */
 
-/* Where it stands in the queue, or the end. The queue is locked. */
-static struct ww_seek **stands_at(struct ww_seats *of, const struct ww_seek *it)
+/* Any that may be claimed and is free, or the next one, which wasn't made yet. The queue is locked. */
+static ww_seat *claim_or_make(struct ww_seats *of)
 {
-	struct ww_seek **at = &of->first;
+	ww_seat *s = ww_claim_any(of);
 
-	while (*at && *at != it)
-		at = &(*at)->next_;
-	return at;
+	return s ? s : ww_claim_next(of, of->open);
 }
 
 /*
- * A task that was called notes that it isn't any more, and then looks for a seat: the one for which it was called, and only where all
- * that wait were called any other, since else each seat that is free has a call of its own.  The task gets a seat, or waits again.
- * While any task is called, each task that polls or comes looks for any seat, too.  The queue is locked.
+ * A task that was called waits again, before all, and then looks for a seat: the one for which it was called, and only where all that
+ * waited were called any other, since else each seat that is free has a call of its own.  The queue is locked.
  */
-static struct ww_waker look_for_seat(struct ww_seats *of, struct ww_seek *me)
+static void look_for_seat(struct ww_seats *of, struct ww_seek *me)
 {
-	ww_seat *s = me->served_ == CALLED ? me->seat_ : NULL;
-	bool any = !s || of->seekers == of->calls;
+	bool is_only = !of->lines[WAITS].first;
+	ww_seat *s = take_out(of, me);
 
-	me->served_ = WAITS;
-	if (s)
-		note_call(of, s, 0);
+	put_into(of, WAITS, &of->lines[WAITS].first, me);
 	if (is_barred(of->pool))
-		return (struct ww_waker){ 0 };
-	if (!s || s >= &of->seats[of->open] || !claim(s))
-		s = any ? ww_claim_any(of) : NULL;
-	return s ? hand_to(of, stands_at(of, me), s) : (struct ww_waker){ 0 };
+		return;
+	if (s >= &of->seats[of->open] || !claim(s))
+		s = is_only ? claim_or_make(of) : NULL;
+	if (s)
+		(void)hand_to(of, me, s);
 }
 
 bool ww_poll_seat(struct ww_seek *me, const struct ww_waker *otherwise)
 {
-	struct ww_pool *p = me->of_->pool;
+	struct ww_seats *of = me->of_;
+	struct ww_pool *p = of->pool;
 	struct ww_waker waker = { 0 };
 	bool served;
 
@@ -292,10 +308,12 @@ bool ww_poll_seat(struct ww_seek *me, const struct ww_waker *otherwise)
 		return true;
 	pthread_mutex_lock(&p->queue);
 	me->waker_ = (struct ww_waker){ 0 };
-	if (me->served_ == CALLED || (me->served_ == WAITS && me->of_->calls))
-		waker = look_for_seat(me->of_, me);
+	if (me->served_ == WAITS)
+		waker = pass_on_late(of, ww_now());
+	if (me->served_ == CALLED)
+		look_for_seat(of, me);
 	if (me->served_ != SERVED && ww_ends_waits(p))
-		waker = hand_to(me->of_, stands_at(me->of_, me), NULL);
+		(void)hand_to(of, me, NULL);
 	served = me->served_ == SERVED;
 	if (!served)
 		me->waker_ = *otherwise;
@@ -309,14 +327,17 @@ bool ww_leave_queue(struct ww_seek *me)
 	struct ww_seats *of = me->of_;
 	struct ww_pool *p = of->pool;
 	struct ww_waker waker = { 0 };
-	struct ww_seek **at;
 	bool waits;
 
 	pthread_mutex_lock(&p->queue);
-	at = stands_at(of, me);
-	waits = *at;
-	if (waits)
-		waker = take_out(of, at, WAITS, NULL);
+	waits = me->served_ != SERVED;
+	if (waits) {
+		ww_seat *s = take_out(of, me);
+
+		__atomic_store_n(&me->served_, WAITS, __ATOMIC_RELAXED);
+		if (s)
+			waker = call_next(of, s, ww_now());
+	}
 	pthread_mutex_unlock(&p->queue);
 	call_waker(waker);
 	return waits;
@@ -324,29 +345,32 @@ bool ww_leave_queue(struct ww_seek *me)
 
 /* ---- how a wait begins ---- */
 
-/* A task that comes behind one that wasn't called finds only seats that are for others.  A task without a waker is about to leave. */
+/* One that comes behind another that waits finds only seats that are for others.  A task without a waker is about to leave. */
 bool ww_queue_up(struct ww_seek *me)
 {
 	struct ww_seats *of = me->of_;
 	struct ww_pool *p = of->pool;
-	struct ww_seek **at;
+	struct ww_waker waker = { 0 };
+	bool is_only, served, waits;
 	ww_seat *s = NULL;
-	bool served, waits;
 
 	if (of == &p->tasks)
 		look_if_due(of, ww_now());
 	pthread_mutex_lock(&p->queue);
-	at = of->end;
-	append(of, me);
-	if (of->seekers == of->calls + 1 && (of == &p->threads || !is_barred(p)))
-		s = ww_claim_any(of);
+	if (of->lines[CALLED].seekers >= of->open)
+		waker = pass_on_late(of, ww_now());
+	is_only = !of->lines[WAITS].first;
+	put_into(of, WAITS, of->lines[WAITS].end, me);
+	if (is_only && (of == &p->threads || !is_barred(p)))
+		s = claim_or_make(of);
 	served = s || (me->heeds_ && ww_ends_waits(p));
 	waits = !served && me->waker_.wake;
 	if (served)
-		(void)hand_to(of, at, s);
+		(void)hand_to(of, me, s);
 	if (waits)
 		count(&of->sought);
 	pthread_mutex_unlock(&p->queue);
+	call_waker(waker);
 	if (waits) {
 		DTRACE_PROBE1(ww, context_wait, p->class_);
 		NOTE(CONTEXT_QUEUED, .seats = of);
@@ -373,6 +397,8 @@ COLD int ww_seek_seat(struct ww_pool *p, const struct timespec *until, bool heed
 
 	if (p->gone)
 		return -EINVAL;
+	if (own && !is_made(own))
+		own = NULL;
 	me.waker_ = (struct ww_waker){ .wake = wake_seeker, .task = &me.served_ };
 	(void)ww_queue_up(&me);
 	NOTE(CONTEXT_SOUGHT, .seats = me.of_, .until = until);
@@ -393,19 +419,19 @@ COLD int ww_seek_seat(struct ww_pool *p, const struct timespec *until, bool heed
 /* A waker is called with nothing locked. */
 void ww_end_seeking(struct ww_seats *of)
 {
-	bool is_one;
+	struct ww_pool *p = of->pool;
+	struct ww_seek *it;
 
 	do {
-		struct ww_seek **at = &of->first;
 		struct ww_waker waker = { 0 };
 
-		pthread_mutex_lock(&of->pool->queue);
-		while (*at && !((*at)->heeds_ && (*at)->served_ != CALLED))
-			at = &(*at)->next_;
-		is_one = *at;
-		if (is_one)
-			waker = hand_to(of, at, NULL);
-		pthread_mutex_unlock(&of->pool->queue);
+		pthread_mutex_lock(&p->queue);
+		it = of->lines[WAITS].first;
+		while (it && !it->heeds_)
+			it = it->next_;
+		if (it)
+			waker = hand_to(of, it, NULL);
+		pthread_mutex_unlock(&p->queue);
 		call_waker(waker);
-	} while (is_one);
+	} while (it);
 }

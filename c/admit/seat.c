@@ -12,12 +12,16 @@
  *		within another		-		-		ww_task_seat, all	ww_queue_up
  *
  * ww_own_or_any, as any_seat, comes first to the thread's own, and to others only if no thread waits; ww_task_seat comes to
- * none while tasks wait of whom none is called.  All of these are looked at once, and once more under the lock of the queue
- * by who comes to wait.  A begin that doesn't wait, and a trylock, come to the queue and leave it at once.  In a crowd no seat
+ * others than the thread's last one only if no task waits that wasn't called.  All of these are looked at once, and once more
+ * under the lock of the queue by who comes to wait.  A begin that doesn't wait, and a trylock, come to the queue and leave it at once.  In a crowd no seat
  * is at hand, so that each begin asks for a permit; then claim_last finds none either.  Who waits while its own seat is in use
  * looks at that from time to time, since nobody hands it on.
  *
- * A seat is its user's while it is BUSY.  In each class MANY_OWN seats are threads' own, and have the bit IS_OWN for good:
+ * Seats are made when they are first needed (claim.c): a thread's own one before ww_own_or_any looks for it the first time, and the next
+ * one of those for anybody where none that was made is free.  So who waits has found all of them made, and in use, unless memory was
+ * refused.
+ *
+ * A seat is its user's while it is BUSY.  In each class MANY_OWN seats are threads' own, and from the first on have the bit IS_OWN:
  * nobody comes to use one but its thread, which does so without a read-modify-write.  So `busy` goes:
  *
  *	busy		whose		what comes next, and by what
@@ -38,8 +42,8 @@
  * Handing each of their seats on would make each context a change of tasks.  So while tasks wait, a seat's lease decides
  * what comes next, once its user is through:
  *
- *	its lease is over	it is handed to the first in the queue, and has another lease (ww_hands_over)
- *	else			it is given: anybody uses it, and one in the queue is called for it, unless one was
+ *	its lease is over	it is handed to a task that waits, and has another lease (ww_hands_over)
+ *	else			it is given: the loop that gave it may use it again, and a task is called for it, unless one was
  *
  * What becomes of a waiter is at the head of queue.c.
  *
@@ -75,12 +79,26 @@ static void prepare_thread(struct ww_pool *p)
 	ww_number_thread();
 }
 
+/* In this class, too; if memory is refused, the next call tries it again, and this one asks for any seat. */
+static void make_own(struct ww_pool *p)
+{
+	ww_seat *own = own_seat(p);
+
+	if (!own || is_made(own) || p->gone)
+		return;
+	pthread_mutex_lock(&p->queue);
+	(void)ww_make_seat(p, own);
+	pthread_mutex_unlock(&p->queue);
+}
+
 /* The same; and it comes to have seats of its own, if it may. */
 static void prepare_thread_with_own(struct ww_pool *p)
 {
 	prepare_thread(p);
-	if (p->own_seats)
+	if (p->own_seats) {
 		ww_take_own();
+		make_own(p);
+	}
 }
 
 /* In a forked child there is none for a lock without a context. */
@@ -116,13 +134,15 @@ ww_seat *ww_seat_to_begin(struct ww_pool *p)
 
 int ww_await_seat_to_begin(struct ww_pool *p, const struct timespec *until, bool heeds, ww_seat **s)
 {
-	bool has_waited;
+	bool has_waited, refused = false;
 	int r = 0;
 
 	prepare_thread_with_own(p);
-	has_waited = UNLIKELY(is_crowded(p)) && ww_await_permit(p, until, heeds);
-	if (has_waited && heeds && ww_ends_waits(p))
+	has_waited = UNLIKELY(is_crowded(p)) && ww_await_permit(p, until, heeds, &refused);
+	if (UNLIKELY(has_waited || refused) && heeds && ww_ends_waits(p))
 		r = -EINTR;
+	else if (UNLIKELY(refused))
+		r = until == &ww_no_wait ? -EAGAIN : -ETIMEDOUT;
 	else
 		*s = until == &ww_no_wait ? ww_free_seat(p) : ww_own_or_any(p);
 	if (!r && !*s)
@@ -132,50 +152,55 @@ int ww_await_seat_to_begin(struct ww_pool *p, const struct timespec *until, bool
 	return r;
 }
 
-/* A seat for a task, which has none of its own.  While other tasks wait, a seat is free only if some of them were called for it. */
+/*
+ * A seat for a task, which has none of its own.  While others wait, it comes back only to the seat that this thread gave last, if that is
+ * free: so a loop's tasks use its seats one after another, without a change of loops.  Within another context it gets any.
+ */
 ww_seat *ww_task_seat(struct ww_pool *p, bool is_within)
 {
-	const struct ww_seats *of = of_tasks(p);
+	struct ww_seats *of = of_tasks(p);
 	ww_seat *s = NULL;
 
 	prepare_thread(p);
 	if (of == &p->threads)
 		s = any_seat(p);
-	else if (!is_barred(p) && (!has_seekers(of) || __atomic_load_n(&of->calls, __ATOMIC_SEQ_CST)))
+	else
+		s = claim_last(of, p);
+	if (!s && of != &p->threads && !is_barred(p) && !has_seekers(of)) {
 		s = ww_claim_any(of);
-	for (uint32_t k = 0; is_within && !s && k < of->count; k++)
+		s = s ? s : ww_claim_new(of, open_seats(of));
+	}
+	for (uint32_t k = 0; is_within && !s && k < made_seats(of); k++)
 		s = claim(&of->seats[k]) ? &of->seats[k] : NULL;
-	return s;
+	return !s && is_within ? ww_claim_new(of, of->count) : s;
 }
 
 /* ---- seats that are given ---- */
 
 /* Whether a task is to be called for a seat: none was called, or the one that was hasn't come for a lease. */
-static bool needs_call(const uint64_t *called)
+static bool needs_call(const uint64_t *called, uint64_t now)
 {
-	uint64_t until = __atomic_load_n(called, __ATOMIC_SEQ_CST);
-
-	return !until || ww_now() >= until;
+	return now >= __atomic_load_n(called, __ATOMIC_SEQ_CST);
 }
 
 /* One that rests, which it may only for a thread whose own it is; or of tasks: by its user, a task or a thread. */
 static __attribute__((noinline)) void return_otherwise(ww_seat *s)
 {
 	struct ww_seats *of = s->of, *threads = &s->pool->threads;
-	uint64_t id = s->pool->id, *called = &s->pool->called[of != threads ? s - of->seats : 0];
+	uint64_t id = s->pool->id, *called = &s->pool->called[of != threads ? s - of->seats : 0], now = 0;
 
 	stop_rest(s);
 	if (of != threads) {
 		__atomic_store_n(&s->given, s->given + 1, __ATOMIC_RELAXED);
 		note_last(of, s);
 	}
-	if (of != threads && UNLIKELY(has_seekers(of)) && ww_hands_over(of, s))
+	if (of != threads && UNLIKELY(waiters_of(of)) && ww_hands_over(of, s, now = ww_now()))
 		return;
 	__atomic_exchange_n(&s->busy, 0, __ATOMIC_SEQ_CST);
 	if (UNLIKELY(has_seekers(threads)))
-		ww_serve(threads, id, s, true);
-	if (of != threads && UNLIKELY(has_seekers(of)) && needs_call(called))
-		ww_serve(of, id, s, false);
+		ww_serve(threads, id, s, 0);
+	if (of != threads && UNLIKELY(has_seekers(of)) && needs_call(called, now ? now : (now = ww_now())))
+		ww_serve(of, id, s, now);
 }
 
 void ww_return_seat(ww_seat *s)
@@ -189,5 +214,5 @@ void ww_return_seat(ww_seat *s)
 	}
 	__atomic_exchange_n(&s->busy, 0, __ATOMIC_SEQ_CST);
 	if (UNLIKELY(has_seekers(of)))
-		ww_serve(of, id, s, true);
+		ww_serve(of, id, s, 0);
 }

@@ -1,21 +1,24 @@
 /*
  * age.h - the ages of contexts, which decide collisions.  It isn't installed.
  *
- * The age of a context is the timestamp of its seat in the proved library.  If a context retries by itself, and met
- * nobody, the proved library's context isn't ended with it: the seat *rests*, and its next context has the same age,
- * unless that one acquires by hand first.  So threads that don't collide don't meet at the class's timestamp either,
- * except with every 16th context.  Only the seat's user accesses `ages`, and only its keeper lets it rest:
+ * The age of a context is the timestamp that its seat has in the proved library. Drawing a timestamp changes a word that all
+ * threads of the class share. So if a context runs in a loop, and no other context got in its way, then its end leaves the proved
+ * library's context open. The seat *rests*: its next context that runs in a loop has the same age, and draws no timestamp. At most
+ * 16 contexts share an age. A context that locks by hand ends the rest. Only the seat's user accesses `ages`, and only the keeper of
+ * the seat lets it rest:
  *
- *	ages		the seat				what comes next
- *	0		has no context in the proved library,	MET + SHARE_AGE: its context retries by itself
- *			or one that acquires by hand		(share_age)
- *								MET: that context waited, likewise
- *	above MET	so many contexts more, and the present	one less: a context ends, and the seat rests
- *			one, may have this age; between two	(leave_age)
- *			contexts the seat rests			MET: its context waited, or released a mutex for
- *								which somebody waited (note_meeting)
- *								0: it is used for anything else (stop_rest)
- *	MET		its context is the last of this age	0: that ends
+ *	ages		what it means				its next value, and why
+ *	0		the seat has no context in the proved	MET + SHARE_AGE: its context runs in a loop (share_age)
+ *			library, or one that locks by hand	MET: its context, in a loop, has waited
+ *	above MET	(ages - MET) contexts may have this	one less: a context ends, and the seat rests
+ *			age, the present one among them; the	(leave_age)
+ *			seat rests between two contexts		MET: its context waited, or released a mutex for
+ *								which another one waited (note_meeting)
+ *								0: the seat is used for anything else (stop_rest)
+ *	MET		the present context is the last one of	0: the context ends
+ *			this age
+ *
+ * While `ages` is MET, what `met` says is about the present context: its counts begin there, and its end takes back its label.
  */
 #ifndef WW_AGE_H
 #define WW_AGE_H
@@ -23,13 +26,29 @@
 
 enum { MET = 1, SHARE_AGE = 16 };
 
-static inline void note_meeting(ww_seat *s) { s->ages = MET; }
+static inline void note_meeting(ww_seat *s)
+{
+	if (s->ages == MET)
+		return;
+	s->ages = MET;
+	s->met.waits = s->waits;
+	s->met.back_offs = s->back_offs;
+	s->met.waited = 0;
+	__atomic_store_n(&s->met.target, 0, __ATOMIC_RELAXED);
+}
 
-/* Ends the seat's rest. Its user calls this before it uses the seat for anything else. */
+/* Its context has ended in the proved library, too. */
+static inline void forget_age(ww_seat *s)
+{
+	s->ages = 0;
+	__atomic_store_n(&s->met.label, 0, __ATOMIC_RELAXED);
+}
+
+/* Ends the seat's rest. The user calls this before it uses the seat for anything but a context in a loop. */
 static inline void stop_rest(ww_seat *s)
 {
 	if (UNLIKELY(s->ages)) {
-		s->ages = 0;
+		forget_age(s);
 		ww_end_(&s->handle);
 	}
 }
@@ -45,13 +64,13 @@ static inline void share_age(ww_seat *s)
 #endif
 }
 
-/* Its context ends. */
+/* The seat's context ends: in the proved library, too, unless the next context is to have the same age. */
 static inline void leave_age(ww_seat *s)
 {
 	if (LIKELY(!s->ages))
 		ww_end_(&s->handle);
 	else if (s->ages > MET + 1)
-		s->ages--; /* it leaves its age to the next one */
+		s->ages--;
 	else
 		stop_rest(s);
 }

@@ -7,11 +7,11 @@
 
 #define LIKELY(fact) __builtin_expect(!!(fact), 1)
 #define UNLIKELY(fact) __builtin_expect(!!(fact), 0)
-/* The fact is never true, and the compiler may assume so. */
+/* Tells the compiler that the fact is never true. */
 #define NEVER(fact) do { if (fact) __builtin_unreachable(); } while (0)
 #define COLD __attribute__((noinline, cold))
 
-/* The proved library isn't built for the thread sanitizer, so these calls say what orders the accesses under a lock. */
+/* The thread sanitizer can't see into the proved library's assembly. These calls tell it what a lock orders. */
 #ifdef __SANITIZE_THREAD__
 #define SANITIZES_THREADS 1
 #elif defined(__has_feature)
@@ -28,33 +28,57 @@ static inline void __tsan_release(void *at) { (void)at; }
 
 struct ww_pool;
 
+/* Of a context that has met another, from then on: see age.h, and why.c. */
+struct ww_met {
+	uint64_t label;		  /* the program's */
+	uint64_t waits, back_offs; /* how many its seat had counted by then */
+	uint64_t waited;	  /* for how long its threads have waited since, in nanoseconds */
+	uint32_t target;	  /* the number of the mutex for which it waits, or asked last in vain, plus 1; or 0 */
+	uint32_t lock;		  /* of which lock that call came to wait: of that mutex, or a slot's */
+};
+
 /*
- * A seat has two cache lines of its own; a context that meets nobody leaves the second one alone.  It begins with its
- * handle, as ww_mutex.h assumes.
+ * A seat: the place in the proved library from which one context, or one lock without a context, acts at a time. It has three cache
+ * lines of its own. A context that never waits doesn't touch the second one, and the third one is for what is rare. ww_mutex.h
+ * assumes that a seat begins with its handle.
  */
 typedef struct ww_seat {
 	ww_handle handle;
-	uint32_t token;		/* one futex word: nothing, a token, or its waker is to be called */
-	uint32_t busy;		/* see seat.c */
+	uint32_t token;		/* the futex word on which the seat's user sleeps: see sleep.c */
+	uint32_t busy;		/* who has the seat: see seat.c */
 	struct ww_pool *pool;	/* the class that has it */
-	struct ww_seats *of;	/* the seats among which it is */
+	struct ww_seats *of;	/* the array of seats that it belongs to */
 	uint8_t ages;		/* see age.h */
-	uint8_t asks;		/* what a poll of its context asks for: see context.h */
+	uint8_t asks;		/* what the suspended poll of its context asks for: see context.h */
 	uint32_t given;		/* one of tasks: how often its user was through with it */
-	struct ww_slot *slot;	/* its user's: see shared.c; or NULL */
-	struct ww_mutex *asked;	/* of which mutex that poll asks it */
-	uint64_t waits __attribute__((aligned(64))), back_offs; /* of its users, in all */
-	struct ww_waker waker;	/* of its wait; below, how many waits there were */
-	uint32_t armed;
-	uint32_t awaits;	/* the number of the lock for which it waits, plus 1, or 0: a hint */
+	struct ww_slot *slot;	/* the reader slot of its user: see shared.c; or NULL */
+	struct ww_mutex *asked;	/* the mutex that the suspended poll asks for */
+	uint64_t waits __attribute__((aligned(64))), back_offs; /* how often its users waited and backed off, in all */
+	struct ww_waker waker;	/* the waker of the present wait */
+	uint32_t armed;		/* how many waits its users had that left a waker */
+	uint32_t awaits;	/* the number of the lock that its user waits for, plus 1; or 0: a hint */
 	uint64_t lease;		/* a task's seat: until then anybody claims it; then the queue's first gets it */
-	uint64_t user;		/* the number of the thread that last locked by it without a context */
+	uint64_t user;		/* the number of the thread that last locked without a context from this seat */
+	uint64_t ticket __attribute__((aligned(64))); /* of the value by which its context is suspended, or 0: see retry.c */
+	uint32_t told;		/* the number of the mutex at which its user's last -EDEADLK came, */
+	uint32_t puts;		/* and how often that number had been put back by then */
+	struct ww_met met;
 } __attribute__((aligned(64))) ww_seat;
 
 #define WW_HIDDEN __attribute__((visibility("hidden")))
 
-/* This thread opens a world between these calls.  The second one returns zeros to the system: see heap.c. */
+/*
+ * Memory of zeros from the system itself, or NULL, of which only the pages take room that are written; and its return.  A heap may write
+ * what it clears.
+ */
+WW_HIDDEN void *ww_take_zeros(size_t size);
+WW_HIDDEN void ww_return_zeros(void *at, size_t size);
+
+/*
+ * This thread opens a world between these two calls. The second one returns pages of zeros to the system (see heap.c), and tells how
+ * many bytes the world's large blocks have.
+ */
 WW_HIDDEN void ww_heap_opens(void);
-WW_HIDDEN void ww_heap_opened(void);
+WW_HIDDEN size_t ww_heap_opened(void);
 
 #endif

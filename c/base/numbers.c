@@ -1,36 +1,32 @@
 /*
- * numbers.c - the numbers of mutexes: which lock of the proved library is whose.
+ * numbers.c - the numbers of mutexes: which lock of the proved library belongs to which mutex.
  *
- * A mutex takes a number of its class as it is made, or at its first lock if WW_MUTEX_INIT made it, and puts it back
- * as it is destroyed.  The words of four numbers share a cache line.  A mutex's address says which line it has
- * (ww_likely_), if that has one left, and else it has the next one: so who locks it need not read its number to fetch
- * its words.
+ * A mutex takes a number of its class when it is made, or at its first lock if WW_MUTEX_INIT made it, and puts the number back when
+ * it is destroyed. The words of four numbers share a cache line. If the line that the mutex's address gives (ww_likely_) has a free
+ * number, the mutex takes that, and else one of the next line that has. So a thread that locks the mutex can mostly fetch the line
+ * by the address alone, while it still waits for the mutex's number.
  */
 #define _GNU_SOURCE
 #include "numbers.h"
-#include <stdlib.h>
 
-/*
- * How many mutexes a class has if it says no number; how many locks have their words in one cache line, and how many
- * bytes that has; and how many mutexes have a line to themselves, however many the class has.
- */
-enum { MANY_MUTEXES = 65536, IN_A_LINE = 4, LINE = 64, APART = 1024 };
-/* From how many mutexes on a class is large; in the search of schedules with one. */
+/* IN_A_LINE locks have their words in one cache line, of LINE bytes. The first APART mutexes of a class have a line each to themselves. */
+enum { IN_A_LINE = 4, LINE = 64, APART = 1024 };
+/* From this many mutexes on a class is large; a program of the search of schedules says 1. */
 #ifndef WW_LARGE
 #define WW_LARGE 16384
 #endif
 /*
- * There are so many lines for each of those: with one, half of the mutexes at random addresses would find theirs taken, and with
- * four an eighth.  And so many are enough for 65 locks, which a world has at least.
+ * Each mutex with a line to itself gets SPARE_LINES lines: if it got one, half of the mutexes at random addresses would find their
+ * line taken, and with four it is an eighth. LEAST_LINES are enough for the 65 locks that a world has at least.
  */
 enum { SPARE_LINES = 4, LEAST_LINES = 17 };
-/* All numbers of a line; and how many lines have their bits in a word of `used`. */
+/* FULL has the bits of all numbers of a line; the bits of IN_A_WORD lines are in one word of `used`. */
 enum { FULL = (1 << IN_A_LINE) - 1, IN_A_WORD = 64 / IN_A_LINE };
 
 /* How many mutexes have a line to themselves. */
 static uint32_t apart(uint32_t mutexes) { return mutexes < APART ? mutexes : APART; }
 
-/* A quarter of the numbers, or more if these are few. */
+/* How many lines a class of so many mutexes has: a quarter of their number, or more if they are few. */
 static uint32_t lines_for(uint32_t mutexes)
 {
 	uint32_t quarter = (mutexes + IN_A_LINE - 1) / IN_A_LINE, sparse = SPARE_LINES * apart(mutexes);
@@ -38,7 +34,10 @@ static uint32_t lines_for(uint32_t mutexes)
 	return sparse < LEAST_LINES ? LEAST_LINES : quarter > sparse ? quarter : sparse;
 }
 
-/* One more word of bits, so that there is one. */
+/* Of both arrays of bits, each of which has a word more than its numbers need, so that it has one if there are none; and of the others. */
+static size_t bytes_of_bits(const struct ww_numbers *n) { return 2 * (n->locks / 64 + 1) * sizeof *n->used; }
+static size_t bytes_of_others(const struct ww_numbers *n) { return n->locks * (sizeof *n->lies_at + sizeof *n->puts); }
+
 bool ww_open_numbers(struct ww_numbers *n, uint32_t mutexes)
 {
 	n->mutexes = mutexes ? mutexes : MANY_MUTEXES;
@@ -47,26 +46,31 @@ bool ww_open_numbers(struct ww_numbers *n, uint32_t mutexes)
 	n->locks = n->lines * IN_A_LINE;
 	n->low = n->of_slots = 0;
 	__atomic_store_n(&n->is_large, false, __ATOMIC_RELAXED);
-	n->used = calloc(2 * (n->locks / 64 + 1), sizeof *n->used);
+	n->used = ww_take_zeros(bytes_of_bits(n));
 	n->left = n->used ? n->used + n->locks / 64 + 1 : NULL;
-	n->lies_at = calloc(n->locks, sizeof *n->lies_at + sizeof *n->puts);
+	n->lies_at = ww_take_zeros(bytes_of_others(n));
 	n->puts = n->lies_at ? (uint32_t *)(n->lies_at + n->locks) : NULL;
 	return n->used && n->lies_at;
 }
 
-void ww_close_numbers(struct ww_numbers *n)
+size_t ww_bytes_of_numbers(const struct ww_numbers *n)
 {
-	free(n->used);
-	free(n->lies_at);
+	return bytes_of_bits(n) + bytes_of_others(n);
 }
 
-/* The bits of its numbers that are taken. */
+void ww_close_numbers(struct ww_numbers *n)
+{
+	ww_return_zeros(n->used, bytes_of_bits(n));
+	ww_return_zeros(n->lies_at, bytes_of_others(n));
+}
+
+/* The bits of the line's numbers that are taken. */
 static uint32_t used_of(const struct ww_numbers *n, uint32_t line)
 {
 	return n->used[line / IN_A_WORD] >> line % IN_A_WORD * IN_A_LINE & FULL;
 }
 
-/* The first line from this one on that has a number left; or that nobody has, unless it is to be shared.  There is one. */
+/* The first line from this one on that has a free number, or no taken one unless `shares` is true. The caller knows that there is one. */
 static uint32_t line_from(const struct ww_numbers *n, uint32_t line, bool shares)
 {
 	while (used_of(n, line) > (shares ? FULL - 1 : 0)) {
@@ -105,8 +109,8 @@ void ww_leave_used(struct ww_numbers *n, uint32_t number, ww_is_used *is_used)
 	__atomic_fetch_or(&n->left[number / 64], bit_of(number), __ATOMIC_RELEASE);
 }
 
-/* The numbers are locked. */
-static void give(struct ww_numbers *n, uint32_t number)
+/* Marks a number as free. The numbers are locked. */
+void ww_give_locked(struct ww_numbers *n, uint32_t number)
 {
 	n->used[number / 64] &= ~bit_of(number);
 	if (number / IN_A_LINE < n->low)
@@ -117,13 +121,13 @@ static void give(struct ww_numbers *n, uint32_t number)
 void ww_give_number(struct ww_numbers *n, uint32_t number)
 {
 	pthread_mutex_lock(&n->lock);
-	give(n, number);
+	ww_give_locked(n, number);
 	pthread_mutex_unlock(&n->lock);
 }
 
 /*
- * Frees a number that was left and that nobody uses, unless another thread has freed it.  False if any number has been left since
- * `leaves` was read: that may be this one, which somebody took and left meanwhile.
+ * Frees a number that was left and that nobody uses, unless another thread has freed it. It returns false if any number has been left
+ * since `leaves` was read: that may be this number, which another mutex has taken and left meanwhile.
  */
 static bool give_left(struct ww_numbers *n, uint32_t number, uint64_t leaves)
 {
@@ -132,7 +136,7 @@ static bool give_left(struct ww_numbers *n, uint32_t number, uint64_t leaves)
 	pthread_mutex_lock(&n->lock);
 	is_same = __atomic_load_n(&n->leaves, __ATOMIC_ACQUIRE) == leaves;
 	if (is_same && __atomic_fetch_and(&n->left[number / 64], ~bit_of(number), __ATOMIC_RELAXED) & bit_of(number))
-		give(n, number);
+		ww_give_locked(n, number);
 	pthread_mutex_unlock(&n->lock);
 	return is_same;
 }
@@ -153,7 +157,7 @@ void ww_reclaim_numbers(struct ww_numbers *n)
 		}
 }
 
-/* All numbers are taken if none is free, those that were left are in use, and none has been left since these were looked at. */
+/* All numbers are taken if none is free, if each that was left is still used, and if none was left since the last look at these. */
 int ww_take_number(struct ww_numbers *n, const struct ww_mutex *m, uint32_t *number)
 {
 	uint64_t leaves = UINT64_MAX, by_now;

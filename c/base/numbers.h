@@ -4,39 +4,46 @@
 #include "inside.h"
 #include <pthread.h>
 
+/* How many mutexes a class has if it says no number. */
+enum { MANY_MUTEXES = 65536 };
+
 struct ww_numbers;
-/* Whether somebody uses this number, of a mutex at this address, or of one that is gone. */
+/* Whether a context or a thread uses this number: that of the mutex at this address, or of one that was destroyed. */
 typedef bool ww_is_used(struct ww_numbers *n, uint32_t number, const void *m);
 
 struct ww_numbers {
-	pthread_mutex_t lock; /* for what changes of the following */
+	pthread_mutex_t lock; /* held by a thread that changes one of the following fields */
 	uint32_t mutexes;     /* how many there may be */
-	uint32_t lines;	      /* in so many cache lines their words lie, */
-	uint32_t locks;	      /* which have so many locks of the proved library */
-	uint32_t low;	      /* no line before it has a number left */
+	uint32_t lines;	      /* how many cache lines the words of their locks have */
+	uint32_t locks;	      /* how many locks of the proved library these lines have */
+	uint32_t low;	      /* no line before this one has a free number */
 	uint32_t taken;	      /* how many numbers mutexes have */
-	uint32_t of_slots;    /* and how many reader slots have */
-	bool is_large;	      /* there were so many mutexes that they and what they guard don't stay in a processor's cache */
-	uint64_t span;	      /* by which an address says its line: see ww_likely_ */
+	uint32_t of_slots;    /* how many numbers reader slots have */
+	bool is_large;	      /* at some time there were too many mutexes for a processor's cache */
+	uint64_t span;	      /* the factor by which an address gives its line: see ww_likely_ */
 	uint64_t *used;	      /* a bit for each number, set while it is taken */
-	uint64_t *left;	      /* likewise of those that come free by themselves */
+	uint64_t *left;	      /* a bit for each number, set if it comes free once nobody uses it */
 	uint64_t leaves;      /* how often a number was left, in all */
-	ww_is_used *is_used;  /* asked of those that are left: see used.c */
-	struct ww_mutex **lies_at; /* where the mutex lies that has a number, or had it last */
-	uint32_t *puts;	      /* how often each was put back of those that ww_number_take took: by this a stranger's is told */
+	ww_is_used *is_used;  /* says whether a number that was left is still used: see used.c */
+	struct ww_mutex **lies_at; /* the address of the mutex that has each number, or had it last */
+	uint32_t *puts;	      /* how often each number was put back, or its mutex destroyed: so a later user of a number is told from an earlier one */
 };
 
-/* For so many mutexes, or 65,536 if that is 0; false if there is no memory.  Nobody uses the numbers yet. */
+/* Makes the numbers for so many mutexes, or for 65,536 if that is 0. It returns false if there is no memory. */
 WW_HIDDEN bool ww_open_numbers(struct ww_numbers *n, uint32_t mutexes);
 WW_HIDDEN void ww_close_numbers(struct ww_numbers *n);
-/* Takes a number that is free, for a mutex at this address, or for none; -ENOSPC if there is none. */
+/* How many bytes these have in all. */
+WW_HIDDEN size_t ww_bytes_of_numbers(const struct ww_numbers *n);
+/* Takes a free number for the mutex at this address, or for none. It returns -ENOSPC if no number is free. */
 WW_HIDDEN int ww_take_number(struct ww_numbers *n, const struct ww_mutex *m, uint32_t *number);
 WW_HIDDEN void ww_give_number(struct ww_numbers *n, uint32_t number);
-/* Nobody begins anything by the number any more: it is left, and given once nobody uses it, when these are reclaimed. */
+/* The same, for a caller that has locked the numbers. */
+WW_HIDDEN void ww_give_locked(struct ww_numbers *n, uint32_t number);
+/* Leaves a number by which nobody begins anything any more. ww_reclaim_numbers frees it once nobody uses it. */
 WW_HIDDEN void ww_leave_used(struct ww_numbers *n, uint32_t number, ww_is_used *is_used);
 WW_HIDDEN void ww_reclaim_numbers(struct ww_numbers *n);
 
-/* Notes which mutex has the number, or NULL; and tells which one. Relaxed: nobody holds a mutex before it is noted. */
+/* Notes which mutex has the number, or NULL; and returns the one that was noted. Relaxed: nobody holds a mutex before it is noted. */
 static inline void lies_at(struct ww_numbers *n, uint32_t number, struct ww_mutex *m)
 {
 	__atomic_store_n(&n->lies_at[number], m, __ATOMIC_RELAXED);
@@ -46,14 +53,14 @@ static inline struct ww_mutex *mutex_with(const struct ww_numbers *n, uint32_t n
 	return __atomic_load_n(&n->lies_at[number], __ATOMIC_RELAXED);
 }
 
-/* How often the number was put back. The thread that puts it back counts that, before another thread can take the number. */
+/* How often the number was put back. The thread that puts a number back counts that before another thread can take the number. */
 static inline uint32_t puts_of(const struct ww_numbers *n, uint32_t number) { return __atomic_load_n(&n->puts[number], __ATOMIC_RELAXED); }
 static inline void count_put(struct ww_numbers *n, uint32_t number)
 {
 	__atomic_store_n(&n->puts[number], puts_of(n, number) + 1, __ATOMIC_RELAXED);
 }
 
-/* How many numbers are in use; a thread that puts one back accesses nothing but the lock afterwards. */
+/* How many numbers are in use. A thread that puts a number back accesses nothing but the lock after it has changed this count. */
 static inline uint32_t taken_numbers(const struct ww_numbers *n) { return __atomic_load_n(&n->taken, __ATOMIC_ACQUIRE); }
 
 #endif

@@ -13,13 +13,15 @@
 #include <sched.h>
 #include <stdio.h>
 #include <string.h>
+#include <sys/mman.h>
+#include <sys/syscall.h>
 #include <unistd.h>
 
 __thread struct ww_mine ww_mine __attribute__((tls_model("initial-exec")));
 pthread_mutex_t ww_opening = PTHREAD_MUTEX_INITIALIZER;
 struct ww_open *ww_all_open;
 uint32_t ww_threads;
-static bool is_taken[MANY_OWN];
+struct ww_mine *ww_owners[MANY_OWN];
 static void (*reports_to)(void *data, const char *message);
 static void *reports_data;
 static pthread_key_t ending;
@@ -38,8 +40,10 @@ void ww_number_thread(void)
 {
 	static uint64_t last_thread;
 
-	if (UNLIKELY(!ww_mine.thread))
+	if (UNLIKELY(!ww_mine.thread)) {
 		ww_mine.thread = ww_this_copy + __atomic_add_fetch(&last_thread, 1, __ATOMIC_RELAXED);
+		ww_mine.lwp = (uint32_t)syscall(SYS_gettid);
+	}
 }
 
 uint64_t ww_new_id(void)
@@ -47,6 +51,35 @@ uint64_t ww_new_id(void)
 	static uint64_t last_id;
 
 	return ww_this_copy + ++last_id;
+}
+
+/* ---- memory ---- */
+
+/*
+ * Of the leak sanitizer, in programs that have it. It looks for addresses only in memory of malloc and in what it is told of: without
+ * this it would take what seats have for lost as a program ends that keeps its classes.
+ */
+void __lsan_register_root_region(const void *at, size_t size) __attribute__((weak));
+void __lsan_unregister_root_region(const void *at, size_t size) __attribute__((weak));
+
+void *ww_take_zeros(size_t size)
+{
+	void *at = mmap(NULL, size, PROT_READ | PROT_WRITE, MAP_PRIVATE | MAP_ANONYMOUS, -1, 0);
+
+	if (at == MAP_FAILED)
+		return NULL;
+	if (__lsan_register_root_region)
+		__lsan_register_root_region(at, size);
+	return at;
+}
+
+void ww_return_zeros(void *at, size_t size)
+{
+	if (!at)
+		return;
+	if (__lsan_unregister_root_region)
+		__lsan_unregister_root_region(at, size);
+	munmap(at, size);
 }
 
 /* ---- messages ---- */
@@ -112,10 +145,10 @@ void ww_take_own(void)
 	if (ww_mine.own_at || ww_mine.ends || __atomic_load_n(&ww_threads, __ATOMIC_RELAXED) == MANY_OWN)
 		return;
 	pthread_mutex_lock(&ww_opening);
-	while (k < MANY_OWN && is_taken[k])
+	while (k < MANY_OWN && ww_owners[k])
 		k++;
 	if (k < MANY_OWN && !is_closed && !pthread_setspecific(ending, &ww_mine)) {
-		is_taken[k] = true;
+		ww_owners[k] = &ww_mine;
 		set_threads(ww_threads + 1);
 		ww_mine.own_at = (k + 1) * sizeof(ww_seat);
 		(void)ww_processors();
@@ -129,7 +162,7 @@ static void end_thread(void *mine)
 	(void)mine;
 	pthread_mutex_lock(&ww_opening);
 	at_end();
-	is_taken[ww_mine.own_at / sizeof(ww_seat) - 1] = false;
+	ww_owners[ww_mine.own_at / sizeof(ww_seat) - 1] = NULL;
 	set_threads(ww_threads - 1);
 	ww_mine.own_at = 0;
 	ww_mine.ends = true;
@@ -140,7 +173,7 @@ static void end_thread(void *mine)
 static void keep_one_own(void)
 {
 	for (uint32_t k = 0; k < MANY_OWN; k++)
-		is_taken[k] = ww_mine.own_at == (k + 1) * sizeof(ww_seat);
+		ww_owners[k] = ww_mine.own_at == (k + 1) * sizeof(ww_seat) ? &ww_mine : NULL;
 	set_threads(!!ww_mine.own_at);
 }
 
@@ -151,6 +184,7 @@ static void in_parent(void) { pthread_mutex_unlock(&ww_opening); }
 static void behind_fork(void)
 {
 	keep_one_own();
+	ww_mine.lwp = (uint32_t)syscall(SYS_gettid);
 	in_child();
 	pthread_mutex_unlock(&ww_opening);
 }

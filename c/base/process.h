@@ -25,22 +25,26 @@ struct ww_mine {
 	struct ww_my_permit {
 		uint64_t id;		/* of the class for which it is, or was */
 		struct ww_permit *it;
-		uint64_t ends;		/* its lease; 0: it goes on without one */
+		uint64_t taken, ends;	/* its lease began, and ends; 0: it goes on without one */
 		uint64_t seen, brief;	/* its last look at the clock; one less than `brief` later sets `begins` */
 		uint32_t begins;	/* how many contexts it begins until it reads the clock */
 		uint32_t begun, reported; /* how many it has begun in this lease, and of how many the crowd knows */
 		uint64_t waited;	/* for how long it has waited for locks meanwhile */
 		uint64_t ran;		/* for how long it had had a processor by the begin of that */
 	} permit;
-	uint64_t usual;		  /* how long its waits last: see wait.c */
+	uint32_t too_long;	  /* how many of its waits last too long to stay awake: see wait.c */
 	uint64_t waited, counted; /* the sum of its waits, since then: see crowd.c */
 	uint32_t sleeps;	  /* how often it slept in this library */
 	uint64_t ran;		  /* its processor time at the last look at sleeps */
 	uint32_t elsewhere;	  /* its other sleeps by then, plus 1; 0: no look yet */
 	int awake;		  /* a look that finds a new one makes it -AWAKE; another adds 1, up to AWAKE */
+	uint32_t lwp;		  /* for a debugger: its number in the system; 0 while `thread` is */
+	uint64_t since;		  /* likewise: when its last wait that slept began, up to 0.1 ms later */
 };
 WW_HIDDEN extern __thread struct ww_mine ww_mine __attribute__((tls_model("initial-exec")));
 
+/* Of each place of threads' own seats the thread whose it is, or NULL. Opening is locked, but a debugger reads it. */
+WW_HIDDEN extern struct ww_mine *ww_owners[MANY_OWN];
 /* How many threads have seats of their own. */
 WW_HIDDEN extern uint32_t ww_threads;
 /*

@@ -1,16 +1,17 @@
 /*
- * sleep.c - the clock, sleeps on a futex, and the token of a seat, on which its user sleeps:
+ * sleep.c - the clock, sleeps on a futex, and the token of a seat. The user of a seat, a thread or a task, sleeps on the token:
  *
- *	token		what comes next, and by what
- *	NOTHING		ARMED, with the number of this wait: its user has left a waker, by an exchange (ww_arm)
- *			TOKEN: somebody wakes it, by an exchange (ww_unpark)
- *	ARMED		TOKEN: somebody wakes it, by an exchange, and then calls the waker (ww_unpark)
- *			NOTHING: a poll takes its waker back, by an exchange (ww_disarm); a thread's time has come,
- *			by a store (ww_park)
- *	TOKEN		NOTHING: its user goes on, or doesn't sleep after all, by a store (ww_park, ww_arm)
+ *	token		its next state, and which step makes it
+ *	NOTHING		ARMED, with the number of this wait: the user leaves a waker, by an exchange (ww_arm)
+ *			TOKEN: another thread wakes the seat, by an exchange (ww_unpark)
+ *	ARMED		TOKEN: another thread wakes the seat, by an exchange, and then calls the waker (ww_unpark)
+ *			NOTHING: a poll takes its waker back, by an exchange (ww_disarm); or the thread's time limit has
+ *			passed, by a store (ww_park)
+ *	TOKEN		NOTHING: the user goes on, or doesn't go to sleep after all, by a store (ww_park, ww_arm)
  *
- * So no wake-up is lost: who wakes and who goes to sleep exchange one word, and the second of the two sees the first.
- * Whoever stores NOTHING looks at its lock next, so a token that comes just before is one that it needs no more.
+ * No wake-up is lost: the thread that wakes and the one that goes to sleep both exchange the token, and whichever comes second
+ * sees what the first one left. A store of NOTHING may erase a token that came just before. That does no harm, since the user looks
+ * at its lock after the store, and so sees what it would have been woken for.
  */
 #define _GNU_SOURCE
 #include "sleep.h"
@@ -21,24 +22,24 @@
 #include <sys/syscall.h>
 #include <unistd.h>
 
-_Static_assert(sizeof(ww_seat) == 128 && offsetof(ww_seat, waits) == 64, "a seat has two cache lines");
+_Static_assert(sizeof(ww_seat) == 192 && offsetof(ww_seat, waits) == 64 && offsetof(ww_seat, ticket) == 128, "a seat has three cache lines");
 _Static_assert(offsetof(ww_seat, handle) == 0, "a seat begins with its handle");
 
 /*
- * At most so many pauses come between two looks at a word, since each takes its cache line from who writes it; and with
- * one of WW_LOOKS looks comes one at the clock.  In the search of schedules a program says how many.
+ * MOST_PAUSES is the largest number of pauses between two looks at a word: a look takes the cache line from the thread that writes
+ * the word. Every WW_LOOKS looks the clock is read, too. A program of the search of schedules sets WW_LOOKS itself.
  */
 #ifndef WW_LOOKS
 #define WW_LOOKS 16
 #endif
 enum { MOST_PAUSES = 8 };
 /*
- * A seat that is outside a guard for so long sleeps so long before each further try: the thread inside may need its
- * processor.
+ * A thread that has waited for this many nanoseconds to enter a guard sleeps for as many before each further try, since the thread
+ * inside the guard may need its processor.
  */
 enum { SHORT_SLEEP = 50000 };
 
-/* On AArch64 `yield` is no pause where a core has one thread. */
+/* On AArch64, `isb` waits for some cycles; `yield` does nothing on a core that has one hardware thread. */
 void ww_pause(unsigned count)
 {
 	for (unsigned i = 0; i < count; i++)
@@ -56,7 +57,7 @@ void ww_futex_wait(uint32_t *word, uint32_t is, const struct timespec *until)
 		ww_mine.sleeps++;
 }
 
-void ww_futex_wake(uint32_t *word, int many) { syscall(SYS_futex, word, FUTEX_WAKE_PRIVATE, many, NULL, NULL, 0); }
+bool ww_futex_wake(uint32_t *word) { return syscall(SYS_futex, word, FUTEX_WAKE_PRIVATE, 1, NULL, NULL, 0) > 0; }
 
 bool ww_has_come(const struct timespec *until)
 {
@@ -74,7 +75,7 @@ uint64_t ww_now(void)
 	return (uint64_t)now.tv_sec * 1000000000 + (uint64_t)now.tv_nsec;
 }
 
-/* Doesn't use nanosleep, in which pthread_cancel would end the thread during its call. */
+/* A sleep on a futex, and not nanosleep: pthread_cancel would end the thread inside nanosleep, in the middle of the library's call. */
 static void sleep_briefly(void)
 {
 	const struct timespec until = timespec_of(ww_now() + SHORT_SLEEP);
@@ -102,13 +103,13 @@ void ww_await_guard(unsigned *looks, uint64_t *until)
 		sleep_briefly();
 }
 
-/* The token while the waker that was left last is still to be called. */
+/* The token of the seat's present wait while its waker hasn't been called. */
 static uint32_t armed(const ww_seat *s) { return ARMED | s->armed << 2; }
 
 /*
- * From now on whoever wakes the seat calls this waker; false if the seat was woken before, whose token is then gone.
- * Relaxed: a thread that reads the waker finds this token before and after that.  A driver's move `parks`, or else
- * `rises`.
+ * Leaves a waker, which the next thread that wakes the seat calls. It returns false if the seat was woken before, and then takes
+ * that token. The stores are relaxed, since a thread that reads the waker uses it only if it finds this token both before and after
+ * it has read. In the proved protocol of drivers this is the move `parks`, or `rises` if the seat was woken before.
  */
 bool ww_arm(ww_seat *s, const struct ww_waker *waker)
 {
@@ -132,25 +133,29 @@ bool ww_disarm(ww_seat *s)
 }
 
 /*
- * The waker of a thread that sleeps on its seat's token. The thread may have gone on by then, so only the address is
- * used.
+ * The waker of a thread that sleeps on its seat's token. It only passes the token's address to the system, and reads nothing there,
+ * since the thread may have gone on, and freed the memory, before the waker is called. The address of what the thread has for itself is
+ * for a debugger alone, which sees by it which thread sleeps.
  */
-static void wake_thread(void *nothing, void *token)
+static void wake_thread(void *mine, void *token)
 {
-	(void)nothing;
-	ww_futex_wake(token, 1);
+	(void)mine;
+	ww_futex_wake(token);
 }
 
 /*
- * Sleeps until the seat is woken, or until its time has come.  A thread that asks for the wait's end wakes it, too.
- * A token that was given before is kept, so no wake-up is lost.  What leaves NOTHING is a driver's move `rises`.
+ * Sleeps until another thread wakes the seat, or until the time limit has passed. A thread that cancels the wait wakes the seat, too.
+ * If the seat was woken before this call, the call returns at once, so no wake-up is lost. The last store is the move `rises` of the
+ * proved protocol of drivers.
  */
 void ww_park(ww_seat *s, uint64_t awake, const struct timespec *until)
 {
-	const struct ww_waker thread = { .wake = wake_thread, .task = &s->token };
+	const struct ww_waker thread = { .wake = wake_thread, .loop = &ww_mine, .task = &s->token };
 
 	for (unsigned looks = 0; __atomic_load_n(&s->token, __ATOMIC_SEQ_CST) != TOKEN && ww_stays_awake(&looks, awake);)
 		;
+	(void)this_thread();
+	ww_mine.since = awake;
 	if (!ww_arm(s, &thread))
 		return;
 	while (__atomic_load_n(&s->token, __ATOMIC_SEQ_CST) == armed(s) && !(until && ww_has_come(until)))
@@ -159,9 +164,10 @@ void ww_park(ww_seat *s, uint64_t awake, const struct timespec *until)
 }
 
 /*
- * The waker is read before the token is left: after that the seat may be another's, or wait again.  Each wait has a
- * number of its own in the word.  So if the exchange finds the word unchanged, the waker is that wait's, and what was
- * read relaxed was stored before.  The exchange is a driver's move `wakes`.
+ * Leaves a token, and returns the waker of the wait that it ended, which is empty if nobody waited. The waker is read before the
+ * exchange, since afterwards the seat's user may go on and wait again, or give the seat to another user. Each wait has a number of
+ * its own in the token. So if the exchange finds the token unchanged, then the waker that was read is that wait's, and was stored
+ * before the token was; this is why relaxed loads suffice. The exchange is the move `wakes` of the proved protocol of drivers.
  */
 struct ww_waker ww_leave_token(ww_seat *s)
 {

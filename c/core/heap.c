@@ -29,10 +29,11 @@ static char none;
 /* From how many bytes on a block is large, and has large pages while it is written; and where it lies in what was taken. */
 enum { LARGE = 64 << 10, LARGE_PAGE = 2 << 20, AHEAD = 64 };
 
-/* At the beginning of the pages of a block. */
+/* Right before a block that has pages of its own. */
 struct pages {
 	struct pages *older; /* of those that this thread took while it opens a world */
-	size_t size;	     /* to the end of the block */
+	char *begin;	     /* of what was taken */
+	size_t all, size;    /* of that, and of the block */
 };
 
 /* While this thread opens a world: the pages that it took last, or `no_pages`.  Otherwise NULL. */
@@ -41,23 +42,29 @@ static struct pages no_pages;
 
 static struct pages **pages_of(void *p) { return (struct pages **)p - 1; }
 
-/* What the kernel is asked for: whole large pages, so that it puts them where large pages lie. */
-static size_t asked_for(size_t size) { return size < LARGE_PAGE ? size : (size + LARGE_PAGE - 1) & -(size_t)LARGE_PAGE; }
+/* The first address from this one on at which a page begins of this size. */
+static char *at_page(char *p, size_t page) { return p + (-(uintptr_t)p & (page - 1)); }
 
 /*
  * The tables of a class's locks are written whole when the class opens: in large pages that takes half the time, and
- * random locks of a million miss fewer pages.  The kernel takes the request as a hint.
+ * random locks of a million miss fewer pages.  The kernel takes the request as a hint.  Such a block begins with a large page: so
+ * these go back whole where all of it is zero, and the system keeps none for what stands before the block.
  */
 static void *take_pages(size_t size)
 {
-	struct pages *it = mmap(NULL, asked_for(AHEAD + size), PROT_READ | PROT_WRITE, MAP_PRIVATE | MAP_ANONYMOUS, -1, 0);
-	void *p = (char *)it + AHEAD;
+	size_t all = (size < LARGE_PAGE ? AHEAD : LARGE_PAGE) + size;
+	char *begin = mmap(NULL, all, PROT_READ | PROT_WRITE, MAP_PRIVATE | MAP_ANONYMOUS, -1, 0);
+	char *p = begin + AHEAD;
+	struct pages *it;
 
-	if (it == MAP_FAILED)
+	if (begin == MAP_FAILED)
 		return NULL;
-	if (size >= LARGE_PAGE)
-		madvise(it, size & -(size_t)LARGE_PAGE, MADV_HUGEPAGE);
-	*it = (struct pages){ .older = taken, .size = AHEAD + size };
+	if (size >= LARGE_PAGE) {
+		p = at_page(p, LARGE_PAGE);
+		madvise(p, size & -(size_t)LARGE_PAGE, MADV_HUGEPAGE);
+	}
+	it = (struct pages *)(void *)(p - AHEAD);
+	*it = (struct pages){ .older = taken, .begin = begin, .all = all, .size = size };
 	if (taken)
 		taken = it;
 	*pages_of(p) = it;
@@ -105,7 +112,7 @@ void rattle_dealloc(void *p)
 		at = &(*at)->older;
 	if (*at)
 		*at = it->older;
-	munmap(it, asked_for(it->size));
+	munmap(it->begin, it->all);
 }
 
 /* ---- what a world writes as it opens ---- */
@@ -121,15 +128,16 @@ void ww_heap_opens(void) { taken = &no_pages; }
  * uses takes no memory. Where the system refuses, they stay.
  *
  * The wait lists are the last large block, and lie in small pages from now on: a thread that waits for a lock makes one
- * of them resident, and would make 2 MiB.
+ * of them resident, and would make 2 MiB.  So does any context with the beginning of the words.
  */
-void ww_heap_opened(void)
+size_t ww_heap_opened(void)
 {
-	size_t page = (size_t)sysconf(_SC_PAGESIZE);
+	size_t page = (size_t)sysconf(_SC_PAGESIZE), bytes = 0;
 
 	for (struct pages *it = taken; it != &no_pages; it = it->older) {
-		char *from = (char *)it + page, *end = (char *)it + it->size / page * page;
+		char *p = (char *)it + AHEAD, *from = at_page(p, page), *end = from + (size_t)(p + it->size - from) / page * page;
 
+		bytes += it->all;
 		for (char *at = from; at <= end; at += page) {
 			if (at < end && is_zero(at, page))
 				continue;
@@ -137,8 +145,9 @@ void ww_heap_opened(void)
 				madvise(from, (size_t)(at - from), MADV_DONTNEED);
 			from = at + page;
 		}
-		if (it == taken && it->size >= LARGE_PAGE)
-			madvise(it, asked_for(it->size), MADV_NOHUGEPAGE);
+		if (it->size >= LARGE_PAGE)
+			madvise(p, it == taken ? it->size : page, MADV_NOHUGEPAGE);
 	}
 	taken = NULL;
+	return bytes;
 }

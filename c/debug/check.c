@@ -7,7 +7,7 @@
 #ifdef WW_DEBUG
 #define NO_STATE " is in a state that none has, by an internal error, or since the program overwrote memory: "
 
-/* In the debug library each context has an age of its own, so no seat rests between two. */
+/* In the debug library each context has an age of its own, so no seat rests between two contexts (age.h). */
 static bool is_seat_right(const ww_seat *s, uint32_t busy, uint32_t token, enum use use)
 {
 	const struct ww_pool *p = s->pool;
@@ -31,7 +31,10 @@ void ww_debug_check_seat(const ww_seat *s, enum use use)
 	abort();
 }
 
-/* By its phase: which bits of what comes next it has, and whether its lock calls may take the quick way. */
+/*
+ * Whether the context's state and pool fit its phase: which bits say what comes next, and whether its lock calls may take the quick
+ * way.
+ */
 static bool is_phase_right(const struct ww_acquire_ctx *x)
 {
 	unsigned owed = x->state & (TRIES | IS_PRELOCKED | IS_POLLED);

@@ -1,8 +1,9 @@
 /*
- * debug.c - what libww_debug makes of what the library notes, and answers what that asks: misuse is reported, and what
- * is right by itself, but dangerous.  Each part needs only those before it:
+ * debug.c - what libww_debug does with what the library's sources note, and what it answers them. It reports misuse, and calls that
+ * are right by themselves, but dangerous. Each part needs only those before it:
  *
  *	report.c	messages, with the line of the call and a backtrace
+ *	slow.c		how long each line of the program waits
  *	check.c		whether seats and contexts are in states of their tables
  *	watch.c		what is known of seats and mutexes: who uses them, and since where
  *	waits.c		deadlocks that no class detects, and waits that last
@@ -11,14 +12,11 @@
 #define _GNU_SOURCE
 #include "parts.h"
 #ifdef WW_DEBUG
-static __thread const ww_seat *seen_seat; /* the last context of this thread that was seen to be one */
-/* Where the last context of this thread that ended after -EDEADLK began, and how many that began there did in a row. */
-static __thread struct place gave_up_at;
-static __thread unsigned gave_up;
+static __thread const ww_seat *seen_seat; /* the seat of the last context that this thread found to be one */
 
 /* ---- contexts ---- */
 
-/* Once, where it is so. In the search of schedules no call says its line. */
+/* Reports, once, that the program's calls don't say their lines. In the search of schedules no call does. */
 static void report_unseen(void)
 {
 #ifndef WW_FEW
@@ -29,7 +27,7 @@ static void report_unseen(void)
 #endif
 }
 
-/* The memory of a context that was left is another's by now. */
+/* Reports a context that was left without ww_acquire_fini, and in whose memory this context begins. */
 static void report_left(const struct ww_acquire_ctx *x)
 {
 	const ww_seat *left = ww_seat_with(x->own->pool, false, CONTEXT_AT, (uintptr_t)x);
@@ -41,26 +39,15 @@ static void report_left(const struct ww_acquire_ctx *x)
 		 "the context that was here before was left without ww_acquire_fini; it began at");
 }
 
-static bool has_given_up(const struct place *at)
-{
-	return gave_up && at->file == gave_up_at.file && at->line == gave_up_at.line;
-}
-
-/* A task may have several contexts in one thread, as others there do. */
+/* Reports that this thread already has a context, unless the new one is a task's: several tasks of a thread may have contexts. */
 static void report_dangers(const struct ww_pool *p, bool is_task)
 {
-	enum { MANY = 3 };
 	const ww_seat *first = is_task ? NULL : ww_seat_with(p, false, A_CONTEXT, this_thread());
 
 	if (first)
 		ww_warn(ONCE, p->class_, "ww_acquire_init", &watch_of(first)->began,
 			  "two contexts of a thread can wait for each other forever; "
 			  "its other one, if it wasn't left without ww_acquire_fini, began at");
-	if (gave_up >= MANY && has_given_up(&ww_here))
-		ww_warn(ONCE, p->class_, "ww_acquire_init", NULL,
-			  "the last %u contexts that the thread began here ended after -EDEADLK: "
-			  "one that begins anew is the youngest, and gives way again; let it back off, and go on",
-			  gave_up);
 }
 
 static void note_begun(struct ww_acquire_ctx *x)
@@ -73,18 +60,22 @@ static void note_begun(struct ww_acquire_ctx *x)
 	x->deadlock_inject_countdown = x->stamp & 15;
 }
 
+/*
+ * Reports a context that ends after -EDEADLK. A suspended context whose value is dropped isn't reported: ww_watch_suspend has
+ * forgotten its -EDEADLK.
+ */
 static void note_end(const struct ww_acquire_ctx *x)
 {
 	struct watch *s = watch_of(x->own);
 
-	if (has_given_up(&s->began) || s->refused) {
-		gave_up = !s->refused ? 0 : has_given_up(&s->began) ? gave_up + 1 : 1;
-		gave_up_at = s->began;
-	}
+	if (s->refused)
+		ww_warn(ONCE, x->own->pool->class_, "ww_acquire_fini", &s->asked,
+			  "the context loses its age: one that begins in its place is the youngest, and gives way again; "
+			  "let it back off, and go on, or suspend it (ww_retry.h); it got -EDEADLK at");
 	ww_watch_end(s);
 }
 
-/* The context holds a mutex, and so may neither acquire another one nor end. */
+/* Reports a context that got -EDEADLK and still holds a mutex, and so may neither acquire another mutex nor end. */
 static void report_unreleased(const char *call, const ww_seat *s)
 {
 	ww_fault(s->pool->class_, call, &watch_of(s)->asked,
@@ -97,7 +88,7 @@ static void note_stays(const struct ww_acquire_ctx *x)
 		report_unreleased("ww_acquire_fini", x->own);
 }
 
-/* Whether what lies there was begun as a context, of any class, or has ended. */
+/* Whether the context was ever begun, in any class, or has ended. */
 static bool is_context(const struct ww_acquire_ctx *x)
 {
 	const struct ww_pool *p;
@@ -111,10 +102,20 @@ static bool is_context(const struct ww_acquire_ctx *x)
 	return p;
 }
 
-/* A context that has its seat began last by it. */
+/*
+ * Whether the context has ended by a copy of it. Only the context that last began by the seat has the seat's stamp.  A copy of a context
+ * whose class was freed may name a seat that isn't made in the next class.
+ */
 bool ww_debug_has_ended(const struct ww_acquire_ctx *x)
 {
-	return x->own && READ_ONCE(watch_of(x->own)->stamp) != x->stamp;
+	return x->own && (!is_made(x->own) || READ_ONCE(watch_of(x->own)->stamp) != x->stamp);
+}
+
+/* Notes that the context belongs to this thread, whose call names it. */
+static void note_used_here(const struct ww_acquire_ctx *x)
+{
+	if (is_context(x) && !ww_debug_has_ended(x))
+		ww_watch_use(watch_of(x->own));
 }
 
 /* ---- locks ---- */
@@ -132,17 +133,11 @@ bool ww_debug_refuses(const char *call, const struct ww_mutex *m, const struct w
 	const char *why = !is_context(x) ? "the context was never begun" :
 			  ww_debug_has_ended(x) ? "the context has ended by a copy of it" : NULL;
 
-	if (why) {
+	if (why)
 		ww_fault(NULL, call, NULL, why);
-		return true;
-	}
-	if (!m || !fits(m, x))
-		return false;
-	report_copy(m, call);
-	if (!watch_of(x->own)->is_injected || !x->acquired)
-		return false;
-	report_unreleased("ww_mutex_lock", x->own);
-	return true;
+	else if (m && fits(m, x))
+		report_copy(m, call);
+	return why;
 }
 
 static void note_alone(const struct ww_mutex *m, const struct timespec *until)
@@ -158,7 +153,7 @@ static void note_alone(const struct ww_mutex *m, const struct timespec *until)
 			  "the thread holds a mutex by what began at");
 }
 
-/* From then on the context has to release all, and to wait for this mutex first. */
+/* Notes that the context got -EDEADLK at the mutex: it has to release all, and then to wait for this mutex first. */
 static void got_edeadlk(const struct ww_mutex *m, struct watch *s)
 {
 	ww_watch_use(s);
@@ -167,14 +162,20 @@ static void got_edeadlk(const struct ww_mutex *m, struct watch *s)
 	WRITE_ONCE(s->refused, m);
 }
 
-/* Not if the context has to back off yet, and so will wait. */
+/*
+ * Notes where the context's wait for the contended mutex was taken back. If the context has yet to back off, it will wait, so
+ * nothing is noted.
+ */
 static void note_taken_back(const struct ww_acquire_ctx *x)
 {
 	if (x->own && watch_of(x->own)->refused && !ww_is_contended(x))
 		ww_set_place(&watch_of(x->own)->taken_back);
 }
 
-/* A context that got -EDEADLK has waited now, for that mutex. What is released at once isn't noted as acquired. */
+/*
+ * Reports a lock after ww_acquire_done, and a lock that comes before the wait for the contended mutex, which is over by now. A lock
+ * that is released at once isn't noted as acquired.
+ */
 static void got_lock(const struct ww_mutex *m, const struct ww_acquire_ctx *x, struct watch *s)
 {
 	if (x->state & IS_DONE && holder_with(m->pool, m->number) == s)
@@ -190,15 +191,21 @@ static void got_lock(const struct ww_mutex *m, const struct ww_acquire_ctx *x, s
 	WRITE_ONCE(s->refused, NULL);
 }
 
+/* Notes how a lock call ended. If a context gave up its wait for the contended mutex, that wait is over: any lock may come next. */
 static void note_end_of_lock(const struct ww_mutex *m, const struct ww_acquire_ctx *x, int r)
 {
 	if (x && !r)
 		got_lock(m, x, watch_of(x->own));
-	if (r == -EDEADLK)
-		got_edeadlk(m, watch_of(x->own));
+	if (x && r == -EINTR && watch_of(x->own)->refused == m)
+		WRITE_ONCE(watch_of(x->own)->refused, NULL);
+	if (r != -EDEADLK)
+		return;
+	if (!watch_of(x->own)->is_injected)
+		ww_count_back_off();
+	got_edeadlk(m, watch_of(x->own));
 }
 
-/* The proved library or the loop refused it. */
+/* Reports a lock call that the proved library or the loop refused. */
 static void note_return(const struct ww_mutex *m, const struct ww_acquire_ctx *x, int r)
 {
 	if (r == -EINVAL && watch_of(x->own)->refused)
@@ -207,19 +214,22 @@ static void note_return(const struct ww_mutex *m, const struct ww_acquire_ctx *x
 		ww_fault(m->pool->class_, "ww_mutex_lock", NULL, reason_of(r));
 }
 
-/* The next one comes after three and a half times as many locks. */
+/* Makes up an -EDEADLK. The next one comes after three and a half times as many locks as this one. */
 int ww_debug_injects(struct ww_mutex *m, struct ww_acquire_ctx *x, int r)
 {
-	unsigned interval;
-
 	if (r || !x || x->acquired < 2 || holder_with(m->pool, m->number) != watch_of(x->own) ||
 	    x->deadlock_inject_countdown--)
 		return r;
-	interval = x->deadlock_inject_interval;
-	x->deadlock_inject_interval = x->deadlock_inject_countdown = interval > ~0u / 7 ? ~0u : interval * 7 / 2;
+	x->deadlock_inject_countdown = x->deadlock_inject_interval > ~0u / 7 ? ~0u : x->deadlock_inject_interval * 7 / 2;
+	x->deadlock_inject_interval = x->deadlock_inject_countdown;
 	watch_of(x->own)->is_injected = true;
 	(void)ww_unlock_of(m, x);
 	return -EDEADLK;
+}
+
+bool ww_debug_forbids(const struct ww_acquire_ctx *x, uint32_t number)
+{
+	return watch_of(x->own)->is_injected && x->acquired && !ww_owns(x->own, number);
 }
 
 bool ww_debug_has_injected(const struct ww_mutex *m, const struct ww_acquire_ctx *x)
@@ -227,7 +237,10 @@ bool ww_debug_has_injected(const struct ww_mutex *m, const struct ww_acquire_ctx
 	return watch_of(x->own)->is_injected && x->contending_lock == m && !x->acquired;
 }
 
-/* Years away, but no century, is a time of another clock; and soon after the system began, but long ago, a duration. */
+/*
+ * Reports a time limit that is probably wrong. A time that is years away, but not a century, is of another clock. A time soon after
+ * the system began, but long ago, is a duration.
+ */
 static void note_time(const struct timespec *until)
 {
 	enum { MINUTE = 60, HOUR = 3600, YEAR = 365 * 86400 };
@@ -242,34 +255,39 @@ static void note_time(const struct timespec *until)
 
 /* ---- unlocks ---- */
 
-/* Whether a context of this thread got -EDEADLK at the mutex, and the program didn't look at that. */
+/* Whether a context of this thread got -EDEADLK at the mutex, and the program didn't look at that, which is reported then. */
 static bool report_unlooked(const struct ww_mutex *m)
 {
 	const ww_seat *s = ww_any_seat_with(REFUSED_AT, (uintptr_t)m);
 
 	if (s)
 		ww_fault(s->pool->class_, "ww_mutex_unlock", &watch_of(s)->asked,
-			 "the context doesn't hold the mutex: "
-			 "nothing looked at the -EDEADLK that its lock returned at");
+			 "the context doesn't hold the mutex: nothing looked at the -EDEADLK that its lock returned at");
 	return s;
 }
 
-/* A seat that holds nothing is in the middle of its own unlock; and a task may unlock in another thread. */
+/*
+ * Reports an unlock by a thread that has neither the mutex nor its context. A task may unlock in any thread. If the unlock's call
+ * names the context, the context is this thread's by now. If no seat is noted as the holder, its own unlock is under way.
+ */
 static void note_released(const struct ww_mutex *m)
 {
 	const struct watch *by = holder_with(m->pool, m->number);
+	bool by_context = by && READ_ONCE(by->stamp);
+	uint64_t thread = by_context ? READ_ONCE(by->thread) : READ_ONCE(holding_of(m)->thread);
 
 	report_copy(m, "ww_mutex_unlock");
-	if (is_seen() && READ_ONCE(holding_of(m)->thread) != this_thread() && !(by && !user_of(by)) &&
-	    !report_unlooked(m))
-		ww_fault(m->pool->class_, "ww_mutex_unlock", NULL, "another thread acquired the mutex");
+	if (is_seen() && thread != this_thread() && !(by && !user_of(by)) && !report_unlooked(m))
+		ww_fault(m->pool->class_, "ww_mutex_unlock", NULL, by_context ?
+			 "its context is another thread's, which named it last in a call: see ww_acquire_here" :
+			 "another thread acquired the mutex");
 	if (by)
 		ww_watch_release(m);
 }
 
 /*
- * Why nobody holds a mutex that is unlocked here, though somebody seems to: it lies elsewhere, or was made anew; or
- * NULL.
+ * Why nobody holds a mutex that is unlocked, though somebody seems to: the mutex is a copy, or was moved, or was initialized anew;
+ * or NULL.
  */
 static const char *why_unheld(const struct ww_pool *of, const struct ww_mutex *m)
 {
@@ -306,9 +324,9 @@ bool ww_debug_is_stale(const struct ww_mutex *m)
 /* ---- classes ---- */
 
 /*
- * Writes what of the class is in use; or reports it, the first time that the class can't be freed here, unless whoever
- * kept it from that is through by now.  Nobody frees it meanwhile.  In a forked child nothing is shown of a class that
- * was open before.
+ * Writes to the file what of the class is in use. Without a file it reports that, the first time that the class can't be freed at
+ * this line, unless nothing is in use by now. Nobody frees the class while the list of classes is locked. In a forked child nothing
+ * is shown of a class that was open before.
  */
 static void show_class(const struct ww_class *c, FILE *to)
 {
@@ -332,46 +350,52 @@ void ww_class_print(struct ww_class *c, FILE *to) { show_class(c, to); }
 
 /* ---- what is noted ---- */
 
-/* What can't end may be no context, and what is handed over is another's seat. */
-static void check_states(const struct ww_note *it)
+/*
+ * Checks the state of the context and the seat that are noted. A context that can't end, or that a call names, may be none, and a
+ * seat that is handed over is another user's, so these aren't checked.
+ */
+static void check_states(const struct ww_note *note)
 {
-	if (it->what == CONTEXT_STAYS || it->what == SEAT_HANDED)
+	if (note->what == CONTEXT_STAYS || note->what == CONTEXT_USED || note->what == SEAT_HANDED)
 		return;
-	if (it->context)
-		ww_debug_check_context(it->context);
-	if (it->context || it->seat)
-		ww_debug_check_seat(it->context ? it->context->own : it->seat,
-				    it->what == SEAT_CLOSED ? UNUSED : it->what == SEAT_GIVEN ? IS_THROUGH : IN_USE);
+	if (note->context)
+		ww_debug_check_context(note->context);
+	if (note->context || note->seat)
+		ww_debug_check_seat(note->context ? note->context->own : note->seat,
+				    note->what == SEAT_CLOSED ? UNUSED : note->what == SEAT_GIVEN ? IS_THROUGH : IN_USE);
 }
 
-void ww_debug_note(const struct ww_note *it)
+void ww_debug_note(const struct ww_note *note)
 {
-	check_states(it);
-	switch (it->what) {
-	case MISUSE: ww_fault(it->class_, it->call, NULL, it->why); break;
-	case TIME_LIMIT: note_time(it->until); break;
-	case CLASS_STAYS: show_class(it->class_, NULL); break;
-	case CLASS_FREED: free(it->pool->debug); break;
-	case CONTEXT_SOUGHT: ww_seek_begins(it->seats, it->until); break;
+	check_states(note);
+	switch (note->what) {
+	case MISUSE: ww_fault(note->class_, note->call, NULL, note->why); break;
+	case TIME_LIMIT: note_time(note->until); break;
+	case CLASS_STAYS: show_class(note->class_, NULL); break;
+	case CLASS_FREED: free(note->pool->debug); break;
+	case CONTEXT_SOUGHT: ww_seek_begins(note->seats, note->until); break;
 	case CONTEXT_FOUND: ww_seek_ends(); break;
-	case CONTEXT_QUEUED: ww_queue_grows(it->seats); break;
-	case SEAT_HANDED: ww_seat_handed(it->seats, it->seat); break;
-	case SEAT_POLLED: ww_watch_poll(it->seat); break;
+	case CONTEXT_QUEUED: ww_queue_grows(note->seats); break;
+	case SEAT_HANDED: ww_seat_handed(note->seats, note->seat); break;
+	case SEAT_POLLED: ww_watch_poll(note->seat); break;
 	case SEAT_GIVEN:
 	case SEAT_CLOSED:
 	case CONTEXT_CHANGED: break;
-	case CONTEXT_BEGUN: note_begun(it->context); break;
-	case WAIT_TAKEN_BACK: note_taken_back(it->context); break;
-	case CONTEXT_STAYS: note_stays(it->context); break;
-	case CONTEXT_ENDS: note_end(it->context); break;
-	case LOCK_ALONE: note_alone(it->mutex, it->until); break;
-	case LOCK_WAITS: ww_wait_begins(it->seat, it->mutex, it->how); break;
-	case LOCK_WAITED: ww_wait_ends(it->seat); break;
-	case LOCK_ACQUIRED: ww_watch_acquire(it->mutex, it->context ? it->context->own : it->seat); break;
-	case LOCK_ENDS: note_end_of_lock(it->mutex, it->context, it->r); break;
-	case LOCK_RETURNS: note_return(it->mutex, it->context, it->r); break;
-	case LOCK_RELEASED: note_released(it->mutex); break;
-	case LOCK_UNHELD: note_unheld(it->mutex); break;
+	case CONTEXT_BEGUN: note_begun(note->context); break;
+	case WAIT_TAKEN_BACK: note_taken_back(note->context); break;
+	case CONTEXT_USED: note_used_here(note->context); break;
+	case CONTEXT_STAYS: note_stays(note->context); break;
+	case CONTEXT_SUSPENDED: ww_watch_suspend(note->context); break;
+	case CONTEXT_RESUMED: ww_watch_resume(note->context); break;
+	case CONTEXT_ENDS: note_end(note->context); break;
+	case LOCK_ALONE: note_alone(note->mutex, note->until); break;
+	case LOCK_WAITS: ww_wait_begins(note->seat, note->mutex, note->how); break;
+	case LOCK_WAITED: ww_wait_ends(note->seat); break;
+	case LOCK_ACQUIRED: ww_watch_acquire(note->mutex, note->context ? note->context->own : note->seat); break;
+	case LOCK_ENDS: note_end_of_lock(note->mutex, note->context, note->r); break;
+	case LOCK_RETURNS: note_return(note->mutex, note->context, note->r); break;
+	case LOCK_RELEASED: note_released(note->mutex); break;
+	case LOCK_UNHELD: note_unheld(note->mutex); break;
 	}
 }
 #endif

@@ -1,9 +1,10 @@
 /* report.c - the debug library's messages: each with the line of the call, and a backtrace. */
 #define _GNU_SOURCE
 #include "parts.h"
-#ifdef WW_DEBUG /* a build may name all sources */
+#ifdef WW_DEBUG /* a build of libww may name all sources */
 #include <stdarg.h>
-/* Not every C library has it. */
+#include <string.h>
+/* Not every C library has backtrace(). */
 #ifdef __has_include
 #if __has_include(<execinfo.h>)
 #include <execinfo.h>
@@ -13,7 +14,7 @@
 
 static unsigned long faults, warnings;
 __thread struct place ww_here;
-static __thread const char *near_call; /* somewhere near the code of this thread's call, if that is of C or C++ */
+static __thread const char *near_call; /* an address near the code that makes this thread's call, if that is of C or C++ */
 
 void ww_debug_line_(const char *file, int line)
 {
@@ -34,6 +35,12 @@ void ww_set_place(struct place *at)
 {
 	WRITE_ONCE(at->file, ww_here.file);
 	WRITE_ONCE(at->line, ww_here.line);
+}
+
+void ww_copy_place(struct place *at, const struct place *from)
+{
+	WRITE_ONCE(at->file, READ_ONCE(from->file));
+	WRITE_ONCE(at->line, READ_ONCE(from->line));
 }
 
 void ww_print_place(const struct place *at, FILE *to)
@@ -71,14 +78,15 @@ unsigned ww_times_here(const struct ww_class *c, const char *call, const char *w
 }
 
 /*
- * Writes the calls of this thread, without those of the library, which come before the call that is near; and once how
- * to name them.
+ * Writes a backtrace of this thread, without the library's own calls, which come before the one that is near `near_call`; and,
+ * once, how to get names in it, unless a call of the same program has a name.
  */
 static void trace(FILE *to)
 {
 #ifdef HAS_BACKTRACE
 	enum { DEPTH = 32, NEAR = 4096 };
 	static bool is_said;
+	bool is_named = false;
 	void *calls[DEPTH];
 	int count = backtrace(calls, DEPTH), own = 0;
 	char **names;
@@ -87,15 +95,19 @@ static void trace(FILE *to)
 		own++;
 	own = own < count ? own : 0;
 	names = backtrace_symbols(calls + own, count - own);
-	for (int k = 0; names && k < count - own; k++)
+	for (int k = 0; names && k < count - own; k++) {
+		const char *name = strchr(names[k], '('); /* of "PROGRAM(NAME+0x1) [0x2]"; without a name +0x1, or nothing */
+
 		fprintf(to, "%s\n", names[k]);
+		is_named |= name && name[1] != '+' && name[1] != ')' && !strncmp(names[k], names[0], (size_t)(name - names[k]) + 1);
+	}
 	free(names);
-	if (count && !__atomic_exchange_n(&is_said, true, __ATOMIC_RELAXED))
+	if (count && !is_named && !__atomic_exchange_n(&is_said, true, __ATOMIC_RELAXED))
 		fputs("[link with -rdynamic: then these have the names of functions]\n", to);
 #endif
 }
 
-/* A message while it is made: in memory, or where there is none it is written at once. */
+/* A message that is being made: in memory, or, if there is none, written at once. */
 struct report {
 	char *text;
 	size_t size;
@@ -104,40 +116,43 @@ struct report {
 };
 
 /*
- * pthread_cancel doesn't end the thread during the message: otherwise standard error would stay locked, and whatever the
+ * Begins a message. pthread_cancel doesn't end the thread during it: otherwise standard error would stay locked, and whatever the
  * call had acquired.
  */
-static void begin_report(struct report *it, const struct ww_class *c, const char *call)
+static void begin_report(struct report *report, const struct ww_class *c, const char *call)
 {
-	pthread_setcancelstate(PTHREAD_CANCEL_DISABLE, &it->may_end);
-	it->text = NULL;
-	it->memory = open_memstream(&it->text, &it->size);
-	it->to = it->memory ? it->memory : stderr;
+	pthread_setcancelstate(PTHREAD_CANCEL_DISABLE, &report->may_end);
+	report->text = NULL;
+	report->memory = open_memstream(&report->text, &report->size);
+	report->to = report->memory ? report->memory : stderr;
 	if (ww_here.file)
-		fprintf(it->to, "%s:%d: ", ww_here.file, ww_here.line);
-	fprintf(it->to, "%s: ", call);
+		fprintf(report->to, "%s:%d: ", ww_here.file, ww_here.line);
+	fprintf(report->to, "%s: ", call);
 	if (c)
-		fprintf(it->to, "class \"%s\": ", name_of(c));
+		fprintf(report->to, "class \"%s\": ", name_of(c));
 }
 
-/* A line of another language than C says all that the calls of C would: those are the interpreter's. */
-static void end_report(struct report *it, const struct place *earlier, unsigned times)
+/*
+ * Ends a message, and reports it. If the call's line is of another language than C, there is no backtrace, since the calls of C
+ * would be the interpreter's.
+ */
+static void end_report(struct report *report, const struct place *earlier, unsigned times)
 {
 	if (earlier) {
-		fputc(' ', it->to);
-		ww_print_place(earlier, it->to);
+		fputc(' ', report->to);
+		ww_print_place(earlier, report->to);
 	}
 	if (times > 1)
-		fprintf(it->to, " [%u times by now]", times);
-	fputc('\n', it->to);
+		fprintf(report->to, " [%u times by now]", times);
+	fputc('\n', report->to);
 	if (times == 1 && (near_call || !ww_here.file))
-		trace(it->to);
-	if (it->memory && !fclose(it->memory)) {
-		it->text[it->size - 1] = 0; /* the last line feed */
-		ww_report_message(it->text);
+		trace(report->to);
+	if (report->memory && !fclose(report->memory)) {
+		report->text[report->size - 1] = 0; /* in place of the last line feed */
+		ww_report_message(report->text);
 	}
-	free(it->text);
-	pthread_setcancelstate(it->may_end, NULL);
+	free(report->text);
+	pthread_setcancelstate(report->may_end, NULL);
 }
 
 void ww_fault(const struct ww_class *c, const char *call, const struct place *earlier, const char *why)
@@ -145,11 +160,11 @@ void ww_fault(const struct ww_class *c, const char *call, const struct place *ea
 	unsigned times = is_seen() ? ww_times_here(c, call, why) : 1;
 
 	if (!(times & (times - 1))) {
-		struct report it;
+		struct report report;
 
-		begin_report(&it, c, call);
-		fputs(why, it.to);
-		end_report(&it, earlier, times);
+		begin_report(&report, c, call);
+		fputs(why, report.to);
+		end_report(&report, earlier, times);
 	}
 	__atomic_fetch_add(&faults, 1, __ATOMIC_RELAXED);
 }
@@ -157,16 +172,16 @@ void ww_fault(const struct ww_class *c, const char *call, const struct place *ea
 void ww_warn(enum when when, const struct ww_class *c, const char *call, const struct place *earlier,
 	     const char *format, ...)
 {
-	struct report it;
+	struct report report;
 	va_list words;
 
 	if (when == ONCE && ww_times_here(c, call, format) > 1)
 		return;
-	begin_report(&it, c, call);
+	begin_report(&report, c, call);
 	va_start(words, format);
-	vfprintf(it.to, format, words);
+	vfprintf(report.to, format, words);
 	va_end(words);
-	end_report(&it, earlier, 1);
+	end_report(&report, earlier, 1);
 	__atomic_fetch_add(&warnings, 1, __ATOMIC_RELAXED);
 }
 #endif

@@ -1,11 +1,11 @@
 /*
  * waits.c - the debug library's look at waits that may never end.
  *
- * No thread watches the others.  A thread that waits for a mutex or a context, without a time limit, looks at its own
- * wait before each of its sleeps (ww_debug_sleeps, called by ww_futex_wait), and sleeps only until its next look.  It
- * looks whether it is in a deadlock that no class detects, and whether it has waited for so long that somebody may have
- * forgotten to unlock the mutex, or to end a context.  A task has no thread while it waits: whoever comes to the queue
- * behind it looks at its wait (ww_queue_grows).
+ * No thread watches the others. A thread that waits for a mutex or a context, without a time limit, looks at its own wait before
+ * each of its sleeps (ww_debug_sleeps, called by ww_futex_wait), and sleeps only until its next look. It looks whether it is in a
+ * deadlock that no class detects, and whether it has waited for so long that somebody may have forgotten to unlock the mutex, or to
+ * end a context. A task has no thread while it waits: so the next one that comes to the queue looks at the wait of the tasks before
+ * it (ww_queue_grows).
  */
 #define _GNU_SOURCE
 #include "parts.h"
@@ -15,8 +15,8 @@
 #include <unistd.h>
 
 /*
- * After how many seconds a wait is long enough to be reported; 0: never.  In the search of schedules none is, since a
- * wait with a time would hide that a wake-up was lost.
+ * After how many seconds a wait is long enough to be reported; 0: never. In the search of schedules no wait is, since a sleep that
+ * ends by time would hide that a wake-up was lost.
  */
 #ifndef WW_PATIENCE
 #define WW_PATIENCE 10
@@ -25,13 +25,13 @@ static unsigned patience = WW_PATIENCE;
 static unsigned check_interval = 1000; /* in milliseconds */
 static uint64_t endless_waits;
 
-/* The wait of this thread for a mutex; it has no seat while there is none. */
+/* The present wait of this thread: for a mutex by `seat`, which is NULL while there is no such wait; or for a context. */
 static __thread struct {
 	ww_seat *seat;
-	struct timespec looks;	 /* when it next checks whether it is in a deadlock */
-	struct timespec is_long; /* from then on it has waited for long */
-	uint64_t seen;		 /* what its last check found */
-	struct ww_seats *seeks;	 /* or it waits for one of these seats, without a time */
+	struct timespec looks;	 /* when the thread next checks whether it is in a deadlock */
+	struct timespec is_long; /* when the wait for the mutex becomes long */
+	uint64_t seen;		 /* what the thread's last check found */
+	struct ww_seats *seeks;	 /* the seats for one of which the thread waits without a time limit; or NULL */
 	struct seeking seeking;
 } mine;
 
@@ -61,21 +61,26 @@ void ww_wait_begins(ww_seat *s, const struct ww_mutex *m, const struct ww_how *h
 	mine.is_long = when_long();
 	ww_watch_use(it);
 	ww_set_place(&it->waits);
+	ww_copy_place(&it->behind, &s->pool->debug->mutexes[m->number].acquired);
+	it->from = ww_now();
 	WRITE_ONCE(it->endless, is_endless ? __atomic_add_fetch(&endless_waits, 1, __ATOMIC_RELAXED) : 0);
 	WRITE_ONCE(it->wants, m->number + 1);
 }
 
 void ww_wait_ends(ww_seat *s)
 {
+	struct watch *it = watch_of(s);
+
 	mine.seat = NULL;
-	WRITE_ONCE(watch_of(s)->wants, 0);
-	ww_watch_unuse(watch_of(s));
+	ww_count_wait(&it->waits, ww_now() - it->from, &it->behind);
+	WRITE_ONCE(it->wants, 0);
+	ww_watch_unuse(it);
 }
 
 /* ---- deadlocks ---- */
 
 /*
- * The seat by which the holder of what this seat waits for waits itself, in any class of the list, which is locked; or
+ * The seat by which a thread waits that holds the mutex for which this seat waits, in any class of the list, which is locked; or
  * NULL.
  */
 static const ww_seat *next_wait(const struct ww_pool *of, const ww_seat *s)
@@ -86,19 +91,19 @@ static const ww_seat *next_wait(const struct ww_pool *of, const ww_seat *s)
 	return holder ? ww_seat_with(of, true, A_WAIT, holder) : NULL;
 }
 
-/* Whether its thread sleeps, and nobody has woken it. */
+/* Whether the seat's thread sleeps, and nobody has woken it. */
 static bool is_parked(const ww_seat *s)
 {
 	return __atomic_load_n(&s->token, __ATOMIC_SEQ_CST) >= ARMED && !READ_ONCE(watch_of(s)->is_polled);
 }
 
 /*
- * Follows this wait to that of the thread that holds the mutex, and so on.  If this comes back to the first wait, and
- * each of the threads sleeps without a time, it returns a number that identifies these waits, and how many there are;
+ * Follows this thread's wait to the wait of the thread that holds the mutex, and so on. If this comes back to the first wait, and
+ * each of the threads sleeps without a time limit, it returns a number that identifies these waits, and how many there are;
  * otherwise 0.
  *
- * If two checks give the same number, each thread was in its wait all the time between them, and holds what it held: so
- * they sleep forever.  A thread that has got something, an error or what it waited for, was woken, and isn't parked.
+ * If two checks give the same number, each thread was in its wait all the time between them, and holds what it held: so they sleep
+ * forever. A thread that has got something, an error or what it waited for, was woken, and isn't parked.
  */
 static uint64_t deadlock(const struct ww_pool *of, unsigned *count)
 {
@@ -110,19 +115,19 @@ static uint64_t deadlock(const struct ww_pool *of, unsigned *count)
 		if (!number || (s != mine.seat && !is_parked(s)))
 			return 0;
 		number *= MIX;
-		these += (number ^ number >> 29) * MIX; /* so that no other waits have that sum */
+		these += (number ^ number >> 29) * MIX; /* mixed, so that no other waits have the same sum */
 		s = next_wait(of, s);
 		if (s == mine.seat)
 			return these | 1;
 		if (s == before)
-			return 0; /* this one waits for them, and is none of them */
+			return 0; /* this thread waits for a cycle, and isn't part of it */
 		if (!(*count & (*count - 1)))
 			before = s;
 	}
 	return 0;
 }
 
-/* A line for each wait. Each of them may still end by a cancel. */
+/* A text with a line for each wait of the deadlock, or NULL. Each of the waits may still end by a cancel. */
 static char *text_of_deadlock(const struct ww_pool *of, unsigned count)
 {
 	const ww_seat *s = mine.seat, *next;
@@ -131,7 +136,7 @@ static char *text_of_deadlock(const struct ww_pool *of, unsigned count)
 	FILE *to = open_memstream(&words, &size);
 
 	for (; to && count && (next = next_wait(of, s)); count--, s = next) {
-		ww_print_wait(watch_of(s), "\n", to);
+		ww_print_wait(watch_of(s), to);
 		fprintf(to, " of class \"%s\", which thread %ld holds", name_of(s->pool->class_),
 			READ_ONCE(watch_of(next)->tid));
 		ww_print_reads(s->pool, READ_ONCE(watch_of(s)->wants) - 1, to);
@@ -140,8 +145,8 @@ static char *text_of_deadlock(const struct ww_pool *of, unsigned count)
 }
 
 /*
- * The second check reports a deadlock, since one of the threads may be about to be woken; and only one of them reports
- * it.
+ * Checks for a deadlock. Only a second check that finds the same deadlock reports it, since at the first one a thread of it may be
+ * about to be woken; and only one of its threads reports it.
  */
 static void look_for_deadlock(void)
 {
@@ -154,23 +159,24 @@ static void look_for_deadlock(void)
 		text = text_of_deadlock(of, count);
 	ww_unlock_pools();
 	mine.seen = seen;
-	if (text)
-		ww_warn(NOW, NULL, "a wait", NULL, "no class detects this deadlock of %u thread%s%s", count,
-			  count == 1 ? "" : "s", text);
+	if (text && count == 1)
+		ww_warn(NOW, NULL, "a wait", NULL, "the thread waits for what it holds itself%s", text);
+	else if (text)
+		ww_warn(NOW, NULL, "a wait", NULL, "no class detects this deadlock of %u threads%s", count, text);
 	free(text);
 }
 
 /* ---- waits that last ---- */
 
-/* Whether its thread isn't there any more. A task goes on in any. */
+/* Whether the seat's thread has ended. A task has no thread of its own. */
 static bool has_ended(const struct watch *s)
 {
 	return READ_ONCE(s->thread) && syscall(SYS_tgkill, getpid(), READ_ONCE(s->tid), 0) == -1 && errno == ESRCH;
 }
 
 /*
- * Reports, in the thread that waits, that its wait for a mutex has lasted for long, and where what holds the mutex
- * began: that belongs to a thread that does something else, or to one that forgot it, or has ended without it.
+ * Reports that this thread has waited for a mutex for long, and where the context, or the lock without one, began that holds the
+ * mutex. It belongs to a thread that does something else, or that forgot it, or that has ended without releasing it.
  */
 static void look_for_long_wait(void)
 {
@@ -198,25 +204,28 @@ static struct seeking seeking_from_now(const struct ww_seats *of)
 	return (struct seeking){ when_long(), READ_ONCE(*handed(of)) };
 }
 
-/* Nobody was handed a seat during a long wait, which is to be reported once. */
-static bool is_stuck(const struct ww_seats *of, struct seeking *it)
+/* Whether nobody was handed a seat during a long wait, which is to be reported once. */
+static bool is_stuck(const struct ww_seats *of, struct seeking *seeking)
 {
-	uint64_t before = it->handed;
+	uint64_t before = seeking->handed;
 
-	if (!ww_has_come(&it->is_long))
+	if (!ww_has_come(&seeking->is_long))
 		return false;
-	*it = seeking_from_now(of);
-	return it->handed == before && !__atomic_exchange_n(&of->pool->debug->is_leak_reported, true, __ATOMIC_RELAXED);
+	*seeking = seeking_from_now(of);
+	return seeking->handed == before && !__atomic_exchange_n(&of->pool->debug->is_leak_reported, true, __ATOMIC_RELAXED);
 }
 
-/* A context that is left without ww_acquire_fini keeps its seat; a lock without one comes after all contexts. */
+/*
+ * Reports that all contexts have been in use for long, and where the oldest one began, since a context that is left without
+ * ww_acquire_fini keeps its seat. A lock without a context counts as newer than all contexts.
+ */
 static void report_leak(const struct ww_seats *of)
 {
 	const struct ww_pool *p = of->pool;
 	const struct watch *first = NULL;
 
 	for (uint32_t k = 0; k < of->count; k++) {
-		const struct watch *s = watch_of(&of->seats[k]);
+		const struct watch *s = &p->debug->seats[of->seats - p->seats + k];
 
 		if (is_seat_used(s) && (!first || READ_ONCE(s->stamp) - 1 < READ_ONCE(first->stamp) - 1))
 			first = s;
@@ -248,8 +257,8 @@ void ww_seek_begins(struct ww_seats *of, const struct timespec *until)
 void ww_seek_ends(void) { mine.seeks = NULL; }
 
 /*
- * Of tasks no thread sleeps, so who comes to wait reports that those before it wait for long.  The wait of the first in
- * a queue is theirs.
+ * Looks at the wait of the tasks before this one, of which no thread sleeps, and reports it if it is long. It counts from when the
+ * first of these came into the queue, which was empty.
  */
 void ww_queue_grows(struct ww_seats *of)
 {
@@ -259,16 +268,16 @@ void ww_queue_grows(struct ww_seats *of)
 	if (of != &p->tasks || !seconds_of_patience())
 		return;
 	pthread_mutex_lock(&p->queue);
-	if (of->first && !of->first->next_)
+	if (of->lines[WAITS].seekers + of->lines[CALLED].seekers == 1)
 		p->debug->tasks = seeking_from_now(of);
-	else if (of->first)
+	else if (of->lines[WAITS].first)
 		is = is_stuck(of, &p->debug->tasks);
 	pthread_mutex_unlock(&p->queue);
 	if (is)
 		report_leak(of);
 }
 
-/* Whoever is asked how long a sleep lasts may end it earlier, and never later. */
+/* The earlier one of the two times: a look may end a sleep earlier than its time limit, and never later. */
 static const struct timespec *earlier(const struct timespec *until, const struct timespec *at)
 {
 	bool is_before = until && (until->tv_sec != at->tv_sec ? until->tv_sec < at->tv_sec : until->tv_nsec < at->tv_nsec);

@@ -25,7 +25,7 @@ void ww_unlock_pools(void) { pthread_mutex_unlock(&ww_opening); }
 
 /* ---- who uses a seat ---- */
 
-/* For a lock with NULL that is where it began. */
+/* Notes that this thread makes a call by the seat. A lock without a context began with this call. */
 void ww_watch_use(struct watch *s)
 {
 	if (!READ_ONCE(s->stamp))
@@ -51,7 +51,7 @@ void ww_watch_begin(struct ww_acquire_ctx *x)
 	struct watch *s = watch_of(x->own);
 
 	x->stamp = __atomic_add_fetch(&x->own->pool->debug->stamps, 1, __ATOMIC_RELAXED);
-	WRITE_ONCE(s->context, READ_ONCE(s->is_polled) ? NULL : x); /* A task's may be moved, as Rust does. */
+	WRITE_ONCE(s->context, READ_ONCE(s->is_polled) ? NULL : x); /* a task's context may be moved, as Rust does */
 	ww_set_place(&s->began);
 	WRITE_ONCE(s->held, 0);
 	WRITE_ONCE(s->stamp, x->stamp);
@@ -68,12 +68,39 @@ void ww_watch_end(struct watch *s)
 	WRITE_ONCE(s->stamp, 0);
 }
 
+/*
+ * A suspended context has no thread. It waits for the mutex at which it got -EDEADLK as it is resumed, or not at all, so that is
+ * forgotten here.
+ */
+void ww_watch_suspend(const struct ww_acquire_ctx *x)
+{
+	struct watch *s = watch_of(x->own);
+
+	s->interval = x->deadlock_inject_interval;
+	s->is_injected = false;
+	WRITE_ONCE(s->refused, NULL);
+	WRITE_ONCE(s->context, NULL);
+	WRITE_ONCE(s->thread, 0);
+	ww_set_place(&s->suspended);
+}
+
+void ww_watch_resume(struct ww_acquire_ctx *x)
+{
+	struct watch *s = watch_of(x->own);
+
+	x->stamp = s->stamp;
+	x->deadlock_inject_interval = x->deadlock_inject_countdown = s->interval;
+	WRITE_ONCE(s->context, READ_ONCE(s->is_polled) ? NULL : x);
+	ww_watch_use(s);
+}
+
 void ww_watch_acquire(const struct ww_mutex *m, const ww_seat *by)
 {
 	struct watch *s = watch_of(by);
 
 	ww_watch_use(s);
 	WRITE_ONCE(s->held, READ_ONCE(s->held) + 1);
+	ww_set_place(&holding_of(m)->acquired);
 	WRITE_ONCE(holding_of(m)->seat, place_among(by));
 	WRITE_ONCE(holding_of(m)->thread, user_of(s));
 }
@@ -90,30 +117,31 @@ void ww_watch_release(const struct ww_mutex *m)
 
 /* ---- who has what ---- */
 
-static bool has(const struct watch *s, enum has what, uintptr_t it)
+/* Whether the seat has what is asked: the context or the mutex at this address, or this thread. */
+static bool has(const struct watch *s, enum has what, uintptr_t value)
 {
 	if (what == CONTEXT_AT)
-		return (uintptr_t)READ_ONCE(s->context) == it;
+		return (uintptr_t)READ_ONCE(s->context) == value;
 	if (what == REFUSED_AT)
-		return (uintptr_t)READ_ONCE(s->refused) == it && READ_ONCE(s->thread) == this_thread();
-	if (READ_ONCE(s->thread) != it)
+		return (uintptr_t)READ_ONCE(s->refused) == value && READ_ONCE(s->thread) == this_thread();
+	if (READ_ONCE(s->thread) != value)
 		return false;
 	return what == ANYTHING || (what == A_CONTEXT ? READ_ONCE(s->stamp) :
 				    what == A_MUTEX ? READ_ONCE(s->held) : READ_ONCE(s->wants));
 }
 
-const ww_seat *ww_seat_with(const struct ww_pool *p, bool further, enum has what, uintptr_t it)
+const ww_seat *ww_seat_with(const struct ww_pool *p, bool further, enum has what, uintptr_t value)
 {
 	for (; p; p = further ? next_pool(p) : NULL)
 		for (uint32_t k = 0; k < seats_of(p) && !p->gone; k++)
-			if (has(&p->debug->seats[k], what, it))
+			if (has(&p->debug->seats[k], what, value))
 				return &p->seats[k];
 	return NULL;
 }
 
-const ww_seat *ww_any_seat_with(enum has what, uintptr_t it)
+const ww_seat *ww_any_seat_with(enum has what, uintptr_t value)
 {
-	const ww_seat *s = ww_seat_with(ww_lock_pools(), true, what, it);
+	const ww_seat *s = ww_seat_with(ww_lock_pools(), true, what, value);
 
 	ww_unlock_pools();
 	return s;
@@ -131,7 +159,22 @@ static const struct ww_slot *slot_at(const struct ww_pool *p, uint32_t number)
 	return slot;
 }
 
-/* A mark may be from a read that has ended, as long as another one of its context hasn't. */
+/*
+ * Writes who uses the seat: a thread; or a context's user, if that is a task or has suspended the context, and so may go on in any
+ * thread.
+ */
+static void print_user(const struct watch *s, FILE *to)
+{
+	if (READ_ONCE(s->thread))
+		fprintf(to, "thread %ld", READ_ONCE(s->tid));
+	else
+		fprintf(to, "the user of context %lu", READ_ONCE(s->stamp));
+}
+
+/*
+ * Writes what the context reads whose reader slot has the mutex of this number. A mark may be from a read that has ended, as long
+ * as another read of its context hasn't.
+ */
 void ww_print_reads(const struct ww_pool *p, uint32_t number, FILE *to)
 {
 	const struct ww_slot *slot = slot_at(p, number);
@@ -139,7 +182,9 @@ void ww_print_reads(const struct ww_pool *p, uint32_t number, FILE *to)
 
 	if (!slot || !holder_of(&slot->mutex) || !READ_ONCE(slot->reads))
 		return;
-	fprintf(to, "\nseat %u reads mutex", slot->seat);
+	fputc('\n', to);
+	print_user(&p->debug->seats[slot->seat], to);
+	fputs(" reads mutex", to);
 	for (uint32_t n = 0; n < p->numbers.locks; n++)
 		if (has_mark(slot, n)) {
 			fprintf(to, "%s %u", before, n);
@@ -148,23 +193,35 @@ void ww_print_reads(const struct ww_pool *p, uint32_t number, FILE *to)
 	fprintf(to, "; for that it holds mutex %u", number);
 }
 
-void ww_print_wait(const struct watch *s, const char *before, FILE *to)
+static void print_want(const struct watch *s, const char *before, FILE *to)
 {
-	fprintf(to, "%sthread %ld waits at ", before, READ_ONCE(s->tid));
+	fprintf(to, "%swaits at ", before);
 	ww_print_place(&s->waits, to);
 	fprintf(to, " for mutex %u", READ_ONCE(s->wants) - 1);
 }
 
-static void print_seat(const struct watch *s, uint32_t k, FILE *to)
+void ww_print_wait(const struct watch *s, FILE *to)
 {
+	fputc('\n', to);
+	print_user(s, to);
+	print_want(s, " ", to);
+}
+
+static void print_use(const struct ww_pool *of, uint32_t k, FILE *to)
+{
+	const struct watch *s = &of->debug->seats[k];
 	unsigned long stamp = READ_ONCE(s->stamp);
 
-	fprintf(to, "\nseat %u: %s%.0lu began at ", k, stamp ? "context " : "a lock without a context", stamp);
+	fputc('\n', to);
+	print_user(s, to);
+	fprintf(to, ": %s%.0lu began at ", stamp ? "context " : "a lock without a context", stamp);
 	ww_print_place(&s->began, to);
-	if (READ_ONCE(s->wants))
-		ww_print_wait(s, "; ", to);
-	else if (READ_ONCE(s->thread))
-		fprintf(to, "; thread %ld", READ_ONCE(s->tid));
+	if (is_suspended(&of->seats[k])) {
+		fprintf(to, "; suspended at ");
+		ww_print_place(&s->suspended, to);
+	} else if (READ_ONCE(s->wants)) {
+		print_want(s, "; ", to);
+	}
 }
 
 static void print_mutex(const struct ww_pool *p, uint32_t number, FILE *to)
@@ -173,7 +230,10 @@ static void print_mutex(const struct ww_pool *p, uint32_t number, FILE *to)
 
 	if (!holder)
 		return;
-	fprintf(to, "\nmutex %u is held by seat %u", number, (uint32_t)(holder - p->debug->seats));
+	fprintf(to, "\nmutex %u is held by ", number);
+	print_user(holder, to);
+	fputs(" since ", to);
+	ww_print_place(&p->debug->mutexes[number].acquired, to);
 	ww_print_reads(p, number, to);
 }
 
@@ -190,7 +250,7 @@ static void print_counts(struct ww_pool *p, FILE *to)
 {
 	fprintf(to, "class \"%s\": %u of %u mutexes and %u of %u contexts in use, waits for a context: %u",
 		name_of(p->class_), taken_numbers(&p->numbers), p->numbers.mutexes, used_seats(p), seats_of(p),
-		READ_ONCE(p->threads.seekers) + READ_ONCE(p->tasks.seekers));
+		waiters_of(&p->threads) + waiters_of(&p->tasks));
 	pthread_mutex_lock(&p->queue);
 	if (is_crowded(p) && p->crowd.limiter.width != NO_LIMIT)
 		fprintf(to, "; a crowd, permits: %u, waits for one: %u", p->crowd.limiter.width, p->crowd.waiting);
@@ -210,7 +270,7 @@ char *ww_text_of(struct ww_pool *p)
 	print_counts(p, to);
 	for (uint32_t k = 0; k < seats_of(p); k++)
 		if (is_seat_used(&p->debug->seats[k]))
-			print_seat(&p->debug->seats[k], k, to);
+			print_use(p, k, to);
 	for (uint32_t n = 0; n < p->numbers.locks; n++)
 		print_mutex(p, n, to);
 	return fclose(to) ? NULL : words;

@@ -1,22 +1,22 @@
 /*
- * number.c - mutexes by their numbers.  The library has a shared mutex for each number that was ever taken.  A
- * call that isn't quick makes the call of ww_mutex.h on that mutex: so it waits, backs off and is listed like any
- * other.  A quick call uses only the number.  Therefore, outside loops, that mutex doesn't say who holds it: its lock
- * in the library does.
+ * number.c - mutexes by their numbers. The library has a shared mutex for each number that was ever taken. A call that isn't quick
+ * makes the call of ww_mutex.h on that mutex: so the mutex is waited for, backed off from and listed like any other. A quick call
+ * uses only the number. So outside loops the mutex doesn't name its holder, and only its lock in the proved library says who holds
+ * it.
  */
 #define _GNU_SOURCE
-#include "../lock/mutex.h" /* before the next ones: here no call reports its line */
-/* Here are the functions that may be called in place of those that ww_number.h compiles into its callers. */
+#include "../lock/mutex.h" /* this comes first, so that no call in this file reports its line */
+/* This file has the functions that may be called instead of those that ww_number.h compiles into its callers. */
 #define WW_NO_INLINE
 #include "../lock/used.h"
 
 /* ---- numbers ---- */
 
-/* The mutexes of a class, or NULL if there is no memory for them: it is allocated with the first number. */
+/* The mutexes by number of a class, or NULL if there is no memory for them, which is allocated with the class's first number. */
 static struct ww_shared_mutex *mutexes_of(struct ww_pool *p)
 {
 	pthread_mutex_lock(&p->numbers.lock);
-	/* Released here, and acquired in mutex_at: a thread that sees the address sees that the memory is zeroed. */
+	/* The address is released here, and acquired in mutex_at: a thread that sees it sees that the memory is zeroed. */
 	if (!p->numbered)
 		__atomic_store_n(&p->numbered, calloc(p->numbers.locks, sizeof *p->numbered), __ATOMIC_RELEASE);
 	pthread_mutex_unlock(&p->numbers.lock);
@@ -38,7 +38,10 @@ struct ww_shared_mutex *ww_number_at(uint32_t number, struct ww_class *c)
 	return p ? mutex_at(p, number) : NULL;
 }
 
-/* A thread that knew the number before may still wait for it: where it sees IS_TAKEN, it sees that the number was put back (wait_first). */
+/*
+ * A thread that knew the number before may still come to wait for it. If that thread sees IS_TAKEN, it sees that the number was put
+ * back before it was taken here (wait_first).
+ */
 int ww_number_take(uint32_t *number, struct ww_class *c)
 {
 	struct ww_mutex *m;
@@ -63,9 +66,10 @@ int ww_number_take(uint32_t *number, struct ww_class *c)
 }
 
 /*
- * A waiter counts itself first, and becomes the holder before it stops counting as a waiter.  Of several threads that
- * put the number back only one does.  A context that backed off may come to it still (wait_first): it is seen here, behind the
- * exchange, or sees that the number isn't taken.  In a forked child nobody uses it any more, and it isn't given.
+ * Puts the number back; or, if `leaves`, also if somebody uses it. A waiter counts itself first, and becomes the holder before it
+ * stops counting as a waiter, so this sees the one or the other. Of several threads that put the number back only one finds
+ * IS_TAKEN in its exchange. A context that backed off may still come to the number (wait_first): it is seen after that exchange, or
+ * sees that the number isn't taken. In a forked child nobody uses the number any more, and it isn't freed.
  */
 static int put_number(uint32_t number, struct ww_class *c, bool leaves)
 {
@@ -92,7 +96,7 @@ void ww_number_leave(uint32_t number, struct ww_class *c) { (void)put_number(num
 
 /* ---- by a context ---- */
 
-/* The mutex of a number in the context's class, or NULL, which is reported. */
+/* The mutex of a number in the context's class; or NULL, whose reason the debug library reports. */
 static struct ww_mutex *mutex_asked(const char *call, uint32_t number, const struct ww_acquire_ctx *x)
 {
 	struct ww_shared_mutex *m = x && x->own ? mutex_at(x->own->pool, number) : NULL;
@@ -102,7 +106,7 @@ static struct ww_mutex *mutex_asked(const char *call, uint32_t number, const str
 	return m ? &m->mutex_ : NULL;
 }
 
-/* The quick call notes the holder in the mutex: only a loop may do that. */
+/* The quick ww_mutex_lock notes the holder in the mutex, which only a context in a loop may do for a mutex by number. */
 int ww_number_lock(uint32_t number, struct ww_acquire_ctx *x)
 {
 	struct ww_mutex *m = mutex_asked("ww_number_lock", number, x);
@@ -124,14 +128,15 @@ int ww_number_unlock(uint32_t number, struct ww_acquire_ctx *x)
 
 	if (!m || is_polled(x))
 		return m ? -EBUSY : -EINVAL;
-	r = is_loop(x) ? 0 : ww_has_(&x->own->handle, number); /* in a loop there is a list */
+	note_used(x);
+	r = is_loop(x) ? 0 : ww_has_(&x->own->handle, number); /* in a loop the context's list says whether it holds the mutex */
 	r = !r || is_orphaned_by_fork(x->own, r) ? ww_unlock_of(m, x) : -EINVAL;
 	if (r)
 		NOTE_MISUSE(x->own->pool->class_, "ww_number_unlock", "the context doesn't hold the mutex");
 	return r;
 }
 
-/* If r is an error, nothing was done yet. */
+/* Ends an unlock whose first step returned r. If r is an error, that step did nothing. */
 int ww_number_unlock_further_(uint32_t number, struct ww_acquire_ctx *x, int r)
 {
 	if (r < 0)

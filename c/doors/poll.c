@@ -3,7 +3,7 @@
  * of one that wakes a thread.
  */
 #define _GNU_SOURCE
-#define WW_NO_INLINE /* As mutex.c. */
+#define WW_NO_INLINE /* ww_mutex.h compiles none of its calls into this file */
 #include "poll.h"
 #include "../lock/loop.h"
 #include "../lock/mutex.h"
@@ -36,7 +36,7 @@ int ww_poll_on(struct ww_mutex *m, struct ww_acquire_ctx *x, struct ww_how how)
 	if (is_polled(x)) {
 		ww_disarm(x->own);
 	} else {
-		r = ww_lock_(&x->own->handle, m->number, false);
+		r = ww_debug_forbids(x, m->number) ? -EINVAL : ww_lock_(&x->own->handle, m->number, false);
 		if (r > 0) {
 			x->polled = m; /* takes the place of `prelocked`, which a context that may begin to wait doesn't owe */
 			x->state = (x->state & ~(unsigned)IS_PRELOCKED) | IS_POLLED;
@@ -59,7 +59,10 @@ int ww_mutex_lock_poll(struct ww_mutex *m, struct ww_acquire_ctx *x, const struc
 	return r ? r : ww_poll_on(m, x, (struct ww_how){ .waker = waker });
 }
 
-/* What the call released at once it visited: that where the context got -EDEADLK, or a slot by which another reads. */
+/*
+ * Ends a poll's wait. A lock that the poll would release at once is only visited: the lock of the mutex at which the context got
+ * -EDEADLK, or of a slot by which another context reads.
+ */
 int ww_acquire_end_wait(struct ww_acquire_ctx *x)
 {
 	ww_seat *s = x->own;
@@ -79,7 +82,10 @@ int ww_acquire_end_wait(struct ww_acquire_ctx *x)
 	return r == -ETIMEDOUT ? 0 : r;
 }
 
-/* None of these calls does anything to a context that has ended.  A late cancel wakes the seat's next user, which looks again. */
+/*
+ * Ends the context in whatever state it is. To a context that has ended none of these calls does anything. A cancel that comes late
+ * wakes the seat's next user, which looks again at what it waits for.
+ */
 int ww_acquire_end(struct ww_acquire_ctx *x)
 {
 	(void)ww_acquire_end_wait(x);
@@ -89,7 +95,7 @@ int ww_acquire_end(struct ww_acquire_ctx *x)
 
 /* ---- contexts ---- */
 
-/* Waits for a seat, or goes on with that.  Without a waker it ends the wait, or begins none. */
+/* Begins to wait for a seat, or goes on with that wait. Without a waker it ends the wait, or begins none. */
 static __attribute__((noinline)) int seek(struct ww_class *c, struct ww_seek *me, const struct ww_waker *waker, ww_seat **s)
 {
 	bool waits = me && me->of_, served;
@@ -117,7 +123,7 @@ void ww_seek_end(struct ww_seek *me)
 		give_seat(s);
 }
 
-/* Most contexts of Rust's tasks come without a seek, and find the seat that a task of this thread used last. */
+/* Most contexts of tasks of the Rust crate begin without a seek, by the seat that a task of this thread used last. */
 int ww_acquire_init_poll(struct ww_acquire_ctx *x, struct ww_class *c, struct ww_seek *me, const struct ww_waker *waker)
 {
 	struct ww_pool *p = LIKELY(!me) ? __atomic_load_n(&c->pool, __ATOMIC_ACQUIRE) : NULL;
@@ -130,7 +136,10 @@ int ww_acquire_init_poll(struct ww_acquire_ctx *x, struct ww_class *c, struct ww
 	return ww_begin_by(x, s, r);
 }
 
-/* False if another thread has taken the waker, to call it.  In a forked child nobody does, nor has the lock. */
+/*
+ * Takes back the waker of a poll that waits, or returns false if another thread has taken the waker, to call it. In a forked child
+ * no other thread calls it, and the lock `queue` isn't taken, since a thread of the parent may have held it at the fork.
+ */
 bool ww_poll_take_back(struct ww_acquire_ctx *x, struct ww_seek *seek)
 {
 	struct ww_pool *p = seek && seek->of_ ? seek->of_->pool : NULL;
@@ -150,8 +159,8 @@ bool ww_poll_take_back(struct ww_acquire_ctx *x, struct ww_seek *seek)
 /* ---- loops that watch a descriptor ---- */
 
 /*
- * What a task wrote before is released with the list.  If the list isn't empty, the thread that filled it first writes
- * to the descriptor.  It does so by syscall, since in write(2) pthread_cancel could end a thread during its unlock.
+ * The exchange that puts the task into the list releases what this thread wrote before. If the list was empty, the thread also
+ * writes to the descriptor. It does so by syscall, since in write(2) pthread_cancel could end a thread during its unlock.
  */
 void ww_event_wake(void *event, void *woken)
 {

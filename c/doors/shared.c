@@ -1,46 +1,47 @@
 /*
  * shared.c - shared mutexes, over the calls of exclusive ones.
  *
- * A shared mutex is a struct ww_mutex, which a writer holds, and a word of bits.  The core sees a reader by a mutex of
- * the reader's own, its slot: each seat has one, from its first read on, and its context holds that as long as it reads
- * anything.  In the slot it marks what it reads, a mark for each mutex of the class; and in the mutex it sets the bit
- * of its slot, one of 64.
+ * A shared mutex is a struct ww_mutex, which a writer holds, and a word of bits. The core sees a reader by a mutex of the reader's
+ * own, its slot. Each seat has a slot, from its first read on, and its context holds the slot as long as it reads anything. In the
+ * slot the context marks what it reads: there is a mark for each mutex of the class. In the mutex it sets the bit of its slot, one
+ * of 64.
  *
  *	a reader (reads_at_once)		a writer (await_readers)
- *	slot: its context's, before		mutex: acquired
+ *	slot: the context has it already	mutex: acquired
  *	bit: set, unless it is			bits?
  *	mark: set				of each slot with that bit:
  *	1. mutex: free?				  mark?  if so: acquires the slot, clears its marks, releases it, looks again
- *	2. bit: set?				bit: cleared, unless its own context reads by a slot with that bit
+ *	2. bit: set?				bit: cleared, unless the writer itself reads by a slot with that bit
  *	3. mutex: free?
  *	then it reads; else the mark is taken back
  *
- * That is Dekker's argument twice.  Each line is sequentially consistent, as the core's are.  A writer that has the
- * mutex after 1.  finds the mark, and clears no bit of this slot before the read has ended; those before have released
- * the mutex by then.  So once 2. finds the bit, it stays; but a writer in between may have found none, if another slot
- * with that bit has set it again.  If 3.  finds the mutex free, that writer is through, and all that come find bit and
- * mark.  So a writer waits for each reader, as it waits for any holder of a mutex: ages, cycles, cancels and times are
- * the core's.  It may wait for who reads others, too: who comes to a slot after it has found a mark there, and before
- * it has the slot.
+ * That is Dekker's argument twice. Each line is sequentially consistent, as the core's are. A writer that has the mutex after line
+ * 1 finds the mark, and clears no bit of this slot before the read has ended; earlier writers have released the mutex by then. So
+ * once line 2 finds the bit, the bit stays. But a writer in between may have found no bit, if another slot with the same bit has
+ * set it again. If line 3 finds the mutex free, that writer is through, and all later writers find bit and mark. So a writer waits
+ * for each reader as it waits for any holder of a mutex: ages, cycles, cancels and times are the core's. A writer may also wait for
+ * a context that reads other mutexes: one that acquires its slot after the writer has found a mark there, and before the writer has
+ * the slot.
  *
- * A reader that finds the mutex taken acquires it, as a writer would, sets bit and mark under it, and releases it
- * (reads_in_turn).  Meanwhile it has no mark of it, or a writer on its way from slot to slot would wait for that wait.
- * An upgrade is a writer that passes its own slot.  A downgrade sets bit and mark, and releases the mutex.
+ * A reader that finds the mutex taken acquires it, as a writer would, sets bit and mark under it, and releases it (reads_in_turn).
+ * While the reader waits for the mutex, it has no mark of it; otherwise a writer on its way from slot to slot would wait for the
+ * reader's wait. An upgrade is a writer that passes its own slot. A downgrade sets bit and mark, and releases the mutex.
  *
- * By polls each lock on the way is a poll of its own, and a further call goes on at the lock for which the context waits
- * (`polled`): its own slot, the mutex, or for a write somebody else's slot, while it has the mutex.  Once it has such a lock
- * it goes on as a call that begins there.  -EINPROGRESS leaves all as it is, since from then on another thread may go on with
- * the context.
+ * In a poll each lock on the way is polled by itself, and a further call goes on at the lock for which the context waits
+ * (`polled`): the context's own slot, the mutex, or for a write another context's slot, while the context has the mutex. Once the
+ * context has such a lock, the call goes on as one that begins there. A call that returns -EINPROGRESS accesses nothing more, since
+ * from then on another thread may go on with the context.
  *
  *	a word		who writes it
- *	bit		any reader sets it; it is cleared by who has the mutex, once no slot with it has the mark
- *	mark		who has the slot: its reader sets it and takes it back; whoever acquires the slot next clears it
+ *	bit		any reader sets it; the mutex's holder clears it, once no slot with it has the mark
+ *	mark		the slot's holder: a reader sets its mark and takes it back; the next one that acquires the slot clears it
  *	reads		the seat's user: 0 before it acquires the slot; then how many reads are to be ended
- *	mutex.ctx	of a slot: not NULL while its seat's context is there; a writer that visits it leaves no word
+ *	mutex.ctx	of a slot: not NULL while its seat's context has it; a writer that visits the slot writes nothing here
  *
- * Bits stay after the reads, and so do marks.  So who reads a mutex again writes nothing but its own slot, and all its
- * reads end by one unlock, that of the slot.  Slots stay until the class is freed.  Who reads is a seat, and not an address
- * of its context, which may move where it goes by numbers.  Of these the bits lie in the class, beside the mutex.
+ * Bits and marks stay after the reads. So a context that reads a mutex again writes only its own slot, and one unlock, that of the
+ * slot, ends all its reads. Slots stay until the class is freed. A reader is known by its seat, and not by the address of its
+ * context, which may lie elsewhere later if it acquires mutexes only by number. The bits of a mutex by number lie in the class,
+ * beside the mutex.
  */
 #define _GNU_SOURCE
 #include "poll.h"
@@ -49,21 +50,22 @@
 #include "../lock/mutex.h"
 #include <sys/mman.h>
 
-/* How often a writer looks at a mark before it waits: a reader may be about to take it back. */
+/* How often a writer looks at a mark before it waits for the slot: the reader may be about to take the mark back. */
 #ifndef WW_MARK_LOOKS
 #define WW_MARK_LOOKS 16
 #endif
-/* Of how many bits each slot has one; in the search of schedules a program says that. */
+/* How many bits there are, of which each slot has one. A program of the search of schedules sets WW_BITS itself. */
 #ifndef WW_BITS
 #define WW_BITS MANY_BITS
 #endif
 
+#define NOT_READ "the context doesn't read the mutex"
 #define ALWAYS_INLINE static inline __attribute__((always_inline))
-/* How a call goes on that has no time and is no poll. */
+/* How a call waits that has no time limit and is no poll; and how a call tries. */
 #define BY_WAITING ((struct ww_how){ 0 })
 #define BY_TRYING ((struct ww_how){ .who = NOBODY })
 
-/* Acquires the shared mutex for which the call asks, or its context's slot; or visits another one's. */
+/* Acquires the shared mutex for which the call asks, or the context's own slot; or visits another context's slot. */
 static int acquire(struct ww_mutex *m, struct ww_acquire_ctx *x, struct ww_how how)
 {
 	how.is_interruptible |= !!(x->state & WW_INTERRUPTIBLE);
@@ -72,10 +74,13 @@ static int acquire(struct ww_mutex *m, struct ww_acquire_ctx *x, struct ww_how h
 	return how.who == THREAD ? ww_lock_as(m, x, &how) : ww_poll_on(m, x, how);
 }
 
-/* Whether the quick way does, of such a lock.  With NO_POOL, and amid a poll, there is more to ask. */
+/*
+ * Tries to acquire the shared mutex, or the context's own slot, by one step. With NO_POOL, and while the context waits by a poll,
+ * there is more to ask first, so this returns false.
+ */
 static inline bool lock_at_once(struct ww_mutex *m, struct ww_acquire_ctx *x)
 {
-	if (UNLIKELY(x->pool == NO_POOL) || is_polled(x) || UNLIKELY(ww_try_(&x->own->handle, m->number)))
+	if (UNLIKELY(x->pool == NO_POOL) || is_polled(x) || ww_debug_forbids(x, m->number) || UNLIKELY(ww_try_(&x->own->handle, m->number)))
 		return false;
 	note_holder(m, x, NULL);
 	NOTE(LOCK_ENDS, .mutex = m, .context = x, .r = 0);
@@ -84,7 +89,10 @@ static inline bool lock_at_once(struct ww_mutex *m, struct ww_acquire_ctx *x)
 
 /* ---- reader slots ---- */
 
-/* Who has the slot marks a mutex of this number, before it looks whether that is free: see above. */
+/*
+ * Marks the mutex of this number in the slot, which the context has. The context looks whether the mutex is free only after that:
+ * see the head of this file.
+ */
 static inline void mark(struct ww_slot *slot, uint32_t number)
 {
 	uint64_t *marks = marks_at(slot, number), had = __atomic_load_n(marks, __ATOMIC_RELAXED);
@@ -94,14 +102,21 @@ static inline void mark(struct ww_slot *slot, uint32_t number)
 	__atomic_exchange_n(marks, had | mark_of(number), __ATOMIC_SEQ_CST);
 }
 
-/* Takes that back. Released, as cleared: whoever finds no mark comes after what was read. */
-static inline void unmark(struct ww_slot *slot, uint32_t number)
+/*
+ * Takes back a mark, which most often is the newest. The store releases, as in clear_marks: a writer that finds no mark comes after
+ * what the context read.
+ */
+static void unmark(struct ww_slot *slot, uint32_t number)
 {
 	uint64_t *marks = marks_at(slot, number), left = __atomic_load_n(marks, __ATOMIC_RELAXED) & ~mark_of(number);
+	uint32_t k = slot->nonzero_count;
 
 	__atomic_store_n(marks, left, __ATOMIC_RELEASE);
-	if (!left)
-		slot->nonzero_count--;
+	if (left)
+		return;
+	while (slot->nonzero[--k] != number / MARKS_IN_A_WORD)
+		;
+	slot->nonzero[k] = slot->nonzero[--slot->nonzero_count];
 }
 
 static inline void clear_marks(struct ww_slot *slot)
@@ -111,9 +126,9 @@ static inline void clear_marks(struct ww_slot *slot)
 }
 
 /*
- * The seat gets its slot, with a mutex of its class, for which nobody is asked when that is freed.  All see the slot
- * before its first mark, sequentially consistent, since another slot may have set its bit.  The memory is zeros, of which
- * only the pages take room that are written.
+ * Makes the seat's slot, with a mutex of the class that isn't counted as one, so that the class can be freed. The slot is shown by
+ * a sequentially consistent store, before its first mark, since another slot may already have set its bit. The memory is zeros, of
+ * which only the pages take room that are written.
  */
 COLD static int make_slot(ww_seat *s)
 {
@@ -146,10 +161,9 @@ COLD static int make_slot(ww_seat *s)
 }
 
 /*
- * Tries the slot until it is free, for a downgrade, which doesn't fail: a writer that has the slot found a mark from
- * before, and soon releases it; the first such writer clears all marks.  But a task that waits for the slot goes on only
- * when it is polled, maybe by this thread.  It returns an error if a task waits, or if the context got -EDEADLK and may
- * acquire nothing.
+ * Tries the slot until it is free, for a downgrade, which doesn't fail. A writer that has the slot found a mark of earlier reads,
+ * and soon releases the slot; the first such writer clears all marks. But a task that waits for the slot goes on only when it is
+ * polled, maybe by this thread. So this returns an error if a task waits, or if the context got -EDEADLK and may acquire nothing.
  */
 COLD static int try_slot(struct ww_slot *slot, struct ww_acquire_ctx *x)
 {
@@ -157,15 +171,18 @@ COLD static int try_slot(struct ww_slot *slot, struct ww_acquire_ctx *x)
 	uint64_t until = 0;
 	int r;
 
-	while ((r = ww_try_(&x->own->handle, slot->mutex.number)) == -EBUSY && !x->own->pool->gone &&
-	       (__atomic_load_n(&slot->mutex.waiters, __ATOMIC_RELAXED) & ~IS_SLOT) < A_TASK)
+	while ((r = ww_debug_forbids(x, slot->mutex.number) ? -EINVAL : ww_try_(&x->own->handle, slot->mutex.number)) == -EBUSY &&
+	       !x->own->pool->gone && (__atomic_load_n(&slot->mutex.waiters, __ATOMIC_RELAXED) & ~IS_SLOT) < A_TASK)
 		ww_await_guard(&looks, &until);
 	if (!r)
 		note_holder(&slot->mutex, x, NULL);
 	return r;
 }
 
-/* The context comes to its slot, and may acquire then even if it got -EDEADLK before; if the read fails, that holds again. */
+/*
+ * Locks the context's slot, which is made first if the seat has none. A context that has its slot may acquire mutexes even if it
+ * got -EDEADLK before; WAS_TOLD keeps that, so that it holds again if the read fails.
+ */
 ALWAYS_INLINE int take_slot(struct ww_acquire_ctx *x, const struct ww_how how, bool tries)
 {
 	int r = LIKELY(x->own->slot) ? 0 : make_slot(x->own);
@@ -183,10 +200,10 @@ ALWAYS_INLINE int take_slot(struct ww_acquire_ctx *x, const struct ww_how how, b
 	return 0;
 }
 
-/* One read more. Released: who sees it sees that no mark is from before. */
+/* Counts one more read. The store releases: a thread that sees the count sees that no mark is from earlier reads. */
 static inline void add_read(struct ww_slot *slot) { __atomic_store_n(&slot->reads, slot->reads + 1, __ATOMIC_RELEASE); }
 
-/* So many reads are left; if that is none, the slot is released. */
+/* Notes how many reads are left. If none is, the slot is released. */
 static void leave_reads(struct ww_acquire_ctx *x, uint64_t left)
 {
 	struct ww_slot *slot = x->own->slot;
@@ -214,9 +231,10 @@ bool ww_shared_mutex_is_locked(const struct ww_shared_mutex *m)
 {
 	struct ww_pool *p = pool_at(&m->mutex_);
 
-	return p && !p->gone && (look_at(p, &m->mutex_) || __atomic_load_n(&m->mutex_.waiters, __ATOMIC_SEQ_CST) & ~(IS_TAKEN | IS_OF_NUMBER) ||
+	return p && !p->gone && (look_at(p, &m->mutex_) ||
+				 __atomic_load_n(&m->mutex_.waiters, __ATOMIC_SEQ_CST) & ~(IS_TAKEN | IS_OF_NUMBER) ||
 				 ww_is_read_by(p, m->mutex_.number, __atomic_load_n(&m->readers_, __ATOMIC_SEQ_CST)) ||
-				 look_at(p, &m->mutex_)); /* a reader may write it by now, and read it no more */
+				 look_at(p, &m->mutex_)); /* between the looks a reader may have upgraded, and ended its read */
 }
 
 static bool reports_use(const struct ww_shared_mutex *m)
@@ -229,10 +247,10 @@ static bool reports_use(const struct ww_shared_mutex *m)
 	return is;
 }
 
-/* Its memory goes: a context that has read it and reads on names the number alone. */
+/* Ends a mutex whose memory goes. A context that has read the mutex, and reads on, names the number alone, so the number is left. */
 int ww_shared_mutex_end_(struct ww_shared_mutex *m)
 {
-	return ww_end_mutex(&m->mutex_, reports_use(m) ? ww_leave_number : ww_give_number);
+	return ww_end_mutex(&m->mutex_, reports_use(m) ? ww_leave_number : ww_give_locked);
 }
 
 int ww_shared_mutex_destroy(struct ww_shared_mutex *m) { return reports_use(m) ? -EBUSY : ww_mutex_destroy(&m->mutex_); }
@@ -245,8 +263,9 @@ bool ww_shared_mutex_is_written_by(const struct ww_shared_mutex *m, const struct
 bool ww_shared_mutex_is_read_by(const struct ww_shared_mutex *m, const struct ww_acquire_ctx *x) { return reads_it(x, &m->mutex_); }
 
 /*
- * Whether a call may go on: 0, or its error.  Most have no time, and a mutex that fits; the debug library asks all
- * questions of each.  Polls are told apart by `what` they ask for.
+ * Whether a call may begin, or a poll go on: 0, or the error that the call returns. Of most calls little is asked, since they have
+ * no time limit, and a mutex of the context's class. The debug library asks all of each call. A poll goes on only if it asks for
+ * the same (`what`) as the call that began the wait.
  */
 static inline int may_go_on(const char *call, struct ww_shared_mutex *m, struct ww_acquire_ctx *x, struct ww_how how, unsigned what)
 {
@@ -261,8 +280,8 @@ static inline int may_go_on(const char *call, struct ww_shared_mutex *m, struct 
 /* ---- reads ---- */
 
 /*
- * Whether nobody has a mutex of the context's class or waits for it, as ww_is_free_ says, by a look at the owner word itself: that
- * call takes 25 instructions, of 150 for a read.  In the debug library a context doesn't say where the words are.
+ * Whether nobody has a mutex of the context's class or waits for it, as ww_is_free_ says. This looks at the owner word itself,
+ * since that call takes 25 instructions, of 150 for a read. In the debug library a context doesn't say where the owner words are.
  */
 static inline bool nobody_has(const struct ww_acquire_ctx *x, uint32_t number)
 {
@@ -272,13 +291,13 @@ static inline bool nobody_has(const struct ww_acquire_ctx *x, uint32_t number)
 }
 
 /*
- * The lines of a reader, above; it looks first whether somebody seems to have the mutex, which is a hint.  What it
- * reads comes after what the last writer wrote.
+ * Makes the lines of a reader in the table at the head of this file, and returns whether the context reads the mutex. A look at the
+ * holder that the mutex names comes first, as a hint. What the context reads comes after what the last writer wrote.
  */
 ALWAYS_INLINE bool reads_at_once(struct ww_shared_mutex *m, struct ww_acquire_ctx *x, struct ww_slot *slot)
 {
 	uint32_t number = m->mutex_.number;
-	bool reads = has_mark(slot, number); /* already */
+	bool reads = has_mark(slot, number); /* the context reads the mutex already */
 
 	if (reads || UNLIKELY(holder_of(&m->mutex_)))
 		return reads;
@@ -295,7 +314,7 @@ ALWAYS_INLINE bool reads_at_once(struct ww_shared_mutex *m, struct ww_acquire_ct
 	return false;
 }
 
-/* Who has the mutex reads it from now on, too: before it is released, so that nobody finds neither. */
+/* Lets the mutex's holder read it, too. The mutex is released only after this, so that nobody finds neither a holder nor a reader. */
 static void read_held(struct ww_shared_mutex *m, struct ww_slot *slot)
 {
 	__atomic_fetch_or(&m->readers_, slot->bit, __ATOMIC_SEQ_CST);
@@ -304,8 +323,9 @@ static void read_held(struct ww_shared_mutex *m, struct ww_slot *slot)
 }
 
 /*
- * It couldn't be read at once; maybe this context has the mutex, which then goes on having it.  By number it is told so
- * outside loops: a reference that writes is no beginning of one that reads.
+ * Reads a mutex that couldn't be read at once. If this context already writes the mutex, it goes on writing it. But for a mutex by
+ * number, outside loops, that returns -EALREADY, since the caller may have a reference to write what the mutex guards, beside which
+ * there may be none to read.
  */
 COLD static int reads_in_turn(struct ww_shared_mutex *m, struct ww_acquire_ctx *x, struct ww_how how)
 {
@@ -325,7 +345,7 @@ COLD static int reads_in_turn(struct ww_shared_mutex *m, struct ww_acquire_ctx *
 }
 
 /*
- * Whether a trylock to read would fail now.  The trylock asks before it takes a step: a context that comes to its own slot has
+ * Whether a trylock to read would fail now. The trylock asks this before it makes a step: a context that acquires its own slot has
  * acquired something, so the mutex at which it got -EDEADLK, and what its loop has to do, would be forgotten.
  */
 static bool is_vain_read(const struct ww_shared_mutex *m, struct ww_acquire_ctx *x)
@@ -350,7 +370,7 @@ ALWAYS_INLINE int read_by(struct ww_shared_mutex *m, struct ww_acquire_ctx *x, s
 	if (UNLIKELY(r))
 		return r;
 	slot = x->own->slot;
-	/* Who waits for the mutex would find that taken. */
+	/* A context whose poll waits for the mutex would find it taken. */
 	if ((how.who == TASK && is_polled(x)) || UNLIKELY(!reads_at_once(m, x, slot)))
 		return reads_in_turn(m, x, how);
 	add_read(slot);
@@ -359,7 +379,10 @@ ALWAYS_INLINE int read_by(struct ww_shared_mutex *m, struct ww_acquire_ctx *x, s
 
 int ww_shared_mutex_lock_shared(struct ww_shared_mutex *m, struct ww_acquire_ctx *x) { return read_by(m, x, BY_WAITING); }
 
-/* What a trylock returns.  What its step made a loop forget, as another thread came between the trylock's look and that, is so again. */
+/*
+ * What a trylock returns if its call returned r. If another thread came between the trylock's look and its step, the step made the
+ * loop forget what it has to do (`tries`), which is set again.
+ */
 static int ended_try(struct ww_acquire_ctx *x, unsigned int tries, int r)
 {
 	if (r && tries && tries & ~x->state)
@@ -388,8 +411,8 @@ int ww_shared_mutex_lock_shared_poll(struct ww_shared_mutex *m, struct ww_acquir
 /* ---- writes ---- */
 
 /*
- * Waits for whoever reads it by this slot.  It comes to the slot, where it leaves no word of itself, and no mark; a poll
- * that waits for that goes on there.
+ * Waits for the context that reads the mutex of this number by this slot. For that the writer visits the slot, and clears its
+ * marks, without a note that it has the slot. A poll that waits for the slot goes on here.
  */
 static int await_slot(struct ww_slot *slot, uint32_t number, struct ww_acquire_ctx *x, struct ww_how how)
 {
@@ -412,7 +435,10 @@ static int await_slot(struct ww_slot *slot, uint32_t number, struct ww_acquire_c
 	return 0;
 }
 
-/* The lines of a writer, above, which has the mutex. By its own slot nobody else reads. */
+/*
+ * Makes the lines of a writer in the table at the head of this file, for a context that has the mutex. It passes its own slot, by
+ * which nobody else reads.
+ */
 COLD static int await_readers(struct ww_shared_mutex *m, struct ww_acquire_ctx *x, struct ww_how how)
 {
 	bool reads = reads_it(x, &m->mutex_);
@@ -432,7 +458,10 @@ COLD static int await_readers(struct ww_shared_mutex *m, struct ww_acquire_ctx *
 	return 0;
 }
 
-/* Whether a trylock to write would fail now, since others read the mutex: the slot of each context that has a mark is taken. */
+/*
+ * Whether a trylock to write would fail now, since another context reads the mutex: the slot of a context that reads is marked and
+ * taken.
+ */
 static bool is_vain_write(const struct ww_shared_mutex *m, const struct ww_acquire_ctx *x)
 {
 	const struct ww_pool *p = x->own->pool;
@@ -443,7 +472,8 @@ static bool is_vain_write(const struct ww_shared_mutex *m, const struct ww_acqui
 		for (; slot; slot = slot->next) {
 			const uint64_t *marks = marks_at(slot, m->mutex_.number);
 
-			if (slot != x->own->slot && __atomic_load_n(marks, __ATOMIC_SEQ_CST) & mark_of(m->mutex_.number) && look_at(p, &slot->mutex))
+			if (slot != x->own->slot && __atomic_load_n(marks, __ATOMIC_SEQ_CST) & mark_of(m->mutex_.number) &&
+			    look_at(p, &slot->mutex))
 				return true;
 		}
 	}
@@ -451,10 +481,10 @@ static bool is_vain_write(const struct ww_shared_mutex *m, const struct ww_acqui
 }
 
 /*
- * Acquires the mutex, and then waits for those who read it.  A poll that waits for one of them has the mutex, and goes
- * on at that slot.  In a loop the context may have the mutex already: the loop has waited for it, or the body locked it by a call that
- * waits for no reader (ww_number_lock), and asks for it again.  A call that got no further than the mutex releases it, unless the context
- * had it before or waits by a poll; and if the context got -EDEADLK before, that holds again.
+ * Acquires the mutex, and then waits for the contexts that read it. A poll that waits for one of these has the mutex, and goes on
+ * at that one's slot. In a loop the context may have the mutex already: the loop has waited for it, or the body locked it by a call
+ * that waits for no reader (ww_number_lock), and asks for it again. A call that gets no further than the mutex releases it, unless
+ * the context had it before or waits by a poll. If the context got -EDEADLK before, that then holds again.
  */
 ALWAYS_INLINE int write_by(struct ww_shared_mutex *m, struct ww_acquire_ctx *x, struct ww_how how)
 {
@@ -506,7 +536,10 @@ int ww_shared_mutex_lock_poll(struct ww_shared_mutex *m, struct ww_acquire_ctx *
 	return write_by(m, x, (struct ww_how){ .who = TASK, .waker = waker });
 }
 
-/* The slot takes the mutex's place in the list, unless it is older: so ww_acquire_unlock_to doesn't end a read from before the mark. */
+/*
+ * Puts the slot right behind the mutex in the context's list, unless the slot is older there. So once the mutex is released, the
+ * slot has its place, and ww_acquire_unlock_to doesn't end a read of a mutex that was acquired before the mark.
+ */
 static void list_behind(struct ww_acquire_ctx *x, struct ww_mutex *slot, struct ww_mutex *m)
 {
 	struct ww_mutex *it = x->newest;
@@ -525,6 +558,7 @@ void ww_shared_mutex_downgrade(struct ww_shared_mutex *m, struct ww_acquire_ctx 
 
 	if (UNLIKELY(!x || waits || !holds_it(x, &m->mutex_)))
 		end("ww_shared_mutex_downgrade", waits ? WAITS_BY_POLL : "the context doesn't write the mutex");
+	note_used(x);
 	if (!holds_slot(x) && take_slot(x, (struct ww_how){ 0 }, true))
 		return;
 	read_held(m, x->own->slot);
@@ -537,6 +571,7 @@ int ww_shared_mutex_unlock(struct ww_shared_mutex *m, struct ww_acquire_ctx *x)
 {
 	if (is_polled(x))
 		return -EBUSY;
+	note_used(x);
 	if (holds_it(x, &m->mutex_))
 		return ww_unlock_of(&m->mutex_, x);
 	NOTE_MISUSE(NULL, "ww_shared_mutex_unlock", "the context doesn't write the mutex");
@@ -547,10 +582,30 @@ int ww_shared_mutex_unlock_shared(struct ww_shared_mutex *m, struct ww_acquire_c
 {
 	if (is_polled(x))
 		return -EBUSY;
+	note_used(x);
 	if (!reads_it(x, &m->mutex_)) {
-		NOTE_MISUSE(NULL, "ww_shared_mutex_unlock_shared", "the context doesn't read the mutex");
+		NOTE_MISUSE(NULL, "ww_shared_mutex_unlock_shared", NOT_READ);
 		return -EINVAL;
 	}
+	leave_reads(x, x->own->slot->reads - 1);
+	return 0;
+}
+
+/*
+ * Ends the one read of the mutex, by taking back its mark, or, if the context reads nothing else, by releasing its slot. A writer
+ * that has already found the mark waits for the slot, and so for all reads by it.
+ */
+int ww_shared_mutex_end_read(struct ww_shared_mutex *m, struct ww_acquire_ctx *x)
+{
+	if (is_polled(x))
+		return -EBUSY;
+	note_used(x);
+	if (!reads_it(x, &m->mutex_)) {
+		NOTE_MISUSE(NULL, "ww_shared_mutex_end_read", NOT_READ);
+		return -EINVAL;
+	}
+	if (x->own->slot->reads > 1)
+		unmark(x->own->slot, m->mutex_.number);
 	leave_reads(x, x->own->slot->reads - 1);
 	return 0;
 }
@@ -559,13 +614,14 @@ void ww_acquire_end_reads(struct ww_acquire_ctx *x)
 {
 	if (phase_of(x) == IN_POLL)
 		end("ww_acquire_end_reads", WAITS_BY_POLL);
+	note_used(x);
 	if (x->own && holds_slot(x))
 		leave_reads(x, 0);
 }
 
 /* ---- after -EDEADLK ---- */
 
-/* Waits for what it collided with. */
+/* Waits for the mutex at which the context got -EDEADLK, and releases it at once. */
 static int await_contended(struct ww_acquire_ctx *x, struct ww_how how)
 {
 	struct ww_mutex *m = x && x->own && x->state & IS_TOLD ? x->contending_lock : NULL;

@@ -63,15 +63,17 @@ static bool stop(void)
 
 static bool run(uint32_t kind)
 {
+	ww_world world = { 0 };
 	bool good;
 
-	if (ww_open_(kind, LOCKS, 1, seats, SEATS))
+	if (ww_open_world_(kind, LOCKS, 1, SEATS, &world))
 		return false;
-	for (int k = 0; k < SEATS; k++) {
+	for (uint16_t k = 0; k < SEATS; k++) {
 		woken[k] = 0;
-		if (ww_begin_(&seats[k]))
+		if (ww_open_seat_(&world, k, &seats[k]) || ww_begin_(&seats[k]))
 			return false;
 	}
+	ww_close_world_(&world);
 	if (lock(OLDEST) || lock(YOUNGEST) != WW_SLEEPS || lock(SECOND) != WW_SLEEPS || !take_turns())
 		return false;
 	printf("asleep, %s: the lock was taken %d times, and the youngest woken %ld times\n",

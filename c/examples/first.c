@@ -21,7 +21,6 @@ static int transfer(struct account *from, struct account *to, long money)
 		err = ww_mutex_lock(&from->lock, &ctx);
 		if (!err)
 			err = ww_mutex_lock(&to->lock, &ctx);
-		ww_retry_on_contention(&ctx); /* after -EDEADLK it begins again, with nothing held */
 	}
 	if (!err) {
 		from->money -= money;

@@ -5,7 +5,9 @@
 #if __cplusplus < 201703L
 #error "ww_mutex.hpp needs C++17: compile with -std=c++17 or a later one"
 #endif
+#include "ww_retry.h"
 #include "ww_shared.h"
+#include "ww_why.h"
 #include <cassert>
 #include <cerrno>
 #include <chrono>
@@ -300,12 +302,47 @@ public:
 	int error() const noexcept { return error_; }
 };
 
+// The age of a context that another try goes on with, in whichever thread (context::suspend): a new context would be the youngest. It
+// moves, and isn't copied; its destructor ends what is suspended. One without an age begins a new context.
+class suspended {
+	struct ww_retry it_ = {};
+
+public:
+	suspended() noexcept = default;
+	~suspended()
+	{
+		WW_NOWHERE_;
+		ww_retry_drop(&it_);
+	}
+	suspended(suspended &&from) noexcept : it_(std::exchange(from.it_, {})) {}
+	suspended &operator=(suspended &&from) noexcept
+	{
+		const suspended before(std::move(*this));
+
+		it_ = std::exchange(from.it_, {});
+		return *this;
+	}
+	// Whether it has no age: none was suspended, or it went on, or half of the class's contexts were suspended.
+	bool empty() const noexcept { return !it_.ticket_; }
+	// It doesn't wait first for the mutex at which it got -EDEADLK: for who waited in vain, and locks others first.
+	void at_once() noexcept { ww_retry_at_once(&it_); }
+	struct ww_retry *get() noexcept { return &it_; }
+};
+
 // A context. Its destructor releases everything that it still holds, and ends it. If it doesn't begin in time, or is cancelled
 // before, all its lock calls return that: see error().
 class context {
 	ww_acquire_ctx it_;
 	const limits limits_;
 	int error_ = 0;
+
+	void begin_loop() noexcept
+	{
+		if (error_)
+			return;
+		ww_acquire_flags(&it_, limits_.flags());
+		ww_tries_begin_(&it_);
+	}
 
 	struct releases {
 		context *x;
@@ -369,10 +406,28 @@ public:
 			error_ = ww_acquire_init_until(&it_, &c, how.until());
 		else
 			ww_acquire_init(&it_, &c);
+		begin_loop();
+	}
+	// With the age of what is suspended, if anything is; then it first waits for the mutex at which that got -EDEADLK. After an
+	// error it is still suspended.
+	context(struct ww_class &c, suspended &age, limits how = {} WW_AND_FROM_) noexcept : limits_(how)
+	{
+		error_ = ww_acquire_resume(&it_, &c, age.get(), how.until());
+		begin_loop();
+	}
+	// Releases everything, and ends the context, whose age goes on in the result: for a retry that is another's, as end_try is for
+	// one by this context. If half of the class's contexts are suspended, the age is lost. Its lock calls return -EINVAL from then on.
+	[[nodiscard]] suspended suspend(WW_FROM_) noexcept
+	{
+		suspended age;
+
 		if (error_)
-			return;
-		ww_acquire_flags(&it_, how.flags());
-		ww_tries_begin_(&it_);
+			return age;
+		ww_acquire_unlock_all(&it_);
+		if (ww_acquire_suspend(&it_, age.get()))
+			ww_acquire_end(&it_);
+		error_ = -EINVAL;
+		return age;
 	}
 	~context()
 	{
@@ -463,6 +518,24 @@ public:
 			ww_acquire_done(&it_);
 	}
 	int cancel() noexcept { return ww_acquire_cancel(&it_); }
+	// Others find it by this number; 0: none.
+	void label(std::uint64_t number) noexcept { ww_acquire_label(&it_, number); }
+	// Where its last call ended that returned -EDEADLK, -ETIMEDOUT or -EINTR, and who has that mutex; and which of its own another one
+	// wants. To be asked before anything is released: in a callable, where a lock call fails.
+	struct ww_why why() const noexcept
+	{
+		struct ww_why told;
+
+		ww_acquire_why(&it_, &told);
+		return told;
+	}
+	struct ww_acquire_counts counts() const noexcept
+	{
+		struct ww_acquire_counts told;
+
+		ww_acquire_count(&it_, &told);
+		return told;
+	}
 	unsigned held() const noexcept { return it_.acquired; }
 	ww_acquire_ctx *get() noexcept { return &it_; }
 

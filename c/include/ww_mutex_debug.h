@@ -1,35 +1,31 @@
 /*
  * ww_mutex_debug.h - what the debug library has besides; ww_mutex.h includes this where WW_DEBUG is defined
  *
- * Compile each file of the program with -DWW_DEBUG, and link -lww_debug instead of -lww: without
- * the first the library says so, once.  Besides what a call returns, standard error then has:
+ * Compile each file of the program with -DWW_DEBUG, and link -lww_debug instead of -lww: without -DWW_DEBUG the library reports that,
+ * once.  Besides what a call returns, standard error then has:
  *
- * Misuse: with its line and a backtrace.  If the same comes again at that line, for the same class,
- * a line says how often it has come: at the second, fourth, eighth time, and so on.
+ * Misuse: with its line and a backtrace.  If the same comes again at that line, for the same class, a line says how often: at the second,
+ * fourth, eighth time, and so on.
  *
- * States: what a context or the memory of a class has become that no call makes of it ends the
- * program, and is written: by an internal error, or since the program overwrote memory.
+ * States: if a context or the memory of a class is in a state that no call makes, by an internal error, or since the program overwrote
+ * memory, that is written, and the program ends.
  *
- * Warnings, about calls that are right but dangerous, once for each line and class: a thread
- * begins a second context; it locks with NULL while it holds a mutex of the class; it waits
- * for a context while it has a context or a mutex of any class; it begins a context, also for a
- * task, and the last three that it began at that line ended after -EDEADLK; ww_class_free fails,
- * and what is in use.  A context belongs to the thread that last acquired something with it, or
- * began it.  A wait with a time limit gives no warning; a wait that a cancel can end may give one.
+ * Warnings, about calls that are right but dangerous, once for each line and class: a thread begins a second context; it locks with
+ * NULL while it holds a mutex of the class; it waits for a context while it has a context or a mutex of any class; a context ends
+ * after -EDEADLK, so that its age is lost, and no value keeps it (ww_retry.h); ww_class_free fails, and what is in use.  A context
+ * belongs to the thread that last named it in a call.  A wait with a time limit gives no warning; a wait that a cancel can end may
+ * give one.
  *
- * Deadlocks that no class detects, through several classes or locks with NULL: a thread that
- * sleeps checks for them at intervals.  Each is reported once, with all its threads, and what
- * each waits for, and where.
+ * Deadlocks that no class detects, through several classes or locks with NULL: a thread that sleeps checks for them at intervals.
+ * Each is reported once, with all its threads, and what each waits for, and where.
  *
- * Long waits: a thread has waited for a mutex for ten seconds, once for each line and class,
- * with the place where its holder began; or all contexts have been in use, once a class, with
- * the place where the oldest began: of tasks the next one that comes to wait has it written.
- * ww_report_long_waits sets another time.  Either may have been left by a return or a throw, without
- * ww_acquire_fini.  If another context begins in the memory of such a context, that is
- * reported as misuse.
+ * Long waits: a thread has waited for a mutex for ten seconds, once for each line and class, with the place where its holder began; or
+ * all contexts have been in use, once a class, with the place where the oldest began; a wait of tasks is reported by the next one that
+ * comes to wait.  ww_report_long_waits sets another time.  A context may have been left by a return or a throw, without ww_acquire_fini:
+ * if another one begins in its memory, that is reported as misuse.
  *
- * It also makes some lock calls of contexts that hold a mutex return -EDEADLK without need,
- * so that the program's retries are tested.
+ * It also makes some lock calls of contexts that hold a mutex return -EDEADLK without need, so that the program's
+ * retries are tested.
  */
 #ifndef WW_MUTEX_DEBUG_H
 #define WW_MUTEX_DEBUG_H
@@ -39,26 +35,31 @@
 extern "C" {
 #endif
 /*
- * Writes what of a class is in use, which may be out of date by then: a line for each context
- * and each lock with NULL, with where it began and what it waits for, and one for each mutex
- * that is held.  tools/picture draws from that who waits for whom.
+ * Writes what of a class is in use, which may be out of date by then: a line for each context and each lock with NULL, with where it
+ * began and what it waits for, and a line for each mutex that is held.  tools/picture draws from these lines who waits for whom.
  */
 void ww_class_print(struct ww_class *ww_class, FILE *to);
+/*
+ * Writes a table, as the kernel's lock_stat: for each line that locks how often it waited, how long in all and how long at most,
+ * and how often a context backed off there; and the line at which the mutex of the longest wait had been acquired.  If the
+ * environment has WW_LOCK_STAT, the library writes the table to standard error as the program ends.
+ */
+void ww_lock_stat(FILE *to);
 /* How many calls were misuse, also those of which nothing was written. */
 unsigned long ww_debug_faults(void);
 /* How many warnings and deadlocks were reported. */
 unsigned long ww_debug_warnings(void);
 /*
- * Sets the interval, in milliseconds, at which waits that begin from now on check for a
- * deadlock; the second check that finds it reports it.  The default is 1,000; 0: no checks.
+ * Sets the interval, in milliseconds, at which waits that begin from now on check for a deadlock; the second check that finds one reports
+ * it.  The default is 1,000; 0: no checks.
  */
 void ww_debug_check_interval(unsigned int milliseconds);
 /*
- * After how many seconds a wait without a time limit is long: 10, unless this sets another
- * number; 0: never.  It holds for waits that begin from now on, of all classes.
+ * Sets after how many seconds a wait without a time limit is long, by default 10; 0: never.  It holds for all waits that begin from now
+ * on.
  */
 void ww_report_long_waits(unsigned int seconds);
-/* Says where the next call is made: in C or C++; and in another language, in which a backtrace tells nothing. */
+/* Says where the next call is made: in C or C++; or in another language, in which a backtrace says nothing. */
 void ww_debug_at_(const char *file, int line);
 void ww_debug_line_(const char *file, int line);
 #ifdef __cplusplus

@@ -7,9 +7,9 @@ extern "C" {
 #endif
 
 /*
- * A name that is given comes before the default one.  The compiler sees that the body runs at least once, so what it sets
- * is set after it; and the goto that is never taken is for a body that has none.  The body is a loop of one round, so that
- * `break` and `continue` in it end the round, and the outer loop looks whether there has to be another one.
+ * A label that the program names comes before the default one.  The compiler sees that the body runs at least once, so what the body sets
+ * is set after it; the goto that is never taken is for a body that has none.  The body is a loop of one round, so that `break` and
+ * `continue` in it end the round, and the outer loop looks whether there has to be another one.
  */
 #define WW_UNTIL_ALL_LOCKED_(ctx, again, ...)                                                          \
 	for (struct ww_acquire_ctx *again##_of_ = ww_tries_begin_(ctx); again##_of_;                   \
@@ -28,7 +28,7 @@ struct ww_acquire_ctx *ww_tries_begin_(struct ww_acquire_ctx *ctx) __attribute__
 /* Backs off, if the context has to. */
 void ww_back_off_(struct ww_acquire_ctx *ctx);
 __attribute__((__unused__)) static inline void ww_acquire_begin_tries(struct ww_acquire_ctx *ctx) { ww_tries_begin_(ctx); }
-enum { WW_HAS_TO_BACK_OFF_ = 4, WW_WAITS_FIRST_ = 8 }; /* of a context's state, beside its flags */
+enum { WW_HAS_TO_BACK_OFF_ = 4, WW_WAITS_FIRST_ = 8 }; /* bits of a context's state, beside its flags */
 __attribute__((__unused__)) static inline bool ww_acquire_end_try(struct ww_acquire_ctx *ctx)
 {
 	bool again = ctx->state & (WW_HAS_TO_BACK_OFF_ | WW_WAITS_FIRST_);
@@ -65,10 +65,10 @@ void ww_mutex_unlock_further_(struct ww_mutex *lock, struct ww_acquire_ctx *ctx,
 #define WW_INLINE_ extern __inline __attribute__((__gnu_inline__))
 
 /*
- * So many bytes behind the first of its class's words a mutex at this address most likely has its own; for certain its number
- * says it (numbers.c).  So a lock call fetches both lines at a time, and not one after the other.  The factor was searched for:
- * of mutexes in an array, at 21 distances of 16 to 4,096 bytes, on average 2 in a hundred have their words elsewhere where a class
- * has lines to spare, and 10 where all its numbers are taken (one distance 36).  The lower half of `span` adds less than a byte.
+ * How many bytes behind the first word of its class a mutex at this address most likely has its words; only its number says it for
+ * certain (numbers.c).  So a lock call fetches both lines at the same time.  The factor was searched for: of mutexes in an array, at 21
+ * distances of 16 to 4,096 bytes, on average 2 in a hundred have their words elsewhere where a class has lines to spare, and 10 where all
+ * its numbers are taken (one distance 36).  The lower half of `span` adds less than a byte.
  */
 __extension__ typedef unsigned __int128 ww_product_;
 WW_INLINE_ __attribute__((__always_inline__)) uint64_t ww_likely_(const void *lock, uint64_t span)
@@ -83,13 +83,13 @@ WW_INLINE_ __attribute__((__always_inline__)) uint64_t ww_likely_(const void *lo
 }
 
 #if !defined(WW_NO_INLINE) && !defined(WW_DEBUG)
-/* By a handle, with which a seat begins. */
+/* By a seat, which begins with its handle. */
 int32_t ww_only_of_try_(void *seat, uint32_t lock) __asm__("ww_try_");
 int32_t ww_first_of_unlock_(void *seat, uint32_t lock) __asm__("ww_unlock_");
 
 /*
- * What is stored relaxed, here and below, is only the holder's: the lock orders it from holder to holder.  The pool is
- * loaded with acquire order, since another thread may just have given the mutex its number, and then its pool.
+ * Only the mutex's holder makes the relaxed stores here and below: the lock orders them from holder to holder.  The pool is loaded with
+ * acquire order, since another thread may just have given the mutex its number, and then its pool.
  */
 #define WW_HOLDS_(ctx_, lock) \
 	do { \
@@ -100,8 +100,8 @@ int32_t ww_first_of_unlock_(void *seat, uint32_t lock) __asm__("ww_unlock_");
 	} while (0)
 
 /*
- * The mutex is read first, and then written: so its cache line needn't come twice where another processor had it last.  (Without
- * a flag of its own __builtin_prefetch is one for reads on x86-64, where processors that don't know this one ignore it.)
+ * Fetches a line to write it: the mutex is read first, and then written, so its line would come twice if another processor had it last.
+ * (Without a flag of its own __builtin_prefetch is one for reads on x86-64, where processors that don't know this one ignore it.)
  */
 #ifdef __x86_64__
 #define WW_WILL_WRITE_(at) __asm__("prefetchw (%0)" : : "r"(at))
@@ -143,7 +143,7 @@ WW_INLINE_ int ww_mutex_trylock(struct ww_mutex *lock, struct ww_acquire_ctx *ct
 	return 1;
 }
 
-/* From the first step on another thread may own the mutex, and destroy it, unless the step did nothing. */
+/* After the first step another thread may own the mutex, and destroy it, unless that step did nothing. */
 WW_INLINE_ void ww_mutex_unlock(struct ww_mutex *lock)
 {
 	struct ww_acquire_ctx *ctx = __atomic_load_n(&lock->ctx, __ATOMIC_RELAXED);
@@ -160,7 +160,7 @@ WW_INLINE_ void ww_mutex_unlock(struct ww_mutex *lock)
 	if (__builtin_expect(r != 0, 0))
 		ww_mutex_unlock_further_(lock, ctx, r);
 	else
-		WW_LISTS_NOTHING_(ctx); /* outside a loop, so that no list names a mutex that isn't held */
+		WW_LISTS_NOTHING_(ctx); /* outside a loop, where the list would name a mutex that isn't held */
 }
 
 WW_INLINE_ bool ww_is_contended(const struct ww_acquire_ctx *ctx)
@@ -186,7 +186,7 @@ __attribute__((__unused__)) static inline int ww_mutex_lock_by(struct ww_acquire
 	return r;
 }
 
-/* See ww_mutex_lock. */
+/* Warns as ww_mutex_lock says. */
 #if (defined(WW_DEBUG) || defined(WW_CHECK_LOCKS)) && !defined(WW_CLASS_H)
 WW_MUST_CHECK static inline int ww_mutex_lock_by_context_(struct ww_mutex *lock, struct ww_acquire_ctx *ctx)
 {

@@ -15,44 +15,43 @@ extern "C" {
 #endif
 
 /*
- * Takes a mutex that nobody else has.  Its number may be up to four times as great as the class has mutexes, and up to 67 in
- * any class.  -ENOSPC, -ENOMEM and -EINVAL as ww_mutex_init_checked: the first one allocates memory for all.
+ * Takes a mutex that nobody else has.  Its number may be up to four times as great as the class has mutexes, and up to 67 in any class.
+ * -ENOSPC, -ENOMEM and -EINVAL as ww_mutex_init_checked: the class's first call allocates memory for all numbers.
  */
 WW_MUST_CHECK int ww_number_take(uint32_t *number, struct ww_class *ww_class);
 /*
- * Frees a number that was taken.  -EBUSY: somebody holds it or waits for it, or a context that has read it (ww_shared.h) hasn't
- * ended its reads, and nothing has changed; -EINVAL: it isn't taken.
- * Once this returns 0, no other thread accesses the mutex any more.  A context that backed off at the number waits neither for it
- * nor for the next mutex that has it.
+ * Frees a number that was taken.  -EBUSY: somebody holds the mutex or waits for it, or a context that has read it (ww_shared.h) hasn't
+ * ended its reads, and nothing has changed; -EINVAL: the number isn't taken.  Once this returns 0, no other thread accesses the mutex any
+ * more.  A context that backed off at the number waits neither for it nor for the next mutex that has it.
  */
 int ww_number_put(uint32_t number, struct ww_class *ww_class);
 
 /*
- * The same for who can't wait until nobody uses it, as a destructor: it comes free by itself once nobody holds it, waits for it or
- * reads it. Nobody may begin to.
+ * Frees a number for a caller that can't wait, as a destructor: the number comes free by itself once nobody holds it, waits for it or
+ * reads it.  Nobody may begin to.
  */
 void ww_number_leave(uint32_t number, struct ww_class *ww_class);
 /*
  * The library's mutex of a number: for the calls of ww_shared.h, as
  *	ww_shared_mutex_trylock_shared(ww_number_at(number, &boxes), &ctx)
- * and by its member mutex_ for those of ww_mutex.h, also without a context (NULL).  Who writes what others read in this way calls
+ * and by its member mutex_ for those of ww_mutex.h, also without a context (NULL).  A context that writes what others read calls
  * ww_shared_mutex_lock, since ww_number_lock waits for no reader.  What a context writes is unlocked by its number, or by
- * ww_shared_mutex_unlock, and what it reads by ww_shared_mutex_unlock_shared.  A context may be moved only outside loops and tries,
- * and only if it makes no ww_mutex_lock and no ww_mutex_trylock, which leave its address in the mutex.
- * The mutex stays where it is until the class is freed.  NULL: nobody has taken the number.
+ * ww_shared_mutex_unlock, and what it reads by ww_shared_mutex_unlock_shared.  A struct ww_acquire_ctx may move in memory only outside
+ * loops and tries, and only if it makes no ww_mutex_lock and no ww_mutex_trylock, which leave its address in the mutex.  The mutex stays
+ * where it is until the class is freed.  NULL: nobody has taken the number.
  */
 struct ww_shared_mutex;
 struct ww_shared_mutex *ww_number_at(uint32_t number, struct ww_class *ww_class);
 
 /*
- * As ww_mutex_lock with a context, in ww_until_all_locked too.  -EDEADLK: release everything that the context holds, then
- * acquire this one first, with any call except a trylock; a context that holds nothing never gets -EDEADLK.  The program
- * ends with a message if somebody else holds a number that was never taken.
+ * As ww_mutex_lock with a context, in ww_until_all_locked too.  -EDEADLK: release everything that the context holds, then acquire this
+ * mutex first, with any call except a trylock; a context that holds nothing never gets -EDEADLK.  The program ends with a message if
+ * somebody else holds a number that was never taken.
  */
 WW_MUST_CHECK int ww_number_lock(uint32_t number, struct ww_acquire_ctx *ctx);
 /* Returns 1 if it acquired the mutex, else 0: somebody holds it or waits for it, or the context may acquire nothing now. */
 WW_MUST_CHECK int ww_number_trylock(uint32_t number, struct ww_acquire_ctx *ctx);
-/* Releases it. -EINVAL: the context doesn't hold it. */
+/* Releases the mutex. -EINVAL: the context doesn't hold it. */
 int ww_number_unlock(uint32_t number, struct ww_acquire_ctx *ctx);
 
 #if defined(WW_DEBUG) && !defined(WW_CLASS_H)
@@ -64,7 +63,7 @@ int ww_number_unlock(uint32_t number, struct ww_acquire_ctx *ctx);
 #define ww_number_unlock(...) (WW_HERE_, ww_number_unlock(__VA_ARGS__))
 #endif
 
-/* The first steps are compiled into the callers, as those of ww_mutex.h; where one isn't enough, the library begins anew. */
+/* The first steps are compiled into the callers, as those of ww_mutex.h; where one step isn't enough, the library begins anew. */
 int ww_number_unlock_further_(uint32_t number, struct ww_acquire_ctx *ctx, int r);
 #if !defined(WW_NO_INLINE) && !defined(WW_DEBUG)
 int ww_number_lock_else_(uint32_t number, struct ww_acquire_ctx *ctx) __asm__("ww_number_lock");

@@ -29,16 +29,16 @@
 extern "C" {
 #endif
 
-/* wake(loop, task) is called: both are the program's. */
+/* A callback of the program: the library calls wake(loop, task). */
 struct ww_waker {
 	void (*wake)(void *loop, void *task);
 	void *loop, *task;
 };
 
 /*
- * One wait for a context: { 0 } before, and the library's while polls return -EINPROGRESS; it doesn't move then.  Whoever begins
- * a context within another one of the class sets is_within before: it gets any context that is free, since it would otherwise wait
- * for tasks that may wait for it.
+ * One wait for a context: { 0 } before, and the library's while polls return -EINPROGRESS; it doesn't move then.  A task that begins a
+ * context within another one of the class sets is_within before: it gets any context that is free, since it would otherwise wait for
+ * tasks that may wait for it.
  */
 struct ww_seek {
 	struct ww_seek *next_;
@@ -51,34 +51,34 @@ struct ww_seek {
 
 /*
  * Begins a context, as ww_acquire_init_checked, but waits for one.  The library adapts how many tasks may have one at a time to the
- * number with the highest throughput, which it measures while a task waits: it begins with two for each processor, and lets tasks
- * have at most 896 of the 1,024 that aren't a thread's own.  A free context goes to the next task that asks, but every millisecond
- * to the one that has waited longest.  Each context that comes free wakes one more task; if another task takes that context first,
- * the woken one waits on, and is woken again.  No context is kept for a woken task that hasn't polled for a millisecond, since its loop
- * is busy: another task gets the context, at whose end the next task is woken, and the busy one waits behind all.  If ww_class_limit
- * set how many contexts the class has, tasks and threads share these, and wait in one queue, in which only is_within passes others.
- * Without a waker (NULL) it ends the wait, or doesn't wait, and then seek may be NULL: 0 if a context was begun, else -ETIMEDOUT.
+ * number with the highest throughput, which it measures while a task waits: it begins with two for each processor, and lets tasks have at
+ * most 896 of the 1,024 that aren't a thread's own.  While tasks wait, each context that comes free wakes one more of them.  Only the
+ * next task of the thread that ended the context may begin it before, for a millisecond; then the woken task waits on, before all others,
+ * and is woken again.  No context is kept for a woken task that hasn't polled for a millisecond, since its loop is busy: another one that
+ * waits is woken instead, and the busy one waits behind all.  If ww_class_limit set how many contexts the class has, tasks and threads
+ * share these, and wait in one queue, in which only is_within passes others.  Without a waker (NULL) it ends the wait, or doesn't wait,
+ * and then seek may be NULL: 0 if a context was begun, else -ETIMEDOUT.
  */
 WW_MUST_CHECK int ww_acquire_init_poll(struct ww_acquire_ctx *ctx, struct ww_class *ww_class, struct ww_seek *seek,
 				       const struct ww_waker *waker);
-/* Ends a wait for a context, if one goes on, and begins none: for who drops a task, which may be in such a wait. */
+/* Ends a wait for a context, if one goes on, and begins none: for programs that drop a task, which may be in such a wait. */
 void ww_seek_end(struct ww_seek *seek);
 /*
- * As ww_mutex_lock_interruptible, with any context.  In a loop a poll doesn't wait for the contended mutex first, and returns -EINVAL
- * if another call has waited for a mutex that the body has yet to lock.  After -EDEADLK release everything, and poll the same mutex
- * first.  Without a waker (NULL) it ends the wait: 0 if the mutex was acquired first, -EDEADLK or -EINTR if that came first, else
- * -ETIMEDOUT; what was held still is.
+ * As ww_mutex_lock_interruptible, with any context.  In a loop a poll doesn't wait for the contended mutex first, and returns -EINVAL if
+ * another call has waited for a mutex that the body has yet to lock.  After -EDEADLK release everything, and poll the same mutex first.
+ * Without a waker (NULL) the call ends the wait: 0 if the mutex was acquired first, -EDEADLK or -EINTR if that came first, else
+ * -ETIMEDOUT; what was held stays held.
  */
 WW_MUST_CHECK int ww_mutex_lock_poll(struct ww_mutex *lock, struct ww_acquire_ctx *ctx, const struct ww_waker *waker);
 /*
- * Ends whatever wait a poll has begun for this context, to lock, to read or to write.  What the call acquired on its way is
- * released, also what it asked for if that came first; what was held before still is.  It returns 0; -EDEADLK or -EINTR if that
- * came first, as the poll would have returned it; -EINVAL: the context has ended.
+ * Ends whatever wait a poll has begun for this context, to lock, to read or to write.  What the poll acquired on its way is released,
+ * also what it asked for if that came first; what was held before stays held.  It returns 0; -EDEADLK or -EINTR if that came first, as
+ * the poll would have returned it; -EINVAL: the context has ended.
  */
 int ww_acquire_end_wait(struct ww_acquire_ctx *ctx);
 /*
- * After -EINPROGRESS: true if the waker wasn't called and won't be; a poll must follow nevertheless.  False: it was called,
- * or is about to be.  So a waker can own a reference.  seek is that of a wait for a context, else NULL.
+ * After -EINPROGRESS: true if the waker wasn't called and won't be; a poll must follow nevertheless.  False: the waker was called, or is
+ * about to be.  So a waker can own a reference.  seek is that of a wait for a context, else NULL.
  */
 bool ww_poll_take_back(struct ww_acquire_ctx *ctx, struct ww_seek *seek);
 

@@ -16,7 +16,8 @@
  *	ww_acquire_unlock_all(&ctx);
  *	ww_acquire_fini(&ctx);
  *
- * Reads end together: an object that a context reads stays protected until the context has ended all its reads.  Each call needs a
+ * Reads end together, except by ww_shared_mutex_end_read: an object that a context reads stays protected until the context has ended
+ * all its reads.  Each call needs a
  * context, since all waits are those of contexts, and so every deadlock among readers and writers ends by -EDEADLK.
  *
  * Return values are those of ww_mutex.h.  -EDEADLK of any of these calls, also of a context's first: release everything, then
@@ -33,8 +34,8 @@ extern "C" {
 
 /* The fields are the library's. */
 struct ww_shared_mutex {
-	struct ww_mutex mutex_;	/* a writer's */
-	uint64_t readers_;	/* where those may be found that read it */
+	struct ww_mutex mutex_;	/* a writer holds it */
+	uint64_t readers_;	/* the bits of its readers' slots */
 };
 
 /* As WW_MUTEX_INIT. */
@@ -43,39 +44,42 @@ struct ww_shared_mutex {
 void ww_shared_mutex_init(struct ww_shared_mutex *lock, struct ww_class *ww_class);
 WW_MUST_CHECK int ww_shared_mutex_init_checked(struct ww_shared_mutex *lock, struct ww_class *ww_class);
 /*
- * As ww_mutex_destroy: -EBUSY also while a context reads it.  It has the mutex while it looks, so a trylock may be 0 meanwhile, and a
+ * As ww_mutex_destroy: -EBUSY also while a context reads the mutex.  While it looks, it has the mutex, so a trylock may return 0, and a
  * lock call waits.
  */
 int ww_shared_mutex_destroy(struct ww_shared_mutex *lock);
 
 /*
- * Reads it: waits while somebody writes it, or waits to write it; but an older context goes ahead of a younger one that waits, as
- * in any wait list.  It returns 0 also if the context reads or writes it already;
- * but -EALREADY outside loops if the context writes it and it is a number's (ww_number_at).
- * -ENOMEM, -ENOSPC: the context's first read found no memory, or no mutex of the class was left for it.
+ * Reads the mutex: waits while somebody writes it, or waits to write it; but an older context goes ahead of a younger one that waits, as
+ * in any wait list.  It returns 0 also if the context reads or writes the mutex already; but -EALREADY outside loops if the context
+ * writes it and it is a number's (ww_number_at).  -ENOMEM, -ENOSPC: the context's first read found no memory, or no mutex of the class
+ * left.
  */
 WW_MUST_CHECK int ww_shared_mutex_lock_shared(struct ww_shared_mutex *lock, struct ww_acquire_ctx *ctx);
-/* The same, but at most until a time of the monotonic clock, if that isn't NULL: -ETIMEDOUT; or ww_acquire_cancel: -EINTR. */
+/*
+ * As ww_shared_mutex_lock_shared, but at most until a time of the monotonic clock, if that isn't NULL: -ETIMEDOUT; or ww_acquire_cancel:
+ * -EINTR.
+ */
 WW_MUST_CHECK int ww_shared_mutex_lock_shared_until(struct ww_shared_mutex *lock, struct ww_acquire_ctx *ctx,
 						    const struct timespec *monotonic);
-/* Returns 1 if the context reads it now, else 0. */
+/* Returns 1 if the context reads the mutex now, else 0. */
 WW_MUST_CHECK int ww_shared_mutex_trylock_shared(struct ww_shared_mutex *lock, struct ww_acquire_ctx *ctx);
 
 /*
- * Writes it: waits until nobody else reads or writes it.  If the context reads it, that is an upgrade: nobody writes it in between.
- * Of two contexts that upgrade it at the same time one gets -EDEADLK.  -EALREADY: the context writes it; in a loop
- * this is 0 with WW_IGNORE_DUPLICATES.  After an error it holds what it held before.
+ * Writes the mutex: waits until nobody else reads or writes it.  If the context reads it, that is an upgrade: nobody writes it in
+ * between.  Of two contexts that upgrade it at the same time one gets -EDEADLK.  -EALREADY: the context writes it; in a loop this is 0
+ * with WW_IGNORE_DUPLICATES.  After an error the context holds what it held before.
  */
 WW_MUST_CHECK int ww_shared_mutex_lock(struct ww_shared_mutex *lock, struct ww_acquire_ctx *ctx);
-/* The same with limits, likewise. */
+/* As ww_shared_mutex_lock, with the limits of ww_shared_mutex_lock_shared_until. */
 WW_MUST_CHECK int ww_shared_mutex_lock_until(struct ww_shared_mutex *lock, struct ww_acquire_ctx *ctx,
 					     const struct timespec *monotonic);
-/* Returns 1 if the context writes it now, else 0. */
+/* Returns 1 if the context writes the mutex now, else 0. */
 WW_MUST_CHECK int ww_shared_mutex_trylock(struct ww_shared_mutex *lock, struct ww_acquire_ctx *ctx);
 /*
- * Of a context that writes it: from now on it reads it, and others may.  It can't fail, and nobody writes it in between; but a
- * context that got -EDEADLK, or would get -ENOMEM or -ENOSPC for its first read, goes on writing it; so does one that reads nothing
- * yet, while a task that waited for its former reads, or of one before it, hasn't polled again.
+ * For a context that writes the mutex: from now on it reads it, and others may.  This can't fail, and nobody writes the mutex in between;
+ * but a context that got -EDEADLK, or would get -ENOMEM or -ENOSPC for its first read, goes on writing it; so does one that reads nothing
+ * yet, while a task that waited for its former reads, or those of an earlier context, hasn't polled again.
  */
 void ww_shared_mutex_downgrade(struct ww_shared_mutex *lock, struct ww_acquire_ctx *ctx);
 
@@ -85,28 +89,35 @@ void ww_shared_mutex_downgrade(struct ww_shared_mutex *lock, struct ww_acquire_c
  * context writes returns 0 and acquires nothing, so it needs none.
  */
 int ww_shared_mutex_unlock(struct ww_shared_mutex *lock, struct ww_acquire_ctx *ctx);
-/* Ends one of the context's reads, and no write.  -EINVAL: it doesn't read the mutex.  Each call to read that succeeded needs one. */
+/* Ends one of the context's reads, and no write.  -EINVAL: it doesn't read the mutex. Each call to read that succeeded needs one. */
 int ww_shared_mutex_unlock_shared(struct ww_shared_mutex *lock, struct ww_acquire_ctx *ctx);
+/*
+ * Ends the one read of this mutex, of a context that reads it once, as after a rollback or in read committed: a writer that comes from
+ * then on doesn't wait for this context, whatever else it reads.  A writer that waits by then waits for all of the context's reads.  If
+ * the context has read the mutex twice, nothing protects its other read any more, of which the unlock returns -EINVAL.  -EINVAL: the
+ * context doesn't read the mutex; -EBUSY: it waits by a poll.
+ */
+int ww_shared_mutex_end_read(struct ww_shared_mutex *lock, struct ww_acquire_ctx *ctx);
 /* Ends all reads of the context. */
 void ww_acquire_end_reads(struct ww_acquire_ctx *ctx);
 /*
- * Without a loop, after -EDEADLK, with nothing held: waits for what the context collided with, which has to exist still, and holds
- * nothing then.  It has the limits, and returns the errors, of ww_mutex_lock_slow_until.
+ * Without a loop, after -EDEADLK, with nothing held: waits for the mutex with which the context collided, which has to exist still, and
+ * holds nothing then.  The call has the limits, and returns the errors, of ww_mutex_lock_slow_until: after -ETIMEDOUT the age stays, and
+ * any lock may come next.
  */
 WW_MUST_CHECK int ww_shared_mutex_await(struct ww_acquire_ctx *ctx, const struct timespec *monotonic);
 /*
- * Whether anybody reads or writes it, or waits for it, which may be out of date when it returns.  In a child of a fork nobody does.
- * To wait until nobody reads or writes it, call ww_shared_mutex_lock and
- * then ww_shared_mutex_unlock.
+ * Whether anybody reads or writes the mutex, or waits for it, which may be out of date when this returns.  In a child of a fork nobody
+ * does.  To wait until nobody does, call ww_shared_mutex_lock and ww_shared_mutex_unlock.
  */
 bool ww_shared_mutex_is_locked(const struct ww_shared_mutex *lock);
-/* Whether the context writes it; and whether it reads it, for the thread that uses the context. */
+/* Whether the context writes the mutex; and whether it reads it, for the thread that uses the context. */
 bool ww_shared_mutex_is_written_by(const struct ww_shared_mutex *lock, const struct ww_acquire_ctx *ctx);
 bool ww_shared_mutex_is_read_by(const struct ww_shared_mutex *lock, const struct ww_acquire_ctx *ctx);
 /*
- * For event loops and coroutines: the same as polls of ww_poll.h, as ww_mutex_lock_poll is one.  A further call goes on only if it
- * is the same one.  Without a waker (NULL) a call ends the wait: it returns 0 if it then reads or writes; else what it has acquired
- * on its way is released again, and what was read and written before still is.  After -EDEADLK release everything, and poll
+ * For event loops and coroutines: these calls as polls of ww_poll.h, like ww_mutex_lock_poll.  A further call goes on only if it is the
+ * same one.  Without a waker (NULL) a call ends the wait: it returns 0 if the context then reads or writes; else what it has acquired on
+ * its way is released again, and what was read and written before still is.  After -EDEADLK release everything, and poll
  * ww_shared_mutex_await_poll, which holds nothing once it returns 0; then begin again.
  */
 struct ww_waker;
@@ -130,6 +141,7 @@ int ww_shared_mutex_end_(struct ww_shared_mutex *lock);
 #define ww_shared_mutex_downgrade(...) (WW_HERE_, ww_shared_mutex_downgrade(__VA_ARGS__))
 #define ww_shared_mutex_unlock(...) (WW_HERE_, ww_shared_mutex_unlock(__VA_ARGS__))
 #define ww_shared_mutex_unlock_shared(...) (WW_HERE_, ww_shared_mutex_unlock_shared(__VA_ARGS__))
+#define ww_shared_mutex_end_read(...) (WW_HERE_, ww_shared_mutex_end_read(__VA_ARGS__))
 #define ww_shared_mutex_await(...) (WW_HERE_, ww_shared_mutex_await(__VA_ARGS__))
 #define ww_shared_mutex_lock_shared_poll(...) (WW_HERE_, ww_shared_mutex_lock_shared_poll(__VA_ARGS__))
 #define ww_shared_mutex_lock_poll(...) (WW_HERE_, ww_shared_mutex_lock_poll(__VA_ARGS__))

@@ -15,7 +15,7 @@
 #include <stdint.h>
 
 /* The version of the headers. ww_version() returns that of the library; the same first number is the same binary interface. */
-#define WW_VERSION_MAJOR 6
+#define WW_VERSION_MAJOR 7
 #define WW_VERSION_MINOR 0
 #define WW_VERSION_PATCH 0
 
@@ -53,17 +53,32 @@ enum {
 	WW_AWAITS = 5,	/* once the seat that is inside has left: after a pause, and after a short sleep if that lasts */
 };
 
+/* What makes the seats of a world.  Only the steps write it, one call at a time.  { 0 } is an empty one. */
+typedef struct {
+	void *at;
+	uint32_t is_open;
+} ww_world;
 /*
- * Opens a world with this many locks, but at least 65, and fills the empty handles of its seats.  left: how many
- * contexts may begin, at most 2^52 - 1, and with more than 16 seats 2^49 - 1.  -EINVAL: another kind, no lock or no seat, or
- * too many; -ENOMEM: no handle is written.
+ * Opens a world with this many locks, but at least 65, and with this many seats, none of which is made yet, and puts it into an
+ * empty ww_world.  left: how many contexts may begin by each seat, at most 2^52 - 1, and with more than 16 seats 2^49 - 1.  -EINVAL:
+ * another kind, no lock or no seat, or too many, or `world` isn't empty; -ENOMEM: `world` stays empty.
  */
-WW_MUST_CHECK int32_t ww_open_(uint32_t kind, uint32_t locks, uint64_t left, ww_handle *seats, size_t count);
+WW_MUST_CHECK int32_t ww_open_world_(uint32_t kind, uint32_t locks, uint64_t left, uint16_t seats, ww_world *world);
+/*
+ * Makes the seat with this number, counted from 0, and puts it into an empty handle.  -EINVAL: `world` is empty, it has no such
+ * seat, or the handle isn't empty; -EALREADY: the seat was made before; -ENOMEM: it isn't made, and may be asked for again.
+ */
+WW_MUST_CHECK int32_t ww_open_seat_(ww_world *world, uint16_t number, ww_handle *seat);
+/* Leaves it empty, so that it makes no more seats.  Those that it made go on. */
+void ww_close_world_(ww_world *world);
 /* Exchanges what two handles have. */
 void ww_swap_(ww_handle *one, ww_handle *other);
 /* Whether a seat may be closed: -EBUSY while it holds a lock, has a context or waits. */
 int32_t ww_idle_(ww_handle *seat);
-/* Closes one seat, whose handle is empty then; closing the last one frees the world's memory. -EBUSY as ww_idle_. */
+/*
+ * Closes one seat, whose handle is empty then.  The world's memory is freed with its last seat, or by ww_close_world_ after that.
+ * -EBUSY as ww_idle_.
+ */
 int32_t ww_close_(ww_handle *seat);
 
 /* Begins a context. -EINVAL: there is one, or a lock is held; -ENOSPC: as many as were allowed have begun. */

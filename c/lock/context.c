@@ -1,34 +1,15 @@
 /*
- * context.c - the contexts of ww_mutex.h: how they begin and end, how they are cancelled, and whether they hold a mutex.
- * A context has a seat while it is active: what the proved library knows of a thread, by which its steps are made.
+ * context.c - the contexts of ww_mutex.h: how they begin and end, how they are cancelled, and whether they hold a mutex. While a
+ * context is active, it has a seat, which is what the proved library knows of a thread, and by which the context makes its steps.
  */
 #define _GNU_SOURCE
-#define WW_NO_INLINE /* As mutex.c. */
+#define WW_NO_INLINE /* ww_mutex.h compiles none of its calls into this file */
 #include "lock.h"
 
 /*
- * Relaxed: a thread that cancels the context that was here before may read these, and nothing is ordered by what it
- * reads.
+ * Begins the context in the proved library, unless the seat rests (age.h). If the seat rests, the context has the seat's age,
+ * unless its first lock shows that it acquires by hand.
  */
-static inline void of_seat(struct ww_acquire_ctx *x, struct ww_pool *p, ww_seat *s)
-{
-	x->pool = p;
-	x->span = p->span;
-	x->words = p->words;
-	x->gives = s;
-	__atomic_store_n(&x->own, s, __ATOMIC_RELAXED);
-	__atomic_store_n(&x->cancelled, 0, __ATOMIC_RELAXED);
-	x->acquired = x->state = 0;
-	x->newest = NULL;
-}
-
-static inline void no_more(struct ww_acquire_ctx *x)
-{
-	x->pool = NO_POOL;
-	__atomic_store_n(&x->own, NULL, __ATOMIC_RELAXED);
-}
-
-/* If its seat rests, the context has that age, unless its first lock shows that it acquires by hand. */
 static inline int begin_core(struct ww_acquire_ctx *x, ww_seat *s)
 {
 	if (!s->ages)
@@ -37,7 +18,7 @@ static inline int begin_core(struct ww_acquire_ctx *x, ww_seat *s)
 	return 0;
 }
 
-/* Leaves a context with which only a begin does anything. */
+/* Ends a begin that failed with r: leaves a context with which no call but a begin does anything. */
 COLD static int not_begun(struct ww_acquire_ctx *x, ww_seat *s, int r)
 {
 	if (s)
@@ -83,15 +64,15 @@ static inline int begin_by_any(struct ww_acquire_ctx *x, struct ww_class *c, con
 
 int ww_acquire_init_checked(struct ww_acquire_ctx *x, struct ww_class *c) { return begin_by_any(x, c, &ww_no_wait, false); }
 
-/* Most contexts of Rust begin here, without a time. */
+/* The Rust crate begins most contexts by this call, without a time. */
 int ww_acquire_init_until(struct ww_acquire_ctx *x, struct ww_class *c, const struct timespec *until)
 {
 	return LIKELY(!until) ? begin_by_any(x, c, NULL, true) : begin(x, c, until, true);
 }
 
 /*
- * A seat that nobody uses certainly begins a context, unless it has begun as many as it may.  Then there is none:
- * no second lock is acquired by it, and ww_acquire_fini ends the program.
+ * A seat that nobody uses certainly begins a context, unless the seat has begun as many as it may. Then there is no context in the
+ * proved library: this one can't acquire a second lock, and ww_acquire_fini ends the program.
  */
 static inline void begin_for_certain(struct ww_acquire_ctx *x, struct ww_pool *p, ww_seat *s)
 {
@@ -123,7 +104,8 @@ void ww_acquire_init(struct ww_acquire_ctx *x, struct ww_class *c)
 }
 
 /*
- * The proved library isn't called: as in the kernel, a lock after this is like any other; the debug library reports it.
+ * The proved library isn't called, since a lock after ww_acquire_done is like any other, as in the kernel. Only the debug library
+ * reports such a lock.
  */
 int ww_acquire_done_checked(struct ww_acquire_ctx *x)
 {
@@ -149,14 +131,18 @@ int ww_acquire_fini_checked(struct ww_acquire_ctx *x)
 
 	if (r && !(s && is_orphaned_by_fork(s, r)))
 		return r;
-	s->ages = 0;
+	if (UNLIKELY(s->ages))
+		forget_age(s);
 	NOTE(CONTEXT_ENDS, .context = x);
 	no_more(x);
 	give_seat(s);
 	return 0;
 }
 
-/* Why it can't end.  What it holds may be what it reads by: see shared.c.  A copy still says that it has the seat. */
+/*
+ * Why the context can't end. A mutex that it holds may be its reader slot, by which it reads (shared.c). If a copy of the context
+ * has ended, the context still names its seat.
+ */
 static const char *why_unended(struct ww_acquire_ctx *x)
 {
 	if (phase_of(x) == HAS_ENDED)
@@ -180,7 +166,7 @@ void ww_acquire_fini(struct ww_acquire_ctx *x)
 {
 	ww_seat *s = x->own;
 
-	/* A context that has released everything certainly ends. */
+	/* If the context has released everything, its end can't fail. */
 	if (UNLIKELY(!s || s->handle.mode != WW_BARE_) || ww_debug_has_ended(x)) {
 		fini_else(x);
 		return;
@@ -192,8 +178,8 @@ void ww_acquire_fini(struct ww_acquire_ctx *x)
 }
 
 /*
- * The thread that waits does the rest, since only it knows when the wait is over.  Relaxed: the caller ensures that the
- * context was begun before.
+ * Marks the context as cancelled, and wakes the thread or task that may wait by it. That one ends the wait, since only it knows
+ * when its wait is over. The load of `own` is relaxed, since the caller ensures that the context has begun.
  */
 int ww_acquire_cancel(struct ww_acquire_ctx *x)
 {
@@ -207,9 +193,14 @@ int ww_acquire_cancel(struct ww_acquire_ctx *x)
 	return 0;
 }
 
-/* ---- what they hold ---- */
+void ww_acquire_here(struct ww_acquire_ctx *x) { note_used(x); }
 
-/* The mutex says by whose call it was acquired, unless it is a number's; and its lock says that this is still so. */
+/* ---- what contexts hold ---- */
+
+/*
+ * A mutex names the context or the seat that acquired it, except if it was acquired by number. The lock's owner word says whether
+ * it is still held by that one.
+ */
 bool ww_mutex_is_held_by(const struct ww_mutex *m, const struct ww_acquire_ctx *x)
 {
 	const ww_seat *s = x ? __atomic_load_n(&x->own, __ATOMIC_RELAXED) : seat_of(m);

@@ -1,9 +1,9 @@
-/* list.c - lists of mutexes, which a context locks together and backs off by itself, as in a loop (loop.c). */
+/* list.c - lists of mutexes, which a context locks by one call, backing off by itself as in a loop (loop.c). */
 #define _GNU_SOURCE
 #include "loop.h"
 #include "mutex.h"
 
-/* Locks each, up to the first one that fails. */
+/* Locks the mutexes in their order, up to the first lock that fails, whose error it returns. */
 static inline int lock_each(struct ww_acquire_ctx *x, struct ww_mutex *const *locks, size_t count)
 {
 	for (size_t k = 0; k < count; k++) {
@@ -15,7 +15,10 @@ static inline int lock_each(struct ww_acquire_ctx *x, struct ww_mutex *const *lo
 	return 0;
 }
 
-/* Goes on after an error: it backs off, unless the context held something before, `held`, which it can't release. */
+/*
+ * Locks the list again after each -EDEADLK, once the context has backed off, unless the context held mutexes before the list
+ * (`held`), which this call can't release. Returns what the last try returned, r at first.
+ */
 COLD static int retry(struct ww_acquire_ctx *x, struct ww_mutex *const *locks, size_t count, size_t held, int r)
 {
 	while (r == -EDEADLK && !held) {
@@ -26,8 +29,9 @@ COLD static int retry(struct ww_acquire_ctx *x, struct ww_mutex *const *locks, s
 }
 
 /*
- * In a loop, or behind a list.  After another error than -EDEADLK all is as it was before, also what the loop had to do: a mutex that
- * it owed or waited for first is kept, unless the list asked for it.
+ * Locks a list by a context that is in a loop, or has locked a list before. After each error but -EDEADLK the context holds what it
+ * held before, and its loop has to do what it had to do before. If the context has waited for a mutex that its loop owed, or had to
+ * wait for first, it keeps that mutex, unless the list asked for it.
  */
 COLD static int lock_further(struct ww_acquire_ctx *x, struct ww_mutex *const *locks, size_t count)
 {
@@ -51,9 +55,9 @@ COLD static int lock_further(struct ww_acquire_ctx *x, struct ww_mutex *const *l
 }
 
 /*
- * In a large class the words of all locks but the first are fetched into the cache together; otherwise each would come after
- * the step of the lock before.  For a mutex that has no number yet, or is of another class, what is fetched is of no use.
- * (The loads are atomic, since gcc would leave out plain ones that only serve a fetch.)
+ * In a large class, fetches the words of all locks but the first into the cache together; otherwise each lock's words would be
+ * fetched only after the step of the lock before. If a mutex has no number yet, or is of another class, what is fetched for it is
+ * of no use. The loads are atomic, since gcc leaves out plain loads that only serve a fetch.
  */
 static inline void begin_list(struct ww_acquire_ctx *x, struct ww_mutex *const *locks, size_t count)
 {
@@ -64,7 +68,10 @@ static inline void begin_list(struct ww_acquire_ctx *x, struct ww_mutex *const *
 			__builtin_prefetch(words_of(x->own) + 2 * (size_t)__atomic_load_n(&locks[k]->number, __ATOMIC_RELAXED), 1);
 }
 
-/* Ends a list in BY_HAND, where the context was before it: what a lock call told is gone, except for what a slow lock asks. */
+/*
+ * Ends a list by taking the context back to the phase BY_HAND, and releases the list if it failed. What the list's lock calls left
+ * to do for a loop is dropped, except after -EDEADLK the contended mutex, for which a slow lock asks.
+ */
 COLD static int ends_by_hand(struct ww_acquire_ctx *x, struct ww_mutex *contending_lock, int r)
 {
 	if (r)
@@ -76,7 +83,10 @@ COLD static int ends_by_hand(struct ww_acquire_ctx *x, struct ww_mutex *contendi
 	return r;
 }
 
-/* From its first list on a context lists what it holds, unless it held something in BY_HAND: then it stays in that phase. */
+/*
+ * After its first list a context lists what it acquires, as in a loop, unless it held a mutex before that list: then it stays in
+ * the phase BY_HAND.
+ */
 int ww_mutex_lock_all(struct ww_acquire_ctx *x, struct ww_mutex *const *locks, size_t count)
 {
 	bool is_quick = x && phase_of(x) == BY_HAND && !IS_DEBUG;

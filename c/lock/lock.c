@@ -1,9 +1,9 @@
 /*
- * lock.c - one lock by one seat: all that a lock call does after its first step, and an unlock.  A seat is what the proved
- * library knows of a thread: the user of the seat makes steps by it, for a context or without one (then `x` is NULL here).
+ * lock.c - one lock by one seat: all that a lock call does after its first step, and an unlock. A seat is what the proved library
+ * knows of a thread. The user of a seat makes steps by it, for a context or without one; then `x` is NULL in this file.
  *
- * Whoever waits counts itself at the mutex first (`waiters`), and has the mutex's lock before that count ends; so a thread
- * that destroys the mutex sees the one or the other (ww_mutex_destroy).
+ * A lock call that waits counts as a waiter in the mutex (`waiters`) until after it has the mutex's lock. So a thread that destroys
+ * the mutex sees the count or the lock (ww_mutex_destroy).
  */
 #define _GNU_SOURCE
 #include "lock.h"
@@ -12,7 +12,10 @@
 
 static uint32_t counts_for(const struct ww_how *how) { return how->who == THREAD ? 1 : A_TASK; }
 
-/* How many more or fewer wait for it; and for what the call asks, which nobody destroys meanwhile. */
+/*
+ * Adds `by` to the number of waiters of the mutex for which the call waits, and of the mutex for which the call asks, if that is
+ * another one: so nobody destroys either meanwhile.
+ */
 static void count_waiter(struct ww_mutex *m, const struct ww_how *how, uint32_t by)
 {
 	__atomic_fetch_add(&m->waiters, by, __ATOMIC_SEQ_CST);
@@ -20,12 +23,23 @@ static void count_waiter(struct ww_mutex *m, const struct ww_how *how, uint32_t 
 		__atomic_fetch_add(&how->asks->waiters, by, __ATOMIC_SEQ_CST);
 }
 
+/*
+ * Notes in the seat, for why.c, the mutex for which the call asks, and the lock to which the call has come: that mutex's, or a
+ * slot's.
+ */
+static void note_asked(const struct ww_mutex *m, ww_seat *s, const struct ww_how *how)
+{
+	__atomic_store_n(&s->met.target, (how->asks ? how->asks : m)->number + 1, __ATOMIC_RELAXED);
+	s->met.lock = m->number;
+}
+
 static void begin_wait(struct ww_mutex *m, struct ww_acquire_ctx *x, ww_seat *s, const struct ww_how *how)
 {
-	__atomic_store_n(&s->awaits, m->number + 1, __ATOMIC_RELAXED);
-	count(&s->waits);
 	if (x)
 		note_meeting(s);
+	note_asked(m, s, how);
+	__atomic_store_n(&s->awaits, m->number + 1, __ATOMIC_RELEASE);
+	count(&s->waits);
 	DTRACE_PROBE2(ww, contention_begin, m, x);
 	NOTE(LOCK_WAITS, .seat = s, .mutex = m, .how = how);
 	count_waiter(m, how, counts_for(how));
@@ -33,7 +47,7 @@ static void begin_wait(struct ww_mutex *m, struct ww_acquire_ctx *x, ww_seat *s,
 
 static void end_wait(struct ww_mutex *m, struct ww_acquire_ctx *x, ww_seat *s, const struct ww_wait *wait, int r)
 {
-	(void)x, (void)r; /* without debugging */
+	(void)x, (void)r; /* only a probe uses them */
 	__atomic_store_n(&s->awaits, 0, __ATOMIC_RELAXED);
 	DTRACE_PROBE3(ww, contention_end, m, x, r);
 	NOTE(LOCK_WAITED, .seat = s);
@@ -44,30 +58,34 @@ static void end_wait(struct ww_mutex *m, struct ww_acquire_ctx *x, ww_seat *s, c
 		ww_note_task_wait(s);
 }
 
-/* What a lock call returns whose last step returned r. */
-static int lock_ends(struct ww_mutex *m, struct ww_acquire_ctx *x, ww_seat *s, int r, bool visits)
+/* Ends a lock call whose last step returned r, and returns what the call returns. */
+static int lock_ends(struct ww_mutex *m, struct ww_acquire_ctx *x, ww_seat *s, int r, const struct ww_how *how)
 {
-	if (r == 0 && visits)
+	if (r == 0 && how->visits)
 		__tsan_acquire(m);
 	else if (r == 0)
 		note_holder(m, x, s);
 	r = ww_debug_injects(m, x, r);
 	NOTE(LOCK_ENDS, .mutex = m, .context = x, .r = r);
 	if (r == -EDEADLK) {
+		note_meeting(s);
+		note_asked(m, s, how);
 		count(&s->back_offs);
 		DTRACE_PROBE2(ww, back_off, m, x);
 		x->contending_lock = m;
 		x->puts = puts_of(&s->pool->numbers, m->number);
+		s->told = m->number;
 		x->state = (x->state | IS_TOLD) & ~(unsigned)WAS_TOLD;
 	}
+	/* The seat's cancel has ended the wait. If neither the context nor the class was cancelled, the time limit had passed. */
 	if (r == -EINTR && !(x && __atomic_exchange_n(&x->cancelled, 0, __ATOMIC_SEQ_CST)) && !ww_ends_waits(s->pool))
 		r = -ETIMEDOUT;
 	return is_orphaned_by_fork(s, r) ? -EINVAL : r;
 }
 
 /*
- * Goes on with a wait, after a step that returned r, and ends it, unless a task sleeps: -EINPROGRESS.  Once that has left its
- * waker, another thread may use the context.
+ * Makes the further steps of a wait after a step that returned r, and ends the wait. If a task has to sleep, it returns
+ * -EINPROGRESS and accesses nothing more: once the task has left its waker, another thread may use the context.
  */
 static int wait_on(struct ww_mutex *m, struct ww_acquire_ctx *x, ww_seat *s, int r, const struct ww_wait *wait)
 {
@@ -77,7 +95,7 @@ static int wait_on(struct ww_mutex *m, struct ww_acquire_ctx *x, ww_seat *s, int
 		return r;
 	if (r == -EINTR)
 		ww_make_cancel_pending(s);
-	r = lock_ends(m, x, s, r, wait->how->visits);
+	r = lock_ends(m, x, s, r, wait->how);
 	end_wait(m, x, s, wait, r);
 	return r;
 }
@@ -87,7 +105,7 @@ COLD int ww_lock_on(struct ww_mutex *m, struct ww_acquire_ctx *x, ww_seat *s, in
 	struct ww_wait wait;
 
 	if (r <= 0 && (r != -EBUSY || how->who == NOBODY))
-		return lock_ends(m, x, s, r, how->visits);
+		return lock_ends(m, x, s, r, how);
 	wait = ww_wait_of(s, x, how);
 	if (r != WW_SLEEPS)
 		begin_wait(m, x, s, how);
@@ -98,12 +116,15 @@ COLD int ww_lock_on(struct ww_mutex *m, struct ww_acquire_ctx *x, ww_seat *s, in
 
 int ww_lock_by(struct ww_mutex *m, struct ww_acquire_ctx *x, const struct ww_how *how)
 {
-	return ww_lock_on(m, x, x->own, ww_try_(&x->own->handle, m->number), how);
+	return ww_lock_on(m, x, x->own, ww_debug_forbids(x, m->number) ? -EINVAL : ww_try_(&x->own->handle, m->number), how);
 }
 
 /* ---- unlocks ---- */
 
-/* In a forked child nobody else uses the mutex, so it counts as released. */
+/*
+ * Makes the further steps of an unlock whose first step returned r. In a forked child nobody else uses the mutex, so the mutex
+ * counts as released there even if these steps can't be made.
+ */
 COLD int ww_release_on(ww_seat *s, int r)
 {
 	note_meeting(s);
@@ -112,7 +133,10 @@ COLD int ww_release_on(ww_seat *s, int r)
 	return is_orphaned_by_fork(s, r) ? 0 : r;
 }
 
-/* In a loop a mutex that isn't in the context's list is a copy of one.  BY_HAND an unlock cuts the list, as ww_mutex_unlock does. */
+/*
+ * In a loop a mutex that isn't in the context's list is a copy of another mutex. In the phase BY_HAND an unlock cuts the list, as
+ * ww_mutex_unlock does.
+ */
 int ww_unlock_of(struct ww_mutex *m, struct ww_acquire_ctx *x)
 {
 	if (!is_loop(x))
@@ -124,7 +148,10 @@ int ww_unlock_of(struct ww_mutex *m, struct ww_acquire_ctx *x)
 
 /* ---- who has a lock ---- */
 
-/* Amid a poll the lock's word does. In a forked child a seat that was let go has nothing. */
+/*
+ * While the seat's context waits by a poll, the proved library refuses the question, and the lock's owner word says whether the
+ * seat has the lock. In a forked child a seat whose call can't end has nothing.
+ */
 bool ww_owns(ww_seat *s, uint32_t number)
 {
 	int32_t r = ww_has_(&s->handle, number);

@@ -1,9 +1,9 @@
 /*
  * loop.c - contexts that back off by themselves, in ww_until_all_locked and ww_mutex_lock_all.
  *
- * What a context has to do, in a loop (ww_until_all_locked) and after it, is one of six states.  M is the mutex at which
- * the context got -EDEADLK last.  OWES: the context has waited for M, and holds it, but the body of the loop hasn't asked
- * for M since the back-off; so the first lock call of M that the body makes only takes note of that.
+ * What a context has to do, in a loop (ww_until_all_locked) and after it, is one of six states. M is the mutex at which the context
+ * got -EDEADLK last. OWES: the context has waited for M, and holds it, but the body of the loop hasn't asked for M since the
+ * back-off; so the first lock call of M that the body makes only takes note of that.
  *
  *	state		call				returns			then
  *	EASE		a lock				0			EASE
@@ -11,36 +11,36 @@
  *							-EALREADY (0 with WW_IGNORE_DUPLICATES), -EINTR, -ETIMEDOUT	EASE
  *			a slow lock			-EINVAL			EASE
  *	OWES		a lock of M			0, a trylock 1		EASE
- *			a lock of another		0			OWES
+ *			a lock of another mutex		0			OWES
  *							-EDEADLK		TOLD, OWES
  *			unlock of M, and a lock of M	0			EASE
  *			ww_acquire_unlock_all					EASE
- *	TOLD		a lock of what is held		-EALREADY, as above	TOLD
+ *	TOLD		a lock of a held mutex		-EALREADY, as in EASE	TOLD
  *			any other lock			-EINVAL, a trylock 0	TOLD
  *			back off						FIRST
  *			its last unlock						TOLD, holding nothing
- *	TOLD, OWES	a lock of what is owed		0, a trylock 1		TOLD
- *			else as TOLD, and after each other lock still OWES
- *	TOLD, holding nothing: as FIRST, but a lock of another doesn't wait for M
+ *	TOLD, OWES	a lock of the owed mutex	0, a trylock 1		TOLD
+ *			any other call as in TOLD; after each other lock the context still OWES
+ *	TOLD, holding nothing: as FIRST, but a lock of another mutex doesn't wait for M
  *	FIRST		a lock of M			0			EASE
- *			a lock of another		0, having waited for M	OWES
- *							-EDEADLK, likewise	TOLD, OWES
+ *			a lock of another mutex		0, having waited for M	OWES
+ *							-EDEADLK, after M	TOLD, OWES
  *			a slow lock of M		0			EASE
- *			a slow lock of another		-EINVAL			FIRST
+ *			a slow lock of another mutex	-EINVAL			FIRST
  *			a trylock			1			EASE
  *							0			FIRST
  *			ww_acquire_unlock_all					EASE, holding nothing
- *			any of these			-EINTR, -ETIMEDOUT	FIRST, or OWES if that came at the other one
+ *			any of these calls		-EINTR, -ETIMEDOUT	FIRST, or OWES if that came at another mutex than M
  *	EASE, holding nothing: after FIRST a slow lock of M returns 0, having waited for M
- *	any		ww_mutex_lock_all		-EINVAL			as it was
+ *	any state	ww_mutex_lock_all		-EINVAL			as it was
  *
- * HAS_TO_BACK_OFF is TOLD, WAITS_FIRST is FIRST, and IS_PRELOCKED that it OWES `prelocked`.  tests/lock/loop.c tests
- * all of this.
+ * The bits of `state` are HAS_TO_BACK_OFF in TOLD, WAITS_FIRST in FIRST, and IS_PRELOCKED while the context OWES the mutex
+ * `prelocked`. tests/lock/loop.c tests each row.
  */
 #define _GNU_SOURCE
 #include "loop.h"
 
-/* In each phase of a loop but LOOP_EASE, lock calls take the long way (ww_lock_in_loop). */
+/* In each phase of a loop but LOOP_EASE the context has NO_POOL, so that its lock calls take the long way (ww_lock_in_loop). */
 COLD void ww_become(struct ww_acquire_ctx *x, unsigned int not, unsigned int now)
 {
 	x->state = (x->state & ~not) | now;
@@ -61,9 +61,9 @@ void ww_acquire_flags(struct ww_acquire_ctx *x, unsigned int flags)
 		let_be_older(x);
 }
 
-/* ---- the list of what it acquired, the newest first ---- */
+/* ---- the list of what a context acquired, the newest first ---- */
 
-/* Whether the context holds a mutex for which the body hasn't asked yet, since it waited for that after a back-off. */
+/* Whether the context holds a mutex for which it waited after a back-off, and for which the body of its loop hasn't asked yet. */
 static bool owes(const struct ww_acquire_ctx *x)
 {
 	const struct ww_mutex *m = x->state & IS_PRELOCKED ? x->newest : NULL;
@@ -82,8 +82,9 @@ COLD __attribute__((noreturn)) static void end_unreleased(const struct ww_acquir
 
 void ww_acquire_unlock_to(struct ww_acquire_ctx *x, size_t mark)
 {
+	note_used(x);
 	if (!is_loop(x))
-		return; /* nothing says what came since the mark */
+		return; /* outside a loop nothing says what was acquired after the mark */
 	if (!mark)
 		ww_acquire_unlock_all(x);
 	else
@@ -100,8 +101,9 @@ static inline void release_newest_first(struct ww_acquire_ctx *x)
 }
 
 /*
- * In BY_HAND a list has what was acquired since the last unlock of a mutex, and nothing that was acquired by number: such an unlock
- * is quick, and so cuts the list.  If more is held, the program ends; the context's own slot, by which it reads, is always known.
+ * Ends ww_acquire_unlock_all, once all that the list had is released. In the phase BY_HAND the list has what the context acquired
+ * since it last unlocked a mutex, and nothing that it acquired by number: such an unlock is quick, and so cuts the list. If the
+ * context still holds anything, the program ends. Only the context's own slot, by which it reads, is always known.
  */
 COLD static void unlocks_no_more(struct ww_acquire_ctx *x)
 {
@@ -111,7 +113,8 @@ COLD static void unlocks_no_more(struct ww_acquire_ctx *x)
 		(void)ww_unlock_of(&x->own->slot->mutex, x);
 	if (is_polled(x) || (is_left && x->acquired))
 		end_of(x->own->pool->class_, "ww_acquire_unlock_all", is_polled(x) ? WAITS_BY_POLL :
-		       "outside a loop the context acquired a mutex by number, or before it released another one");
+		       "outside a loop the context acquired a mutex by number, or before it released another one "
+		       "(unlock each by itself, or acquire them after ww_acquire_begin_tries)");
 	if (x->state & (WAITS_FIRST | IS_PRELOCKED)) {
 		ww_become(x, WAITS_FIRST | IS_PRELOCKED, 0);
 		NOTE(WAIT_TAKEN_BACK, .context = x);
@@ -119,23 +122,24 @@ COLD static void unlocks_no_more(struct ww_acquire_ctx *x)
 }
 
 /*
- * The context doesn't wait for the contended mutex any more, since that may have been destroyed, and owes no mutex to the body.  A
- * context that has ended holds nothing.
+ * Releases all that the context holds. Afterwards the context doesn't wait for the contended mutex first, since that may have been
+ * destroyed by then, and owes no mutex to the body of its loop. A context that has ended holds nothing.
  */
 void ww_acquire_unlock_all(struct ww_acquire_ctx *x)
 {
 	if (UNLIKELY(!x->own))
 		return;
+	note_used(x);
 	release_newest_first(x);
 	if (UNLIKELY(x->acquired || x->state & (WAITS_FIRST | IS_PRELOCKED | IS_POLLED)))
 		unlocks_no_more(x);
 }
 
-/* ---- its locks ---- */
+/* ---- the lock calls of a loop ---- */
 
 /*
- * Only here does a lock call succeed without a step by which the proved library took the lock.  A mutex that was owed is the
- * newest of what the context acquired now, and owed no more.
+ * Only by this function does a lock call succeed without a step by which the proved library took the lock. A mutex that was owed
+ * becomes the newest in the context's list, and isn't owed any more.
  */
 bool ww_accept_held(struct ww_acquire_ctx *x, struct ww_mutex *m, bool may_repeat)
 {
@@ -151,7 +155,7 @@ bool ww_accept_held(struct ww_acquire_ctx *x, struct ww_mutex *m, bool may_repea
 
 int ww_result_in_loop(struct ww_mutex *m, struct ww_acquire_ctx *x, int r)
 {
-	if (r == 0) /* What was owed may have been released meanwhile. */
+	if (r == 0) /* The body may have released the mutex that was owed, and locked it now. */
 		ww_become(x, owes_it(x, m) ? TRIES | IS_PRELOCKED : TRIES, 0);
 	if (r == -EDEADLK)
 		ww_become(x, 0, HAS_TO_BACK_OFF);
@@ -159,40 +163,41 @@ int ww_result_in_loop(struct ww_mutex *m, struct ww_acquire_ctx *x, int r)
 }
 
 /*
- * Whether the number of the contended mutex was put back since the -EDEADLK.  The number is still that mutex's if it is taken and was
- * put back no more often than then, since a put is counted before another takes the number and says so in `waiters`.
+ * Whether the number of the contended mutex was put back since the -EDEADLK, at which it had been put back `puts` times. The number
+ * is still that mutex's if it is taken and was put back as often as then: a thread that puts a number back counts that before
+ * another thread can take the number, and note so in `waiters`.
  */
-static bool is_gone(const struct ww_acquire_ctx *x, const struct ww_mutex *m)
+bool ww_is_gone(const struct ww_pool *p, const struct ww_mutex *m, uint32_t puts)
 {
-	return is_of_number(m) && (!(__atomic_load_n(&m->waiters, __ATOMIC_SEQ_CST) & IS_TAKEN) ||
-				   puts_of(&x->own->pool->numbers, m->number) != x->puts);
+	return is_of_number(m) && (!(__atomic_load_n(&m->waiters, __ATOMIC_SEQ_CST) & IS_TAKEN) || puts_of(&p->numbers, m->number) != puts);
 }
+static bool has_gone(const struct ww_acquire_ctx *x, const struct ww_mutex *m) { return ww_is_gone(x->own->pool, m, x->puts); }
 
 /*
- * Before anything else, waits for the mutex at which the context got -EDEADLK, unless its number was put back, and so may be a
- * stranger's by now.  The context counts as a waiter before it asks that, so from then on the number stays with its mutex.  A mutex
- * for which the body of the loop can't ask is released at once: a reader slot (shared.c), or a mutex whose number was put back during
- * the wait.
+ * Waits for the mutex at which the context got -EDEADLK, before the loop's lock call does anything else, unless the mutex's number
+ * was put back, and so may be another mutex's by now. The context counts as a waiter before it asks that, so from then on the number
+ * stays with its mutex. A mutex for which the body of the loop can't ask is released at once: a reader slot (shared.c), or a mutex
+ * whose number was put back during the wait.
  */
 static int wait_first(struct ww_acquire_ctx *x, struct ww_how how)
 {
 	struct ww_mutex *m = x->contending_lock;
-	bool counts = is_of_number(m) && !is_gone(x, m);
+	bool counts = is_of_number(m) && !has_gone(x, m);
 	int r = 0;
 
 	how.visits = is_slot(m);
 	if (counts)
 		__atomic_fetch_add(&m->waiters, 1, __ATOMIC_SEQ_CST);
-	if (is_gone(x, m))
+	if (has_gone(x, m))
 		ww_become(x, TRIES, 0);
 	else if (!(r = ww_lock_by(m, x, &how))) {
-		bool goes = is_gone(x, m);
+		bool was_put_back = has_gone(x, m);
 
 		x->prelocked = m;
-		ww_become(x, TRIES, how.visits || goes ? 0 : IS_PRELOCKED);
+		ww_become(x, TRIES, how.visits || was_put_back ? 0 : IS_PRELOCKED);
 		if (how.visits)
 			(void)unlock_by(m, x->own);
-		else if (goes)
+		else if (was_put_back)
 			(void)ww_unlock_of(m, x);
 	}
 	if (counts)
@@ -235,6 +240,7 @@ COLD void ww_back_off_(struct ww_acquire_ctx *x)
 {
 	if (!ww_is_contended(x))
 		return;
+	note_used(x);
 	if (is_polled(x))
 		end("ww_retry_on_contention", WAITS_BY_POLL);
 	release_newest_first(x);

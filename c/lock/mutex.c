@@ -1,9 +1,9 @@
 /*
  * mutex.c - the kernel's ww_mutex over numbered locks: how mutexes are made, locked and released.
  *
- * A *pool* is what an open class has: seats, and a number for each of its mutexes.  A *seat* is what the proved library knows
- * of a thread: its user makes steps by it, for a context or for one mutex without a context.  A thread's own seat is at hand
- * while its class isn't in a crowd (seat.c).  Who points to whom:
+ * A *pool* is what an open class has: seats, and a number for each of its mutexes. A *seat* is what the proved library knows of a
+ * thread: the seat's user makes steps by it, for a context or for one mutex without a context. A thread's own seat is at hand while
+ * its class isn't in a crowd (seat.c). Which structure points to which:
  *
  *	struct ww_mutex: pool ---> struct ww_pool: seats[k]: handle ---> a seat of the proved library
  *	                 number -------------------------------------> a lock there: owner, guard, wait list
@@ -17,11 +17,12 @@
  *	  |                  \-- other ---> _further_: steps and sleeps until the call can return (ww_lock_on, ww_go_on)
  *	  \-- with NULL ---> _alone_: by the seat at hand, or any, or once there is one
  *
- * So `_else_` is what the quick way doesn't do; `_further_` (and `_on`, inside) is all after the first step; `_alone`
- * is for locks without a context; and `_checked` returns an error where the other call would end the program.
+ * In the names `_else_` is what the quick way doesn't do; `_further_`, or inside the library `_on`, is all after the first step;
+ * `_alone` is a lock without a context; and `_checked` is a call that returns an error where the call without that ending ends the
+ * program.
  */
 #define _GNU_SOURCE
-/* Here are the functions that may be called in place of those that ww_mutex.h compiles into its callers. */
+/* This file has the functions that may be called instead of those that ww_mutex.h compiles into its callers. */
 #define WW_NO_INLINE
 #include "loop.h"
 #include "mutex.h"
@@ -64,19 +65,27 @@ bool ww_mutex_is_locked(struct ww_mutex *m)
 	return p && look_at(p, m);
 }
 
+static bool has_user(const struct ww_pool *p, const struct ww_mutex *m)
+{
+	return __atomic_load_n(&m->waiters, __ATOMIC_SEQ_CST) || look_at(p, m);
+}
+
 /*
- * A thread that sees no waiter sees the lock of the holder that a waiter became; one that sees neither comes after an
- * unlock's last access:
+ * Frees the mutex's number by `gives`, unless somebody uses the mutex. A thread that destroys the mutex, and sees no waiter, sees
+ * the lock of the holder that a waiter became. If it sees neither, it comes after the last access of an unlock:
  *
- *	one that waited (ww_lock_on)	one that releases it		one that destroys it
+ *	a waiter (ww_lock_on)		the holder			the thread that destroys
  *	its lock is acquired		ctx or alone = NULL		waiters?
  *	waiters--			ww_unlock_, the last access	look_at
  *
- * In a forked child nobody uses the mutex any more, and its number isn't given.
+ * A resumed context that finds the mutex by its number (count_at_contended) counts itself as a waiter under the lock of numbers,
+ * which this function also holds: so it is seen, or finds no mutex. In a forked child nobody uses the mutex any more, and its
+ * number isn't freed.
  */
 int ww_end_mutex(struct ww_mutex *m, void (*gives)(struct ww_numbers *n, uint32_t number))
 {
 	struct ww_pool *p = pool_at(m);
+	bool is_used;
 
 	if (!p)
 		return 0;
@@ -84,18 +93,25 @@ int ww_end_mutex(struct ww_mutex *m, void (*gives)(struct ww_numbers *n, uint32_
 		*m = (struct ww_mutex){ .class_ = p->class_ };
 		return 0;
 	}
-	if (__atomic_load_n(&m->waiters, __ATOMIC_SEQ_CST) || look_at(p, m)) {
-		NOTE_MISUSE(p->class_, "ww_mutex_destroy", "somebody holds the mutex, or waits for it");
-		return -EBUSY;
+	is_used = has_user(p, m);
+	if (!is_used) {
+		pthread_mutex_lock(&p->numbers.lock);
+		is_used = has_user(p, m); /* a resumed context may have counted itself before the lock was taken */
+		if (!is_used) {
+			lies_at(&p->numbers, m->number, NULL);
+			m->class_ = p->class_;
+			__atomic_store_n(&m->pool, NULL, __ATOMIC_RELEASE);
+			count_put(&p->numbers, m->number);
+			gives(&p->numbers, m->number); /* from then on only the lock keeps others from freeing the class */
+		}
+		pthread_mutex_unlock(&p->numbers.lock);
 	}
-	lies_at(&p->numbers, m->number, NULL);
-	m->class_ = p->class_;
-	__atomic_store_n(&m->pool, NULL, __ATOMIC_RELEASE);
-	gives(&p->numbers, m->number);
-	return 0;
+	if (is_used)
+		NOTE_MISUSE(p->class_, "ww_mutex_destroy", "somebody holds the mutex, or waits for it");
+	return is_used ? -EBUSY : 0;
 }
 
-int ww_mutex_end_(struct ww_mutex *m) { return ww_end_mutex(m, ww_give_number); }
+int ww_mutex_end_(struct ww_mutex *m) { return ww_end_mutex(m, ww_give_locked); }
 
 int ww_mutex_destroy(struct ww_mutex *m)
 {
@@ -112,13 +128,16 @@ int ww_mutex_destroy(struct ww_mutex *m)
 
 static const char not_due[] = "no -EDEADLK of this mutex came before, or the context still holds a mutex";
 
-/* Why the first lock of a mutex gave it no number, or its class no seat. */
+/* Why the first lock of a mutex failed with r: the mutex got no number, or its class had no seat. */
 static const char *reason_of_first(const struct ww_mutex *m, int r)
 {
 	return ww_find_class_of(m) ? reason_of(r) : "the mutex isn't initialized";
 }
 
-/* As ww_admit, of which the reason goes out.  A mutex that WW_MUTEX_INIT made gets its number here, before its first lock. */
+/*
+ * What ww_admit asks: returns 0 or its error, and the reason in `*why`. A mutex that WW_MUTEX_INIT made gets its number here,
+ * before its first lock.
+ */
 static int check_call(enum lock_call call, struct ww_mutex *m, const struct ww_acquire_ctx *x, const struct timespec *until,
 		 const char **why)
 {
@@ -140,23 +159,6 @@ static int check_call(enum lock_call call, struct ww_mutex *m, const struct ww_a
 	return r ? r : fits(m, x) ? 0 : -EINVAL;
 }
 
-/*
- * The first lock call of this context is one by hand, not in a loop.  So if its seat rested (age.h), it draws an age of its
- * own now, unless it already holds a mutex, or has met somebody, by the quick calls of ww_number.h.
- */
-static void draw_age_by_hand(struct ww_acquire_ctx *x)
-{
-	ww_seat *s = x->own;
-
-	if (x->pool != NO_POOL || is_loop(x))
-		return;
-	x->pool = s->pool;
-	if (!x->acquired && s->ages > MET) {
-		stop_rest(s);
-		(void)!ww_begin_(&s->handle);
-	}
-}
-
 int ww_admit(const char *name, enum lock_call call, struct ww_mutex *m, struct ww_acquire_ctx *x, const struct timespec *until)
 {
 	const char *why;
@@ -165,6 +167,8 @@ int ww_admit(const char *name, enum lock_call call, struct ww_mutex *m, struct w
 	if (x && ww_debug_refuses(name, m, x))
 		return -EINVAL;
 	r = check_call(call, m, x, until, &why);
+	if (x)
+		note_used(x);
 	if (r)
 		NOTE_MISUSE(r == -EINVAL || !m ? NULL : ww_find_class_of(m), name, why);
 	else if (x && call != CALL_LIST)
@@ -192,7 +196,7 @@ int ww_mutex_lock_else_(struct ww_mutex *m, struct ww_acquire_ctx *x)
 	return ww_lock_as(m, x, x->state & WW_INTERRUPTIBLE ? &interruptible : &waits_on);
 }
 
-/* Amid a poll the first step did nothing. */
+/* If the context waits by a poll, the first step did nothing, and its error is the call's. */
 int ww_mutex_lock_further_(struct ww_mutex *m, struct ww_acquire_ctx *x, int r)
 {
 	if (is_polled(x))
@@ -205,8 +209,9 @@ int ww_mutex_lock_further_(struct ww_mutex *m, struct ww_acquire_ctx *x, int r)
 }
 
 /*
- * In a loop this is the wait that the loop would begin with, or a misuse.  The proved library doesn't know of an -EDEADLK
- * that the debug library made up, or that a shared lock call in vain made it forget, so after that it is asked for a plain lock.
+ * In a loop a slow lock is the wait with which the loop's next lock call would begin, or it is misuse. The proved library doesn't
+ * know of an -EDEADLK that the debug library made up, or that it forgot because a shared lock call failed (WAS_TOLD): after such a
+ * one it is asked for a plain lock.
  */
 int ww_lock_slowly(struct ww_mutex *m, struct ww_acquire_ctx *x, const struct ww_how *how)
 {
@@ -215,8 +220,8 @@ int ww_lock_slowly(struct ww_mutex *m, struct ww_acquire_ctx *x, const struct ww
 
 	if (r)
 		return r;
-	r = ww_debug_has_injected(m, x) || (x->state & WAS_TOLD && m == x->contending_lock && !x->acquired) ? ww_try_(&x->own->handle, m->number) :
-		ww_lock_slow_(&x->own->handle, m->number, false);
+	r = ww_debug_has_injected(m, x) || (x->state & WAS_TOLD && m == x->contending_lock && !x->acquired) ?
+		ww_try_(&x->own->handle, m->number) : ww_lock_slow_(&x->own->handle, m->number, false);
 	r = ww_lock_on(m, x, x->own, r, how);
 	return is_loop(x) ? ww_result_in_loop(m, x, r) : r;
 }
@@ -245,7 +250,7 @@ int ww_mutex_lock_slow_until(struct ww_mutex *m, struct ww_acquire_ctx *x, const
 
 int ww_mutex_lock_slow_interruptible(struct ww_mutex *m, struct ww_acquire_ctx *x) { return ww_mutex_lock_slow_until(m, x, NULL); }
 
-/* ---- locks without a context: by a seat for this mutex alone, for which the thread may have to wait ---- */
+/* ---- locks without a context: each by a seat for its mutex alone, for which the thread may have to wait ---- */
 
 COLD static int lock_alone_on(struct ww_mutex *m, ww_seat *s, int r, const struct ww_how *how)
 {
@@ -267,7 +272,10 @@ static inline int lock_by_seat(struct ww_mutex *m, ww_seat *s, const struct ww_h
 	return 0;
 }
 
-/* If no seat is at hand. A thread that waits for a seat counts as a waiter of the mutex, until it holds that. */
+/*
+ * Locks the mutex without a context if no seat is at hand. A thread that waits for a seat counts as a waiter of the mutex until it
+ * holds the mutex.
+ */
 COLD static int lock_by_any(struct ww_mutex *m, const struct ww_how *how)
 {
 	ww_seat *s;
@@ -297,7 +305,7 @@ static inline int lock_alone(struct ww_mutex *m, const struct ww_how *how)
 	return LIKELY(s) ? lock_by_seat(m, s, how) : lock_by_any(m, how);
 }
 
-/* Its callers look at no error, so it ends the program. */
+/* Callers of ww_mutex_lock without a context look at no error, so an error ends the program. */
 int ww_mutex_lock_alone_(struct ww_mutex *m)
 {
 	int r = lock_alone(m, &waits_on);
@@ -325,8 +333,8 @@ int ww_mutex_lock_interruptible(struct ww_mutex *m, struct ww_acquire_ctx *x) { 
 /* ---- trylocks ---- */
 
 /*
- * Waits for no seat, and uses none for a mutex that somebody holds: seats may be few.  What the mutex says of a holder is a
- * hint, since a copy of it may have been unlocked; so a look at its lock follows.
+ * A trylock without a context waits for no seat, and uses none for a mutex that somebody holds, since seats may be few. The holder
+ * that the mutex names is only a hint, since a copy of the mutex may have been unlocked; so a look at its lock follows.
  */
 static int try_alone(struct ww_mutex *m)
 {
@@ -339,13 +347,13 @@ static int try_alone(struct ww_mutex *m)
 	return !lock_by_seat(m, s, &tries_once);
 }
 
-/* A context that got -EDEADLK may try, once it holds nothing; then it doesn't first wait for the contended mutex. */
+/* A context that got -EDEADLK may make a trylock once it holds nothing, and doesn't wait for the contended mutex first. */
 int ww_try_by(struct ww_mutex *m, struct ww_acquire_ctx *x)
 {
 	int r;
 
 	draw_age_by_hand(x);
-	r = ww_try_(&x->own->handle, m->number);
+	r = ww_debug_forbids(x, m->number) ? -EINVAL : ww_try_(&x->own->handle, m->number);
 	if (r)
 		return r == -EALREADY && ww_accept_held(x, m, false) ? 0 : r;
 	note_holder(m, x, NULL);
@@ -353,7 +361,10 @@ int ww_try_by(struct ww_mutex *m, struct ww_acquire_ctx *x)
 	return is_loop(x) ? ww_result_in_loop(m, x, 0) : 0;
 }
 
-/* Amid a poll a context may acquire nothing. */
+/*
+ * What a trylock returns if the checks before it returned r. A context that waits by a poll (-EBUSY) may acquire nothing, so its
+ * trylock returns 0.
+ */
 static int try_admitted(struct ww_mutex *m, struct ww_acquire_ctx *x, int r)
 {
 	return r ? r == -EBUSY ? 0 : r : x ? !ww_try_by(m, x) : try_alone(m);
@@ -382,7 +393,7 @@ COLD static int unlock_alone_on(ww_seat *s, int r)
 {
 	r = ww_release_on(s, r);
 	if (!r) {
-		s->ages = 0; /* without a context it has none */
+		s->ages = 0; /* a seat without a context has no age */
 		give_seat(s);
 	}
 	return r;
@@ -434,7 +445,7 @@ void ww_mutex_unlock(struct ww_mutex *m) { end_unless_unlocked(m, ww_mutex_unloc
 
 void ww_mutex_unlock_else_(struct ww_mutex *m) { end_unless_unlocked(m, unlock_alone(m)); }
 
-/* In a loop the first step did nothing, so the mutex is still held. */
+/* In a loop the first step was made by the empty handle, and so did nothing: the mutex is still held. */
 void ww_mutex_unlock_further_(struct ww_mutex *m, struct ww_acquire_ctx *x, int r)
 {
 	if (LIKELY(is_loop(x))) {

@@ -1,11 +1,14 @@
 /*
- * used.c - who still uses a mutex that goes, which contexts may share, or which is known by its number.  A number whose
- * mutex is gone while somebody uses it still is left: whoever finds no other number looks whether nobody does by then.
+ * used.c - who still uses a mutex that the program destroys, if the mutex is shared or known by its number. If somebody still uses
+ * it, its number is left: a thread that later finds no free number looks whether anybody still uses a number that was left.
  */
 #define _GNU_SOURCE
 #include "used.h"
 
-/* Whether a context reads it, by a slot with one of these bits: its seat has the slot, and there is a read, so the mark is from that. */
+/*
+ * Whether a context reads the mutex of this number by a slot with one of these bits. If the slot's own seat has the slot, and the
+ * slot counts a read that hasn't ended, then a mark in the slot isn't from before.
+ */
 bool ww_is_read_by(struct ww_pool *p, uint32_t number, uint64_t bits)
 {
 	for (; bits; bits &= bits - 1) {
@@ -24,32 +27,30 @@ bool ww_is_read_by(struct ww_pool *p, uint32_t number, uint64_t bits)
 }
 
 /*
- * The spare seat has the mutex meanwhile, so between two looks no holder becomes a reader, and no reader a holder.  What is
- * read by a bit that is gone with its mutex has a mark still.
+ * The spare seat has the mutex's lock during the looks, so that between them no holder becomes a reader, and no reader a holder. If
+ * the mutex's memory is gone, and the bits of its readers with it, each slot is looked at, since a read still has its mark.
  */
-bool ww_has_users(struct ww_numbers *n, uint32_t number, const void *of)
+bool ww_has_users(struct ww_numbers *n, uint32_t number, const void *mutex)
 {
-	const struct ww_shared_mutex *m = of;
+	const struct ww_shared_mutex *m = mutex;
 	struct ww_pool *p = (struct ww_pool *)((char *)n - offsetof(struct ww_pool, numbers));
 	ww_seat *spare = spare_of(p);
 	struct ww_waker waker = { 0 };
-	uint64_t word = owner_word(p, number);
-	bool is;
+	bool is_used;
 
-	/* Another call that looks whether somebody uses the mutex is no user. */
-	if (word && owner_of_word(word) != place_among(spare))
+	if (owner_word(p, number))
 		return true;
 	pthread_mutex_lock(&p->spare);
-	is = ww_try_(&spare->handle, number);
-	if (!is) {
-		is = (m && __atomic_load_n(&m->mutex_.waiters, __ATOMIC_SEQ_CST) & ~(IS_TAKEN | IS_OF_NUMBER)) ||
-		     ww_is_read_by(p, number, m ? __atomic_load_n(&m->readers_, __ATOMIC_SEQ_CST) : UINT64_MAX);
+	is_used = ww_try_(&spare->handle, number);
+	if (!is_used) {
+		is_used = (m && __atomic_load_n(&m->mutex_.waiters, __ATOMIC_SEQ_CST) & ~(IS_TAKEN | IS_OF_NUMBER)) ||
+			  ww_is_read_by(p, number, m ? __atomic_load_n(&m->readers_, __ATOMIC_SEQ_CST) : UINT64_MAX);
 		waker = ww_give_back(spare, number);
 	}
 	pthread_mutex_unlock(&p->spare);
 	call_waker(waker);
-	__tsan_acquire((void *)(uintptr_t)of);
-	return is;
+	__tsan_acquire((void *)(uintptr_t)mutex);
+	return is_used;
 }
 
 void ww_leave_number(struct ww_numbers *n, uint32_t number) { ww_leave_used(n, number, ww_has_users); }

@@ -1,4 +1,4 @@
-/* used.h - who still uses a mutex that goes: see used.c.  It isn't installed. */
+/* used.h - who still uses a mutex that the program destroys: see used.c. It isn't installed. */
 #ifndef WW_USED_H
 #define WW_USED_H
 #include "lock.h"
@@ -6,12 +6,9 @@
 
 /* Whether a context reads the mutex of this number by a slot with one of these bits. */
 WW_HIDDEN bool ww_is_read_by(struct ww_pool *p, uint32_t number, uint64_t bits);
-/*
- * Whether somebody has the mutex of this number, a struct ww_shared_mutex or a slot's, waits for it or reads it.  NULL:
- * its memory is gone.
- */
+/* Whether somebody has the mutex of this number, waits for it or reads it: a struct ww_shared_mutex, or NULL if its memory is gone. */
 WW_HIDDEN bool ww_has_users(struct ww_numbers *n, uint32_t number, const void *m);
-/* Nobody begins anything by the number any more, and it is given once nobody uses it. */
+/* Leaves a number by which nobody begins anything any more: it is freed once nobody uses it. */
 WW_HIDDEN void ww_leave_number(struct ww_numbers *n, uint32_t number);
 
 #endif

@@ -1,49 +1,42 @@
 /*
- * wait.c - the waiting that the proved library leaves to its caller: a thread tries again while it is awake
- * (ww_try_awake), makes the further steps of a call (ww_go_on), and sleeps; a task leaves its waker in place of that.
- * Each step is made by a seat, which is what the proved library knows of a thread.  A guard is that library's lock of one
- * mutex's wait list: the seat that is inside leaves after a few steps.
+ * wait.c - the waiting that the proved library leaves to its caller: a thread tries again while it is awake (ww_try_awake), makes
+ * the further steps of a call (ww_go_on), and sleeps; a task leaves its waker instead of sleeping. Each step is made by a seat,
+ * which is what the proved library knows of a thread. A guard is the proved library's lock of one mutex's wait list; the seat that
+ * is inside a guard leaves it after a few steps.
  */
 #define _GNU_SOURCE
 #include "wait.h"
 
 /*
- * How long a call stays awake.  Who waits for longer than a sleep and a wake-up take had better have slept, and who
- * sleeps at once pays at most twice: A_SLEEP is about that long where threads outnumber processors, so that these don't
- * sleep deeply, and ALONE where each thread has one of its own, which sleeps while its thread does.  SHORTEST is the
- * least part of it that shows whether waits have become short again.  Times are in nanoseconds; in the search of
- * schedules there is no time for a second try.
+ * For how long a thread stays awake in a wait, in nanoseconds. If it stays awake for as long as a sleep and a wake-up take, and
+ * then sleeps, its wait costs at most twice what the better choice would have cost. A_SLEEP is about that long where threads
+ * outnumber processors, so that processors don't sleep deeply; ALONE is about that long where each thread has a processor of its
+ * own, which sleeps while its thread does. If most of a thread's last waits took longer than that, the thread stays awake only for
+ * SHORTEST, since more would mostly be in vain. In the search of schedules there is no time for a second try.
  */
 #ifndef WW_AWAKE
 #define WW_AWAKE 20000
 #endif
-enum { A_SLEEP = WW_AWAKE, ALONE = 5 * A_SLEEP, SHORTEST = A_SLEEP / 4 };
-/* A wait that takes LONGER times as long as those before it is seldom over soon; these are the last 8 or so. */
-enum { LONGER = 16, REMEMBERS = 8 };
-/* How many waits a cycle may have that is found at once. */
+enum { A_SLEEP = WW_AWAKE, ALONE = 5 * A_SLEEP, SHORTEST = A_SLEEP / 40 };
+/* The share of a thread's last waits, about REMEMBERS of them, that took too long; if all did, it is ONE_WAIT. */
+enum { REMEMBERS = 8, ONE_WAIT = 256 };
+/* How many waits a cycle may have that a thread finds before it enters the wait list. */
 enum { LONGEST_CYCLE = 8 };
-/* In what ww_look_ returns: 1 more than the number of the owner's seat. */
+/* In what ww_look_ returns, the bits that have the number of the owner's seat, plus 1. */
 enum { OWNER = WW_OLDER_ - 1 };
 
 /* ---- trying again, awake ---- */
 
-/*
- * How long this thread stays awake in a wait, by how long its last ones took: those of which a sleep would have been
- * longer.
- */
-static uint64_t time_awake(const struct ww_pool *p)
-{
-	uint64_t enough = SHORTEST + LONGER * ww_mine.usual, most = has_processors(p) ? ALONE : A_SLEEP;
-
-	return enough < most ? enough : most;
-}
+/* How long a thread may stay awake in a wait. */
+static uint64_t most_awake(const struct ww_pool *p) { return has_processors(p) ? ALONE : A_SLEEP; }
 
 struct ww_wait ww_wait_of(const ww_seat *s, const struct ww_acquire_ctx *x, const struct ww_how *how)
 {
 	uint64_t now = ww_now();
 
 	return (struct ww_wait){
-		.how = how, .from = now, .awake = how->who == THREAD ? now + time_awake(s->pool) : 0,
+		.how = how, .from = now,
+		.awake = how->who == THREAD ? now + (ww_mine.too_long > ONE_WAIT / 2 ? SHORTEST : most_awake(s->pool)) : 0,
 		.cancelled = x && how->is_interruptible ? &x->cancelled : NULL,
 	};
 }
@@ -52,14 +45,16 @@ void ww_learn_from(ww_seat *s, const struct ww_wait *wait)
 {
 	uint64_t now = ww_now(), took = now - wait->from;
 
-	ww_mine.usual += (took < ALONE ? took : 0) / REMEMBERS - ww_mine.usual / REMEMBERS;
+	s->met.waited += took;
+	ww_mine.too_long += (took < most_awake(s->pool) ? 0 : ONE_WAIT / REMEMBERS) - ww_mine.too_long / REMEMBERS;
 	ww_note_wait(s->pool, now, took);
 }
 
 static ww_seat *seat_in(const ww_seat *s, int32_t seen) { return &s->pool->seats[(seen & OWNER) - 1]; }
 
 /*
- * Whether this seat waits for the one that was seen, which waits for another, and so on, and one of them for this seat.
+ * Whether a wait of this seat for the owner that was seen would close a cycle: that owner waits for a lock, whose owner waits for
+ * another one, and so on, and this seat owns the last of these locks.
  */
 static bool is_in_cycle(ww_seat *s, int32_t seen)
 {
@@ -75,16 +70,17 @@ static bool is_in_cycle(ww_seat *s, int32_t seen)
 }
 
 /*
- * Whether more tries of the lock, of which this was seen, are of no use.  Either this context has to die, or its wait
- * is one of a cycle: in the wait list it dies, or wounds the owner.  Or nobody owns the lock, and its waiter, which was
- * woken, may have no processor yet: then this context takes it, inside the guard.
+ * Whether the seat has to enter the lock's wait list, since more tries of the lock, of which it saw `seen`, are of no use. Either
+ * this context has to die, or its wait is one of a cycle: in the wait list it dies, or wounds the owner. Or nobody owns the lock,
+ * and a waiter was woken that may have no processor yet, unless each thread is known to have one: then this context takes the lock
+ * inside the guard.
  */
 static bool has_to_queue(ww_seat *s, int32_t seen)
 {
 	int32_t ends = s->pool->class_->is_wait_die ? WW_OLDER_ : WW_YOUNGER_;
 
 	if (seen == WW_NOBODY_)
-		return is_short_of_processors(s->pool);
+		return !has_processors(s->pool);
 	return seen & OWNER && (ww_is_wounded_(&s->handle) || (seen & ends && is_in_cycle(s, seen)));
 }
 
@@ -107,8 +103,8 @@ int ww_try_awake(ww_seat *s, uint32_t lock, const struct ww_wait *wait)
 /* ---- further steps ---- */
 
 /*
- * Wakes the seats that the proved library names.  Of the six moves that crates/ww_callers asks of a driver, who calls the
- * proved library, these are `names`, and `wakes` right after each.
+ * Wakes the seats that the proved library names. Of the six moves that crates/ww_callers asks of a driver, which is the caller of
+ * the proved library, this makes `names`, and right after each of these `wakes`.
  */
 static void wake(ww_seat *s)
 {
@@ -124,7 +120,7 @@ static bool is_due(const ww_seat *s, const struct ww_wait *wait)
 	       (how->until && ww_has_come(how->until)) || (how->is_interruptible && ww_ends_waits(s->pool));
 }
 
-/* If the end of the wait is due, its next steps end it. The seat isn't inside a guard. */
+/* If the end of the wait is due, lets the next steps of the wait end it. The seat isn't inside a guard. */
 static void stop_if_due(ww_seat *s, const struct ww_wait *wait)
 {
 	if (wait && is_due(s, wait))
@@ -132,11 +128,11 @@ static void stop_if_due(ww_seat *s, const struct ww_wait *wait)
 }
 
 /*
- * After WW_AGAIN the next step comes immediately, and nothing else: the seat may be inside a guard, where it holds up
- * everybody.  A cancel that comes meanwhile ends the sleep to which these steps lead.
+ * Makes steps until the call ends, or has to sleep. After WW_AGAIN the next step comes immediately, and nothing else: the seat may
+ * be inside a guard, where it holds up all others. A cancel that comes during these steps ends the sleep to which they lead.
  *
- * Whom to wake is asked after these steps, since nobody can be due while a call pauses between them: it wasn't inside a
- * guard before, and a seat that is shut out of one has learned nothing.
+ * Which seats are to be woken is asked only after these steps. While the call pauses between them, no seat can be due to be woken
+ * by it: the call wasn't inside a guard before, and a seat that is shut out of a guard has learned nothing.
  */
 static int go_on_awake(ww_seat *s, const struct ww_wait *wait)
 {
@@ -144,7 +140,7 @@ static int go_on_awake(ww_seat *s, const struct ww_wait *wait)
 	unsigned looks = 0;
 
 	for (;;) {
-		int r = ww_go_on_(&s->handle); /* a driver's move `calls`, as each first step is */
+		int r = ww_go_on_(&s->handle); /* the move `calls` of a driver, as each first step is */
 
 		if (r == WW_AGAIN)
 			continue;
@@ -155,7 +151,7 @@ static int go_on_awake(ww_seat *s, const struct ww_wait *wait)
 	}
 }
 
-/* The thread sleeps here; or a task leaves its waker, for which this returns true: false if it was woken meanwhile. */
+/* A thread sleeps here, and this returns false. A task leaves its waker, and this returns true, unless the task was woken meanwhile. */
 static bool sleep_or_leave_waker(ww_seat *s, const struct ww_wait *wait)
 {
 	const struct ww_how *how = wait->how;

@@ -311,9 +311,10 @@ TABLE = {
     # A waiter says first that it holds the mutex, and then that it waits no more; who destroys looks the other way round.
     # Of one that is known by its number also that this is taken, which nobody asks for before.
     "waiters": {
-        "ww_end_mutex": "load sc", "ww_has_users": "load sc", "ww_shared_mutex_is_locked": "load sc", "count_waiter": "fetch_add sc, fetch_add sc",
-        "lock_by_any": "fetch_add sc, fetch_sub sc", "put_number": "load sc, fetch_and sc", "is_gone": "load sc",
-        "wait_first": "fetch_add sc, fetch_sub sc", # as who waits: see is_gone
+        "has_user": "load sc", "ww_has_users": "load sc", "ww_shared_mutex_is_locked": "load sc", "count_waiter": "fetch_add sc, fetch_add sc",
+        "lock_by_any": "fetch_add sc, fetch_sub sc", "put_number": "load sc, fetch_and sc", "ww_is_gone": "load sc",
+        "wait_first": "fetch_add sc, fetch_sub sc", # as who waits: see ww_is_gone
+        "count_at_contended": "fetch_add sc, fetch_sub sc", "await_told": "fetch_sub sc", # likewise
         "ww_number_take": "store rlx, fetch_add rel",
         "is_slot": "load rlx", # which it always is
         "is_of_number": "load rlx", # likewise
@@ -326,7 +327,7 @@ TABLE = {
         "await_readers": "load sc, fetch_and sc", "write_by": "load sc", "ww_has_users": "load sc",
         "is_vain_write": "load sc", "ww_shared_mutex_is_locked": "load sc",
     },
-    "slots": {"make_slot": "store sc", "ww_is_read_by": "load sc", "await_readers": "load sc", "is_vain_write": "load sc", "slot_at": "load sc"},
+    "slots": {"make_slot": "store sc", "ww_is_read_by": "load sc", "ww_mutex_users": "load sc", "await_readers": "load sc", "is_vain_write": "load sc", "slot_at": "load sc"},
     # What was read comes before a mark that is gone. Others than its own thread look at marks alone.
     "marks": {
         "mark": "load rlx, exchange sc", "unmark": "load rlx, store rel", "clear_marks": "store rel", "await_slot": "load sc",
@@ -334,7 +335,7 @@ TABLE = {
     },
     # Whoever sees a read sees that the marks from before it are gone.
     "reads": {
-        "take_slot": "store rlx", "add_read": "store rel", "ww_is_read_by": "load acq",
+        "take_slot": "store rlx", "add_read": "store rel", "ww_is_read_by": "load acq", "is_reading": "load acq",
         "leave_reads": "store rlx",
     },
     # All of an open class; and of a mutex the number, which its first lock may just have given it.
@@ -343,6 +344,8 @@ TABLE = {
         "ww_class_stats": "load acq", "show_class": "load acq",
         "ww_class_free": "load acq, store rel", "is_open": "load rlx", "ww_acquire_init": "load acq", "begin_by_any": "load acq", "ww_acquire_init_poll": "load acq", "ww_mutex_lock": "load acq",
         "ww_mutex_trylock": "load acq", "ww_end_mutex": "store rel", "ww_number_take": "store rel",
+        "ww_acquire_resume": "load acq",
+        "is_made": "load sc", "ww_make_seat": "store sc", # of a seat: who cancels the class says so before it looks, and who waits looks behind this
     },
     # The proved library's, of which a lock's owner sees at least what it wrote there itself. A reader looks as that library does.
     "owners": {"owner_word": "load sc", "nobody_has": "load sc"},
@@ -358,27 +361,36 @@ TABLE = {
     # The mutexes of numbers, which are empty then.
     "numbered": {"mutex_at": "load acq", "mutexes_of": "store rel"},
     "last_thread": {"ww_number_thread": "add_fetch rlx"},
+    "last_ticket": {"new_ticket": "add_fetch rlx"},
     # What the user of a seat wrote goes with busy: to its keeper, or to whoever claims it, and to whoever frees the class. It is
     # given before its giver looks for seekers.
     "busy": {
         "use_own": "load acq, store rlx", "give_seat": "load rlx, store rel", "claim": "load sc, compare_exchange sc/sc",
         "ww_return_seat": "exchange sc", "is_idle": "load acq", "is_in_use": "load rlx",
-        "return_otherwise": "exchange sc", "ww_class_stats": "load rlx",
+        "return_otherwise": "exchange sc", "ww_class_stats": "load rlx", "ww_make_seat": "store rel",
     },
+    # What the user of a seat wrote goes with the ticket to whoever takes it; who only asks for it counts contexts.
+    "ticket": {"leave": "store rel", "take_ticket": "compare_exchange ar/rlx", "is_suspended": "load rlx"},
+    "suspended": {"count_in": "fetch_add rlx, fetch_sub rlx", "count_out": "fetch_sub rlx"},
     # Who was called for a seat says first that it isn't any more, and then looks for one; whoever gives that looks the other way round.
     "called": {"note_call": "store sc", "needs_call": "load sc"},
     # Written under the lock of the queue. Who claims a seat by an older limit does what it might have done before.
     "open": {"look_at_limiter": "store sc", "open_seats": "load sc"},
+    # Written under the lock of the queue; who finds that a seat is there finds what it has.
+    "made": {"open_seats_of": "store rlx", "ww_claim_next": "store rel", "made_seats": "load acq"},
     # Hints: whoever sees them late waits for a permit without need, for a while, or begins without one.
     "at_hand": {
         "seat_at_hand": "load rlx", "ww_set_at_hand": "store rlx",
     },
     "is_crowded": {"is_crowded": "load rlx", "set_crowded": "store rlx"},
     "quiet_until": {"ww_reset_crowd": "store rlx", "ww_note_wait": "load rlx", "end_crowd": "store rlx"},
-    # Hints for who stays awake, for a while at most.
+    # Hints for who stays awake, for a while at most. Who asks who is in the way sees with a wait what its call asks for, and whose it is.
     "awaits": {
-        "begin_wait": "store rlx", "end_wait": "store rlx", "is_in_cycle": "load rlx",
+        "begin_wait": "store rel", "end_wait": "store rlx", "is_in_cycle": "load rlx", "awaited_by": "load acq",
     },
+    # Hints for who asks who is in the way, and looks behind a label whether that which led to it is still so.
+    "target": {"note_meeting": "store rlx", "note_asked": "store rlx", "asked_by": "load rlx"},
+    "label": {"forget_age": "store rlx", "ww_acquire_label": "store rlx", "user_by": "load acq"},
     # Counts for limiters.
     "given": {"return_otherwise": "store rlx", "given": "load rlx"},
     "begun": {"begin_crowd": "store rlx", "look_whether_of_use": "load rlx", "ww_await_permit": "fetch_add rlx"},
@@ -392,21 +404,19 @@ TABLE = {
         "ww_set_at_hand": "store rlx",
     },
     # Whoever gives a seat looks for seekers then; a seeker has said so before it looks for a seat.
-    "seekers": {"has_seekers": "load sc", "take_out": "fetch_sub sc", "append": "fetch_add sc", "ww_class_stats": "load rlx, load rlx"},
+    "seekers": {"has_seekers": "load sc", "take_out": "fetch_sub sc", "put_into": "fetch_add sc", "waiters_of": "load rlx, load rlx"},
     # When to look at a limiter next, which is asked again under its lock.
     "due": {
         "look_at_crowd": "store rlx", "goes_on": "load rlx", "ww_reset_crowd": "store rlx", "open_seats_of": "store rlx", "look_at_limiter": "store rlx",
         "look_if_due": "load rlx",
     },
     # Changed under the lock of numbers; whoever frees a class at 0 sees all that those wrote who had one.
-    "taken": {"find_number": "fetch_add rlx", "give": "fetch_sub rel", "taken_numbers": "load acq", "make_slot": "fetch_sub rel"},
+    "taken": {"find_number": "fetch_add rlx", "ww_give_locked": "fetch_sub rel", "taken_numbers": "load acq", "make_slot": "fetch_sub rel"},
     # How many wait for a permit, changed under the lock of the queue but by who has entered; whoever frees the class sees who does.
     "waiting": {"wait_for_permit": "fetch_add sc", "stop_waiting": "fetch_sub sc", "waiting_threads": "load sc"},
     # The seat that is handed over, and all that goes with it.
-    "calls": {
-        "ww_call_waiting": "fetch_add rlx", "wait_for_permit": "load rlx", "note_call": "store sc", "ww_task_seat": "load sc",
-    },
-    "served_": {"call_next": "store rlx", "take_out": "store rel", "ww_seek_seat": "load acq", "ww_poll_seat": "load acq"},
+    "calls": {"ww_call_waiting": "store rlx"},
+    "served_": {"put_into": "store rlx", "ww_leave_queue": "store rlx", "hand_to": "store rel", "ww_seek_seat": "load acq", "ww_poll_seat": "load acq"},
     # Counts, which order nothing; and glances of the debug library. What a waiter in its list did before is ordered by its lock.
     "sought": {"open_seats_of": "store rlx", "ww_reset_crowd": "store rlx", "ww_class_stats": "load rlx, load rlx, load rlx"},
     "waits": {"ww_class_stats": "load rlx"},
@@ -424,10 +434,15 @@ TABLE = {
     "warnings": {"ww_warn": "fetch_add rlx"},
     "stamps": {"ww_watch_begin": "add_fetch rlx"},
     "endless_waits": {"ww_wait_begins": "add_fetch rlx"},
+    "about": {"line_at": "compare_exchange rlx/rlx"},
+    "longest": {"ww_count_wait": "compare_exchange rlx/rlx"},
+    "to": {"count_up": "fetch_add rlx"},
     # Said before others use the library: what the function needs comes before it.
     "reports_to": {"ww_report_to": "store rel", "ww_report_message": "load acq"},
     "reports_data": {"ww_report_to": "store rlx", "ww_report_message": "load rlx"},
     "counted": {"count": "store rlx, load rlx"},
+    # How many there are, against a limit.
+    "entries": {"new_entry": "fetch_add rlx, fetch_sub rlx", "free_entry": "fetch_sub rlx"},
 }
 
 
@@ -439,6 +454,8 @@ LOCKS = {
     "queue": ("pthread_mutex_lock(&p->queue)", "queue is locked"),
     "numbers": ("pthread_mutex_lock(&n->lock)", "numbers are locked"),
     "slots": ("pthread_mutex_lock(&p->numbers.lock)", "slots are locked"),
+    "buckets": ("lock_bucket(", "bucket is locked"),
+    "owners": ("lock_owners(", "owners are locked"),
 }
 PLAIN = {
     # Said before the class is opened first, which the caller orders.
@@ -448,8 +465,9 @@ PLAIN = {
     "p->next": "opening: keep_memory",
     # Before others see the class; then under the lock, which a forked child has.
     # Of seekers; memory_of_pool has empty queues. One that was served, by another or by itself, reads its own.
-    "of->first": "queue: ",
-    "of->end": "queue: memory_of_pool",
+    "lines->first": "queue: ",
+    "lines->end": "queue: memory_of_pool",
+    "line->end": "queue: ",
     "me->seat_": "queue: seek ww_free_seat ww_seek_seat",
     "me->served_": "queue: ww_seek_seat",
     "me->waker_": "queue: ww_seek_seat",
@@ -457,10 +475,9 @@ PLAIN = {
     "it->served_": "queue: ",
     # In a forked child nobody else is there.
     "of->due": "queue: in_child",
-    "of->seekers": "queue: in_child",
-    "of->calls": "queue: ",
-    "of_->calls": "queue: ",
+    "lines->seekers": "queue: in_child",
     "pool->called": "queue: ",
+    "p->called": "queue: ",
     "of->limiter": "queue: ",
     "of->open": "queue: ",
     "tasks->open": "by: open_seats_of",
@@ -473,8 +490,8 @@ PLAIN = {
     # Before others see the class; and a seek's before it is in the queue.
     "of->pool": "by: memory_of_pool",
     "of->seats": "by: ",
-    "threads->seats": "by: fill_seats",
-    "tasks->seats": "by: fill_seats",
+    "threads->seats": "by: make_first_seats",
+    "tasks->seats": "by: make_first_seats",
     "of->count": "by: ",
     "threads->count": "by: open_seats_of",
     "tasks->count": "by: open_seats_of",
@@ -485,6 +502,11 @@ PLAIN = {
     "crowd->quiet_until": "by: in_child",
     "crowd->permits": "queue: ww_reset_crowd",
     "crowd->quiet": "queue: ww_reset_crowd",
+    "crowd->first": "queue: ww_reset_crowd",
+    "crowd->end": "queue: ww_reset_crowd",
+    "it->calls": "queue: ",
+    "me->calls": "queue: ",
+    "me->next": "queue: ",
     "crowd->since": "queue: ",
     "crowd->sought": "queue: ",
     "crowd->held": "queue: ",
@@ -496,16 +518,15 @@ PLAIN = {
     "p->seats": "by: make_pool",
     "p->class_": "by: make_pool",
     "pool->class_": "by: ",
-    "s->pool": "by: fill_seats",
-    "s->of": "by: fill_seats",
+    "s->pool": "by: ",
+    "s->of": "by: ww_make_seat",
     # Whoever has a seat of the class reads `id`, so it isn't freed.
     "p->id": "by: ",
     "tasks->id": "by: in_child make_pool",
     "p->copy": "by: memory_of_pool",
     "p->own_seats": "by: make_pool",
     "p->is_crowded": "by: in_child",
-    "p->before_own": "by: fill_seats",
-    "s->busy": "by: fill_seats",
+    "p->before_own": "by: make_first_seats",
     "n->mutexes": "by: ww_open_numbers",
     "p->gone": "by: in_child",
     "p->numbered": "by: free_pool",
@@ -532,19 +553,42 @@ PLAIN = {
     "s->slot": "by: make_slot",
     "x->own": "by: ",
     "x->puts": "by: lock_ends",
+    # By the user of a seat.
+    "s->told": "by: lock_ends",
+    "s->puts": "by: ww_acquire_suspend",
     # By the context's own thread, and of a class before others see it, or in a forked child.
     "x->pool": "by: ww_become begin_core draw_age_by_hand let_be_older no_more of_seat",
     # By the user of a seat, and by its keeper, or whoever frees the class, once nobody uses it: all that goes with `busy`.
-    "s->ages": "by: note_meeting leave_age share_age stop_rest unlock_alone_on ww_acquire_fini_checked",
+    "s->ages": "by: note_meeting leave_age share_age forget_age unlock_alone_on",
+    "s->waits": "by: ",
+    "s->back_offs": "by: ",
+    "met->waits": "by: note_meeting",
+    "met->back_offs": "by: note_meeting",
+    "of->set_aside": "queue: ",
     "n->low": "numbers: ww_open_numbers",
     "n->taken": "numbers: ",
     "n->left": "numbers: ww_open_numbers",
-    "n->used": "numbers: line_from used_of ww_close_numbers ww_open_numbers",
+    "n->used": "numbers: bytes_of_bits line_from used_of ww_close_numbers ww_open_numbers",
     "n->lies_at": "by: ww_open_numbers",
     "n->puts": "by: ww_open_numbers",
+    # Of a table. What is read without the lock the use's own context wrote.
+    "b->root": "buckets: ww_table_see",
+    "e->uses": "buckets: ",
+    "e->ways": "buckets: ww_table_close",
+    "u->next": "buckets: ww_table_close",
+    "u->before": "buckets: ",
+    "e->is_dead": "buckets: ",
+    "of->is_dead": "buckets: ",
+    "had->is_written": "buckets: ",
+    "u->is_waiting": "buckets: ",
+    "u->is_written": "buckets: release",
+    "u->is_read": "buckets: release",
+    "b->joined": "owners: ",
+    "s->other": "owners: ww_table_close",
+    "s->has_left": "owners: ww_table_close",
 }
 # What a thread has for itself, or its caller locks, under names of fields that others share; and names under which others stand for the same.
-OWN = ["limiter", "permit", "had", "wait", "waker", "front", "f", "ww_mine", "kept", "counts", "s->seat", "s->id", "last"]
+OWN = ["h", "limiter", "permit", "had", "wait", "waker", "front", "f", "ww_mine", "kept", "counts", "s->seat", "s->id", "last"]
 SAME = {"lock": "m", "owed": "m", "older": "m", "ctx": "x", "victim": "s", "by": "s", "own": "s", "seat": "s", "seats": "s"}
 
 
@@ -660,7 +704,7 @@ def untold(folder):
     with open(os.path.join(folder, "admit/class.h"), encoding="utf-8") as file:
         rows = [re.split(r"\t+", line[3:].rstrip()) for line in file.read().partition("*/")[0].split("\n") if line.startswith(" *\t")]
     programs = set()
-    for name in ("programs", "shared"):
+    for name in ("programs", "shared", "table"):
         with open(os.path.join(folder, f"tests/search/{name}.c"), encoding="utf-8") as file:
             programs |= set(re.findall(r'^\t\{ "([\w-]+)", \{', file.read(), re.MULTILINE))
     due, told = shared_words(folder), {word for row in rows[1:] for word in row[0].split()}
@@ -845,6 +889,22 @@ def given(gives):
     )
 
 
+def made(counts, looks):
+    """A seat is made, and another thread claims it."""
+    return (
+        [[W("handle", 1), W("made", 1, counts)], [R("m", "made", looks), IF("m", 1, X("b", "busy", swap(0, 1), "sc"), IF("b", 0, R("h", "handle")))]],
+        lambda r, f: r[1].get("h") == 0,
+    )
+
+
+def cancelled(makes, looks):
+    """A seat is made, by which its user waits, against whoever cancels the class."""
+    return (
+        [[W("pool", 1, makes), R("e", "ends", "sc")], [W("ends", 1, "sc"), R("p", "pool", looks)]],
+        lambda r, f: r[0]["e"] == 0 and r[1]["p"] == 0,
+    )
+
+
 def waited(begins):
     """Whoever waited for a permit uses a seat, against whoever frees the class."""
     return (
@@ -960,6 +1020,10 @@ def wrong():
     yield "a seat that anybody may use is given relaxed", anybodys("rlx", "sc")
     yield "an own seat is given relaxed", own("rlx", "acq")
     yield "a thread looks relaxed at its own seat", own("rel", "rlx")
+    yield "a seat counts relaxed as made", made("rlx", "acq")
+    yield "who claims a seat looks relaxed which ones were made", made("rel", "rlx")
+    yield "a seat is made by a release", cancelled("rel", "sc")
+    yield "who cancels a class looks by an acquire which seats were made", cancelled("sc", "acq")
     yield "a number is put back relaxed", given("rlx")
     yield "whoever stood in the line says relaxed that it begins", waited("rlx")
     yield "a reader marks by a release", share("rel", "sc", "sc")
@@ -1006,6 +1070,8 @@ def ours():
         [X("t", "other", put(0), "ar"), W("there", 2)],
         [R("b", "busy", "acq"), R("o", "other", "acq"), IF("b", 0, IF("o", 0, R("h", "handle"), W("handle", 9)))],
     ], lambda r, f: r[2].get("h") == 0, {"busy": 1, "other": 1}
+    yield "a seat is made, and another thread claims it", *made("rel", "acq")
+    yield "a seat is made while the class is cancelled", *cancelled("sc", "sc")
     yield "a class is freed once all numbers are put back", *given("rel")
     yield "a class isn't freed while who stood in the line begins", *waited("rel")
     yield "a seat of a world goes from user to user", [

@@ -19,6 +19,21 @@
 
 static inline unsigned next(unsigned *x) { return (*x = *x * 1664525u + 1013904223u) >> 8; }
 
+/* A world with all its seats, each in a handle that was empty; or the first error, after which all of these are empty. */
+static inline int open_all(uint32_t kind, uint32_t locks, uint64_t left, ww_handle *seats, uint16_t count)
+{
+	ww_world world = { 0 };
+	int r = ww_open_world_(kind, locks, left, count, &world);
+	uint16_t made = 0;
+
+	while (!r && made < count && !(r = ww_open_seat_(&world, made, &seats[made])))
+		made++;
+	ww_close_world_(&world);
+	while (r && made)
+		MUST(!ww_close_(&seats[--made]));
+	return r;
+}
+
 /* The next step of a call, which wakes nobody. */
 static inline int turn(ww_handle *h)
 {

@@ -26,11 +26,13 @@ WRAPS_forks = ww_go_on_
 WRAPS_leaks = clock_gettime
 WRAPS_memory = mmap munmap madvise
 WRAPS_naps = ww_go_on_
-WRAPS_permits = syscall
+WRAPS_permits = clock_gettime pthread_mutex_lock syscall
+WRAPS_poll_calls = clock_gettime
 WRAPS_processors = sched_getaffinity
 WRAPS_queue = pthread_mutex_lock
 WRAPS_refuse_class = aligned_alloc calloc free mmap munmap pthread_key_create pthread_key_delete pthread_atfork
 WRAPS_steps = ww_go_on_ ww_next_wake_ ww_look_ ww_cancel_ pthread_mutex_lock syscall
+WRAPS_table_calls = calloc free malloc mmap munmap
 WRAPS_turns = pthread_mutex_lock pthread_mutex_unlock
 WRAPS_poll_wakers = syscall pthread_mutex_unlock
 WRAPS_warnings = ww_go_on_ clock_gettime
@@ -51,15 +53,20 @@ WORDS_many_shaken = 100 5
 WORDS_torture_shaken = 400
 WORDS_moves_shaken = 100
 WORDS_drawn_calls_debug = 3
+WORDS_table_any_sanitized = 4000
+WORDS_table_any_threads = 1000
 WORDS_crowd_threads = 1000
 WORDS_copies = $(abspath $(OUT)/closable.so $(OUT)/libww.so)
 WORDS_closed = $(abspath $(OUT))/closable.so 1500
 
 # What a run has to show besides that it ends with 0. The debug library tells a program that isn't compiled for it so once, and says
-# nothing of where it acquired a mutex. It reports each line that is wrong, and no other. The thread sanitizer finds race.c wrong.
+# nothing of where it acquired a mutex. It reports each line that is wrong, and no other, and how to name calls only if none has a
+# name. The thread sanitizer finds race.c wrong.
+ASKS_examples/demo = && grep -qE '^pthread_mutex: deadlocked after [0-9]+ transfers$$' $(LOG) && \
+	grep -qE '^ww_mutex: 400000 transfers, [1-9][0-9]* deadlocks avoided$$' $(LOG)
 ASKS_closed = && $(LIMITED) $(OUT)/closed $(abspath $(OUT))/libww.so 1500
 ASKS_many_unseen = >/dev/null && test "$$(grep -v '\[0x\|\[link' $(LOG) | grep -c .)" = 1 && grep -q 'compiled with -DWW_DEBUG' $(LOG)
-ASKS_line = && sed -n 's/^.*line.cpp:\([0-9]*\): .*/\1/p' $(LOG) | uniq >$@.told && \
+ASKS_line = && ! grep -q '^\[link' $(LOG) && sed -n 's/^.*line.cpp:\([0-9]*\): .*/\1/p' $(LOG) | uniq >$@.told && \
 	grep -n 'wrong$$' tests/debug/line.cpp | sed 's/:.*//' | cmp - $@.told
 ASKS_race_threads = ; test $$? -eq 66 && grep -q 'data race .* in work' $(LOG)
 
@@ -112,15 +119,15 @@ $(OUT)/%_threads: %.c $(TESTED) $(call made_for,threads)
 	$(call compiled,$(FLAGS_threads))
 $(OUT)/%_shaken: %.c $(TESTED) tests/shake.c $(call made_for,shaken)
 	$(call compiled,$(FLAGS_shaken))
-$(OUT)/%: tests/debug/%.cpp include/ww_mutex.hpp $(TESTED) $(OUT)/libww_debug.a
+$(OUT)/%: tests/debug/%.cpp $(IN_CXX_HEADERS) $(TESTED) $(OUT)/libww_debug.a
 	$(call compiled_cxx,-DWW_DEBUG)
-$(OUT)/%: %.cpp include/ww_mutex.hpp $(TESTED) $(OUT)/libww.a
+$(OUT)/%: %.cpp $(IN_CXX_HEADERS) $(TESTED) $(OUT)/libww.a
 	$(call compiled_cxx)
-$(OUT)/%_cpp: %.cpp include/ww_mutex.hpp $(TESTED) $(OUT)/libww.a
+$(OUT)/%_cpp: %.cpp $(IN_CXX_HEADERS) $(TESTED) $(OUT)/libww.a
 	$(call compiled_cxx)
-$(OUT)/%_sanitized: %.cpp include/ww_mutex.hpp $(TESTED) $(call made_for,sanitized)
+$(OUT)/%_sanitized: %.cpp $(IN_CXX_HEADERS) $(TESTED) $(call made_for,sanitized)
 	$(call compiled_cxx,$(FLAGS_sanitized))
-$(OUT)/%_threads: %.cpp include/ww_mutex.hpp $(TESTED) $(call made_for,threads)
+$(OUT)/%_threads: %.cpp $(IN_CXX_HEADERS) $(TESTED) $(call made_for,threads)
 	$(call compiled_cxx,$(FLAGS_threads))
 
 # As code of the kernel.
@@ -136,7 +143,9 @@ $(OUT)/heap.so: tests/base/heap.c
 $(OUT)/poll_calls_unoptimized: BY_CALLS = -O0
 $(OUT)/poll_calls_not_inlined: BY_CALLS = -DWW_NO_INLINE
 $(OUT)/poll_calls_unoptimized $(OUT)/poll_calls_not_inlined: tests/doors/poll_calls.c $(TESTED) $(OUT)/libww.a
-	$(call compiled,$(BY_CALLS))
+	$(call compiled,$(BY_CALLS) $(WRAPS_poll_calls:%=-Wl,--wrap=%))
+# The calls of this program have names in a backtrace.
+$(OUT)/line: LDFLAGS += -rdynamic
 # Over the debug library, but not compiled for it.
 $(OUT)/many_unseen: tests/whole/many.c $(TESTED) $(OUT)/libww_debug.a
 	$(call compiled)
@@ -160,7 +169,8 @@ tests:
 		esac; done; \
 	done
 
-# The thread sanitizer doesn't know what orders the accesses of abuse.c and wide.c, which call the proved library by themselves.
+# The thread sanitizer doesn't know what orders the accesses of abuse.c and wide.c, which call the proved library by themselves; and
+# the plain mutexes of the example demo deadlock on purpose.
 export TSAN_OPTIONS = suppressions=tests/library.supp
 one: $(OUT)/$(T)
 	$(RUN) $(OUT)/$(T) $(WORDS_$(T))
@@ -168,13 +178,13 @@ one: $(OUT)/$(T)
 # All that needs no sanitizer and no Python, as programs of another processor too: without those in C++ where its compiler isn't here.
 HERE = $(filter-out $(if $(shell command -v $(CXX)),,$(IN_CXX)),$(PLAIN))
 SANITIZED = $(patsubst %,%_sanitized,$(TESTS) $(DEBUG_TESTS) examples/paths examples/mesh)
-THREADED = $(patsubst %,%_threads,$(filter-out abuse wide,$(TESTS)) hpp $(filter-out examples/port examples/asleep,$(EXAMPLES)) examples/mesh race)
+THREADED = $(patsubst %,%_threads,$(filter-out abuse wide,$(TESTS)) hpp tables $(filter-out $(patsubst %,examples/%,port asleep demo),$(EXAMPLES)) examples/mesh race)
 # Storms whose atomic accesses come behind drawn pauses (tests/shake.h); and what the debug library tells of each wrong argument, of
 # mutexes by their numbers, of tasks and of readers, and of drawn calls.
 SHAKEN = $(patsubst %,%_shaken,any seats torture pool many moves shared_storm)
 TOLD = $(patsubst %,%_debug,number_calls poll_calls shared_calls wrong_arguments drawn_calls) many_unseen line
 # A model of who waits for a context, which reaches no state in which one is forgotten; and Python's objects and tasks.
-IN_PYTHON = $(patsubst %,%.py,tests/admit/seats_model $(patsubst %,tests/whole/%,mutexes interrupts locks tasks wrong_cpp typed) examples/objects examples/trips)
+IN_PYTHON = $(patsubst %,%.py,tests/admit/seats_model $(patsubst %,tests/whole/%,mutexes interrupts keys locks tasks wrong_cpp typed) examples/objects examples/trips examples/retries)
 # In half a minute: the tests of calls and of the tables at the heads of sources, and the search without a preemption.
 SOON = limiter permits calls ends ages loop steps number_calls poll_calls shared_calls shared_slots drivers wrong_arguments misuse
 
@@ -209,10 +219,13 @@ check-tables:
 	$(or $(call without,python3,the tables),$(call told,for it in tests/memory_order.py 'tests/search/kills -a' \
 		$(wildcard ../checks/check_layers ../checks/check_prototypes); do $(LIMITED) python3 $$it || exit 1; done))
 
-# What the debug library tells of who waits, as a picture.
+# What the debug library tells of who waits, as a picture: with its threads numbered as they come, and without the numbers of lines.
+NUMBERED = awk '{ gsub(/[.]c:[0-9]+/, ".c"); said = ""; \
+	while (match($$0, /thread [0-9]+/)) { it = substr($$0, RSTART, RLENGTH); if (!(it in of)) of[it] = "thread " ++n; \
+		said = said substr($$0, 1, RSTART - 1) of[it]; $$0 = substr($$0, RSTART + RLENGTH) } print said $$0 }'
 check-picture: $(OUT)/misuse
-	$(if $(wildcard ../tools/picture),$(call told,$(LIMITED) $(OUT)/misuse waits 2>/dev/null | ../tools/picture --text | cmp - tests/debug/waits.text && \
-		../tools/picture --text <tests/debug/deadlock.said | cmp - tests/debug/deadlock.text))
+	$(if $(wildcard ../tools/picture),$(call told,$(LIMITED) $(OUT)/misuse waits 2>/dev/null | $(NUMBERED) | ../tools/picture | cmp - tests/debug/waits.text && \
+		../tools/picture <tests/debug/deadlock.said | cmp - tests/debug/deadlock.text))
 
 # The compiler has left in what only fetches ahead. The libraries wait by futexes, and by no call at which a thread ends that
 # pthread_cancel told to. And where SystemTap's header is here, the probes are there.
@@ -230,14 +243,15 @@ check-objects: $(OBJECTS) $(DEBUG_OBJECTS) $(OUT)/libww.so
 # The search takes gcc's calls of the thread sanitizer, and switches threads as x86_64 does.
 SEARCHES := $(if $(CROSS),,$(if $(filter x86_64,$(PROCESSOR)),$(shell $(CC) -dM -E -x c /dev/null | grep -q __clang__ || echo yes)))
 SEARCH = $(OUT)/interleave
-SEARCH_FLAGS = -std=c11 -O1 -g $(WARNINGS) $(CPPFLAGS) -DWW_PATIENCE=0 -DWW_LARGE=1 -DWW_FEW=2 -DWW_AWAKE=1 -DWW_LOOKS=il_looks -DWW_MARK_LOOKS=il_looks -DWW_BITS=il_bits \
+SEARCH_FLAGS = -std=c11 -O1 -g $(WARNINGS) $(CPPFLAGS) -DWW_PATIENCE=0 -DWW_LARGE=1 -DWW_FEW=2 -DWW_AWAKE=0 -DWW_LOOKS=il_looks -DWW_MARK_LOOKS=il_looks -DWW_BITS=il_bits -DWW_BUCKETS=1 \
 	-Iinclude -I. -Itests/search -D_GNU_SOURCE= -include interleave.h
 SEARCH_OBJECTS = $(SOURCES:%.c=$(SEARCH)/%.o) $(SEARCH)/programs.o
 SEARCH_DEBUG_OBJECTS = $(DEBUGGED:%.c=$(SEARCH)/debug/%.o) $(SEARCH)/debug/programs.o
-# The programs of shared mutexes, and those of the library's other calls.
+# The programs of shared mutexes, those of tables, and those of the library's other calls.
 SEARCH_SHARED_OBJECTS = $(SEARCH_OBJECTS:%/programs.o=%/shared.o)
-SEARCH_HEADERS = tests/search/interleave.h $(WITHIN)
-STEPS = lock_ lock_slow_ try_ unlock_ go_on_ look_ is_wounded_ cancel_ heed_ begin_ end_ is_free_ has_ next_wake_ close_
+SEARCH_TABLE_OBJECTS = $(SEARCH_OBJECTS:%/programs.o=%/table.o)
+SEARCH_HEADERS = tests/search/interleave.h tests/search/made.h $(WITHIN)
+STEPS = lock_ lock_slow_ try_ unlock_ go_on_ look_ is_wounded_ cancel_ heed_ begin_ end_ is_free_ has_ next_wake_ open_seat_ close_
 SEARCH_WRAPS = malloc calloc aligned_alloc free abort syscall sched_yield clock_gettime pthread_mutex_lock \
 	pthread_mutex_trylock pthread_mutex_unlock pthread_key_create pthread_key_delete pthread_setspecific pthread_atfork \
 	backtrace backtrace_symbols_fd getrusage ww_await_guard $(STEPS:%=ww_%)
@@ -259,7 +273,7 @@ $(SEARCH)/%.o: %.c $(SEARCH_HEADERS)
 $(SEARCH)/debug/%.o: %.c $(SEARCH_HEADERS)
 	$(SEARCHED)
 $(SEARCH)/base/sleep.o $(SEARCH)/debug/base/sleep.o: EACH = s/__builtin_ia32_pause\(\)/il_pause()/
-$(foreach it,doors/shared admit/class,$(SEARCH)/$(it).o $(SEARCH)/debug/$(it).o): EACH = s/\<(mmap|munmap) ?\(/il_\1(/
+$(foreach it,doors/shared admit/class base/process,$(SEARCH)/$(it).o $(SEARCH)/debug/$(it).o): EACH = s/\<(mmap|munmap) ?\(/il_\1(/
 $(SEARCH_DEBUG_OBJECTS): SEARCH_FLAGS += -DWW_DEBUG
 # Each atomic access there stands between two empty pieces of inline assembly.
 $(SEARCH)/core.o: core/$(PROCESSOR).s
@@ -271,7 +285,7 @@ $(SEARCH_OWN): $(SEARCH)/%.o: tests/search/%.c tests/search/inside.h $(SEARCH_HE
 	@mkdir -p $(@D)
 	$(CC) $(SEARCH_FLAGS) -O2 -c $< -o $@
 # What the library calls of the runtime comes by a stub for each (entry.S), under the name by which the library knows it.
-ENTERED = __tsan_(atomic|read|write)\w+|__wrap_\w+|il_(new|gone|await|set|yield|pause|late|position|reads|writes|hall|mmap|munmap)
+ENTERED = __tsan_(atomic|read|write)\w+|__wrap_\w+|il_(new|gone|await|set|yield|pause|late|position|reads|reads_no_more|writes|hall|mmap|munmap)
 $(SEARCH)/stubs.o: $(SEARCH)/runtime.o tests/search/entry.S
 	@mkdir -p $(@D)
 	{ cat tests/search/entry.S && echo .text && $(NM) $< | sed -nE 's/.* T by_stub_//p' | sort -u | \
@@ -283,7 +297,8 @@ $(SEARCH)/runtime.o: $(SEARCH_OWN)
 $(SEARCH)/interleave: $(SEARCH_OBJECTS)
 $(SEARCH)/interleave_debug: $(SEARCH_DEBUG_OBJECTS)
 $(SEARCH)/interleave_shared: $(SEARCH_SHARED_OBJECTS)
-$(SEARCH)/interleave $(SEARCH)/interleave_shared $(SEARCH)/interleave_debug: $(SEARCH)/runtime.o $(SEARCH)/stubs.o core/heap.c $(SEARCH)/core.o
+$(SEARCH)/interleave_table: $(SEARCH_TABLE_OBJECTS)
+$(SEARCH)/interleave $(SEARCH)/interleave_shared $(SEARCH)/interleave_table $(SEARCH)/interleave_debug: $(SEARCH)/runtime.o $(SEARCH)/stubs.o core/heap.c $(SEARCH)/core.o
 	$(CC) $(SEARCH_FLAGS) -no-pie $^ $(SEARCH_WRAPS:%=-Wl,--wrap=%) -pthread -o $@
 
 # Whether they find what is wrong: edits of the sources, each of which has to be found. It takes some minutes.
@@ -294,19 +309,19 @@ check-mutants:
 # tells of right calls is of no interest here.
 PARTS = 1 2 3 4
 searches = $(foreach it,$(1),$(PARTS:%=$(SEARCH)/$(it).%.ran))
-ALL_SEARCHES = $(call searches,interleave interleave_shared interleave_debug)
+ALL_SEARCHES = $(call searches,interleave interleave_shared interleave_table interleave_debug)
 .SECONDEXPANSION:
 $(ALL_SEARCHES): $$(basename $$(basename $$@))
 	$(call told,ulimit -t 900 && $< $(BOUND) -p $(patsubst .%,%,$(suffix $(basename $@)))/$(words $(PARTS)) $(STRAY))
 	@tail -n 1 $(LOG)
-check-interleave: $(if $(SEARCHES),$(call searches,interleave interleave_shared))
+check-interleave: $(if $(SEARCHES),$(call searches,interleave interleave_shared interleave_table))
 	@$(if $(SEARCHES)$(CROSS),true,$(call pass_over,the search of schedules,it takes gcc on x86_64))
 check-interleave-debug: BOUND = -b 1
 check-interleave-debug: STRAY = 2>/dev/null
 check-interleave-debug: $(if $(SEARCHES),$(call searches,interleave_debug))
 # Whether some program of the search runs each function that is public or has an atomic access.
 check: check-reached
-check-reached: $(if $(SEARCHES),$(SEARCH)/interleave $(SEARCH)/interleave_shared)
+check-reached: $(if $(SEARCHES),$(SEARCH)/interleave $(SEARCH)/interleave_shared $(SEARCH)/interleave_table)
 	$(if $(SEARCHES),$(or $(call without,gdb,which functions the search reaches),$(call told,$(LIMITED) python3 tests/search/reached $^)))
 # As a failure says: make -C c replay-interleave_shared IT='-f FLAGS -s SCHEDULE PROGRAM'
 replay-%: $(SEARCH)/%

@@ -6,6 +6,7 @@
 #include <__fc_builtin.h>
 #define ww_likely_ in_128_bits
 #include "base/numbers.h"
+#include <stdlib.h>
 #undef ww_likely_
 
 /* As in ww_mutex_inline.h, whose product has 128 bits: the lower half of `span` is 0. */
@@ -37,6 +38,13 @@ static uint64_t take_out(uint64_t *p)
 	return was;
 }
 #include "base/numbers.c"
+
+void *ww_take_zeros(size_t size) { return calloc(1, size); }
+void ww_return_zeros(void *at, size_t size)
+{
+	(void)size;
+	free(at);
+}
 
 static bool is_used_or_not(struct ww_numbers *n, uint32_t number, const void *m)
 {

@@ -44,7 +44,7 @@
  * which no list would have.
  */
 /*@ requires \valid(x);
-    assigns x->pool, x->acquired, x->state, x->contending_lock, x->puts, x->newest, x->prelocked, x->cancelled, x->own->ages, listed, level, lists_owed, CORE, core_context;
+    assigns x->pool, x->acquired, x->state, x->contending_lock, x->puts, x->newest, x->prelocked, x->cancelled, x->own->ages, x->own->met, listed, level, lists_owed, CORE, core_context;
     ensures took: \result == 0 && m == the_mutex ==> core_has == 1;
     ensures others: core_has == \old(core_has) || core_has == 1;
     ensures counts: x->acquired >= \old(x->acquired) && x->acquired - \old(x->acquired) == listed - \old(listed) && (\old(is_counted(x)) ==> is_counted(x)) && (waits_with_none{Old}(x) ==> waits_with_none(x));
@@ -76,11 +76,11 @@ static inline int release_newest(struct ww_acquire_ctx *x);
 	ensures owes: !OWES(x)
 /*@ requires contended: (x->state & HAS_TO_BACK_OFF) != 0;
     requires is_user_of(x) && is_counted(x);
-    assigns x->pool, x->acquired, x->state, x->newest, x->own->ages, listed, level, lists_owed, CORE;
+    assigns x->pool, x->acquired, x->state, x->newest, x->own->ages, x->own->met, listed, level, lists_owed, CORE;
     RELEASES_LIST(x); */
 void ww_back_off_(struct ww_acquire_ctx *x);
 /*@ requires is_user_of(x) && is_counted(x) && loops(x);
-    assigns x->pool, x->acquired, x->state, x->newest, x->own->ages, listed, level, lists_owed, CORE;
+    assigns x->pool, x->acquired, x->state, x->newest, x->own->ages, x->own->met, listed, level, lists_owed, CORE;
     RELEASES_LIST(x); */
 void ww_acquire_unlock_all(struct ww_acquire_ctx *x);
 /* Without what it owes, if that is listed. */
@@ -90,11 +90,11 @@ void ww_acquire_unlock_all(struct ww_acquire_ctx *x);
 size_t ww_acquire_mark(const struct ww_acquire_ctx *x);
 
 /*@ requires is_user_of(x);
-    assigns x->newest, x->empty_[0 .. 1], x->gives, x->pool, x->own->ages;
+    assigns x->newest, x->empty_[0 .. 1], x->gives, x->pool, x->own->ages, x->own->met;
     ensures begins: loops(x) && x->newest == \null; */
 static inline void begin_list(struct ww_acquire_ctx *x, struct ww_mutex *const *locks, size_t count);
 
-#define OF_LIST(x) x->pool, x->acquired, x->state, x->contending_lock, x->puts, x->newest, x->prelocked, x->cancelled, x->own->ages, listed, level, lists_owed, CORE, \
+#define OF_LIST(x) x->pool, x->acquired, x->state, x->contending_lock, x->puts, x->newest, x->prelocked, x->cancelled, x->own->ages, x->own->met, listed, level, lists_owed, CORE, \
 	core_context
 /*@ // what holds between the lock calls of a list
     predicate goes_on(struct ww_acquire_ctx *x) = is_user_of(x) && is_counted(x) && loops(x) && waits_with_none(x) && is_known(x) &&
@@ -128,7 +128,7 @@ static int retry(struct ww_acquire_ctx *x, struct ww_mutex *const *locks, size_t
 static int lock_further(struct ww_acquire_ctx *x, struct ww_mutex *const *locks, size_t count);
 /* After a list by hand, of which an error releases all. */
 /*@ requires is_user_of(x) && is_counted(x) && loops(x);
-    assigns x->gives, x->pool, x->acquired, x->state, x->contending_lock, x->newest, x->own->ages, listed, level, lists_owed, CORE;
+    assigns x->gives, x->pool, x->acquired, x->state, x->contending_lock, x->newest, x->own->ages, x->own->met, listed, level, lists_owed, CORE;
     ensures exact: \result == r;
     ensures keeps: r == 0 ==> core_has == \old(core_has);
     ensures released: r != 0 && \old(level) > 0 ==> core_has == 0 || GONE(x);

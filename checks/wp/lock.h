@@ -4,11 +4,11 @@
  * source: lock/lock.c
  * proves: note_holder counts_for count_waiter begin_wait end_wait lock_ends wait_on ww_lock_on ww_lock_by
  *	ww_release_on unlock_by ww_unlock_of ww_owns
- * inlines: is_orphaned_by_fork enlist count note_meeting is_loop is_of_number owner_in unlock_unlisted puts_of
+ * inlines: is_orphaned_by_fork enlist count note_meeting note_asked is_loop is_of_number owner_in unlock_unlisted puts_of
  */
 #include "wait.h"
 
-#define OF_SEAT(s) s->ages, s->waits, s->back_offs, s->awaits, s->handle.mode, s->handle.below, s->token, s->armed, s->waker
+#define OF_SEAT(s) s->ages, s->met, s->waits, s->back_offs, s->awaits, s->told, s->handle.mode, s->handle.below, s->token, s->armed, s->waker
 #define OF_LOCK(m, x, s) m->ctx, m->older, m->alone, m->waiters, x->newest, x->acquired, x->contending_lock, x->puts, x->cancelled, \
 	x->state, OF_SEAT(s), ww_mine, CORE
 
@@ -67,12 +67,12 @@
 static inline void note_holder(struct ww_mutex *m, struct ww_acquire_ctx *x, ww_seat *s);
 
 /*@ requires how_apart(how, m, x, s) && is_caller(x, s) && \valid(m) && apart(m, x, s);
-    assigns m->waiters, how->asks->waiters, s->awaits, s->waits, s->ages;
+    assigns m->waiters, how->asks->waiters, s->awaits, s->waits, s->ages, s->met;
     ensures how_apart(how, m, x, s);
     ensures (m->waiters & (1 << 29)) == (\old(m->waiters) & (1 << 29)); */
 static void begin_wait(struct ww_mutex *m, struct ww_acquire_ctx *x, ww_seat *s, const struct ww_how *how);
 /*@ requires is_wait(wait) && how_apart(wait->how, m, x, s) && is_caller(x, s) && \valid(m) && apart(m, x, s) && away(wait, s);
-    assigns m->waiters, wait->how->asks->waiters, s->awaits, ww_mine;
+    assigns m->waiters, wait->how->asks->waiters, s->awaits, s->met, ww_mine;
     ensures (m->waiters & (1 << 29)) == (\old(m->waiters) & (1 << 29)); */
 static void end_wait(struct ww_mutex *m, struct ww_acquire_ctx *x, ww_seat *s, const struct ww_wait *wait, int r);
 /*@ requires \valid_read(how); assigns \nothing; */
@@ -102,30 +102,30 @@ static inline void __tsan_acquire(void *at);
 static inline void __tsan_release(void *at);
 /*@ assigns \nothing; ensures \result.how == how; */
 struct ww_wait ww_wait_of(const ww_seat *s, const struct ww_acquire_ctx *x, const struct ww_how *how);
-/*@ assigns ww_mine; */
+/*@ assigns ww_mine, s->met; */
 void ww_learn_from(ww_seat *s, const struct ww_wait *wait);
 /*@ assigns \nothing; */
 void ww_note_task_wait(const ww_seat *s);
 /*@ requires is_seat(s); assigns s->handle.mode, s->handle.below; */
 static inline void ww_make_cancel_pending(ww_seat *s);
 
-/*@ requires is_mutex(m) && is_caller(x, s) && apart(m, x, s);
+/*@ requires is_mutex(m) && is_caller(x, s) && apart(m, x, s) && how_apart(how, m, x, s);
     requires has: r == 0 ==> core_has == 1;
     requires r == -EDEADLK ==> core_context == 1 && core_told == 1 && core_told_of == m->number && core_holds > 0;
     requires r <= 0;
-    assigns m->ctx, m->older, m->alone, x->newest, x->acquired, x->contending_lock, x->puts, x->cancelled, x->state, s->back_offs;
+    assigns m->ctx, m->older, m->alone, x->newest, x->acquired, x->contending_lock, x->puts, x->cancelled, x->state, s->back_offs, s->told, s->ages, s->met;
     ensures took: took(\result);
-    ensures says: x != \null && \result == 0 && !visits ==> says{Old, Here}(m, x);
-    ensures counts: x != \null && \result == 0 && !visits ==> x->acquired == (unsigned)(\old(x->acquired) + 1);
-    ensures newest: x != \null && \result == 0 && !visits ==> newest{Old, Here}(m, x);
-    ensures older: x != \null && \result == 0 && !visits ==> older{Old, Here}(m, x);
-    ensures says_seat: x == \null && \result == 0 && !visits ==> says_seat(m, s);
+    ensures says: x != \null && \result == 0 && !how->visits ==> says{Old, Here}(m, x);
+    ensures counts: x != \null && \result == 0 && !how->visits ==> x->acquired == (unsigned)(\old(x->acquired) + 1);
+    ensures newest: x != \null && \result == 0 && !how->visits ==> newest{Old, Here}(m, x);
+    ensures older: x != \null && \result == 0 && !how->visits ==> older{Old, Here}(m, x);
+    ensures says_seat: x == \null && \result == 0 && !how->visits ==> says_seat(m, s);
     ensures told: told{Old, Here}(m, x, \result);
     ensures refused: refused{Old, Here}(x, \result);
-    ensures visits: visits ==> refused{Old, Here}(x, 1);
+    ensures visits: how->visits ==> refused{Old, Here}(x, 1);
     ensures exact: \result == r || (r == -EINTR && \result == -ETIMEDOUT) || (r == -EBUSY && s->pool->gone && \result == -EINVAL);
     ensures child: r == -EBUSY && s->pool->gone ==> \result == -EINVAL; */
-static int lock_ends(struct ww_mutex *m, struct ww_acquire_ctx *x, ww_seat *s, int r, bool visits);
+static int lock_ends(struct ww_mutex *m, struct ww_acquire_ctx *x, ww_seat *s, int r, const struct ww_how *how);
 
 /*@ predicate lock_goes(struct ww_mutex *m) = core_call == LOCKS && core_of == m->number && lacks(m->number); */
 /*@ requires is_mutex(m) && is_caller(x, s) && apart(m, x, s) && is_wait(wait) && away(wait, s) && how_apart(wait->how, m, x, s);

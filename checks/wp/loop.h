@@ -3,7 +3,7 @@
  *
  * source: lock/loop.c
  * proves: ww_become unlist release_newest release_newest_first ww_acquire_unlock_all ww_back_off_ ww_accept_held ww_result_in_loop
- * inlines: is_orphaned_by_fork is_loop owes_it enlist unlock_unlisted ww_is_contended is_polled holds_slot holder_of
+ * inlines: is_orphaned_by_fork is_loop owes_it enlist unlock_unlisted ww_is_contended is_polled holds_slot holder_of note_used
  */
 #include "mutex.h"
 

@@ -7,8 +7,8 @@
  *	lock_by_seat lock_alone_on lock_by_any lock_alone ww_mutex_lock_alone_ ww_mutex_lock ww_mutex_lock_until
  *	ww_mutex_lock_interruptible try_alone ww_try_by try_admitted ww_mutex_trylock_else_ ww_mutex_trylock ww_mutex_trylock_checked
  *	unlock_alone_on unlock_alone ww_mutex_unlock_checked ww_mutex_unlock ww_mutex_unlock_else_ ww_mutex_unlock_further_
- * inlines: is_orphaned_by_fork holder_of pool_at is_polled fits stop_rest end_unless_unlocked is_loop note_user
- *	look_at owner_word this_thread
+ * inlines: is_orphaned_by_fork holder_of pool_at is_polled fits stop_rest forget_age end_unless_unlocked is_loop note_user
+ *	look_at owner_word owner_of_word seats_of this_thread note_used
  */
 #include "lock.h"
 #include "../lock/loop.h"
@@ -136,14 +136,14 @@ static inline enum phase phase_of(const struct ww_acquire_ctx *x);
 static int check_call(enum lock_call call, struct ww_mutex *m, const struct ww_acquire_ctx *x, const struct timespec *until, const char **why);
 
 /*@ requires \valid(x) && is_seat(x->own) && \separated(x, x->own, x->own->pool) && rests;
-    assigns x->pool, x->own->ages, x->own->handle.mode, x->own->handle.below, core_context, core_told;
+    assigns x->pool, x->own->ages, x->own->met, x->own->handle.mode, x->own->handle.below, core_context, core_told;
     ensures loops(x) ==> x->pool == \old(x->pool); */
-static void draw_age_by_hand(struct ww_acquire_ctx *x);
+static inline void draw_age_by_hand(struct ww_acquire_ctx *x);
 
 /* ---- lock calls by a context: of one in a loop only ww_lock_in_loop and ww_result_in_loop speak (loop.h) ---- */
 
 /*@ requires is_called(m) && (x != \null ==> is_any_context(x, m)) && is_when(until) && rests;
-    assigns m->pool, m->class_, m->number, the_lock, x->pool, x->own->ages, x->own->handle.mode, x->own->handle.below, core_context, core_told;
+    assigns m->pool, m->class_, m->number, the_lock, x->pool, x->own->ages, x->own->met, x->own->handle.mode, x->own->handle.below, core_context, core_told;
     ensures is_called(m);
     ensures number: m != \null && \old(m->pool) != \null ==> m->number == \old(m->number) && the_lock == \old(the_lock);
     ensures mutex: \result == 0 && call != CALL_LIST ==> m != \null && m->number == the_lock;
@@ -215,7 +215,7 @@ int ww_mutex_lock_slow_interruptible(struct ww_mutex *m, struct ww_acquire_ctx *
 /* ---- trylocks by one: 0 only if the core said so ---- */
 
 /*@ requires is_mutex(m) && is_called(m) && x != \null && is_any_context(x, m) && x->own != \null && rests && !loops(x);
-    assigns m->ctx, m->older, m->alone, x->newest, x->acquired, x->pool, x->state, x->own->ages, x->own->handle.mode, x->own->handle.below,
+    assigns m->ctx, m->older, m->alone, x->newest, x->acquired, x->pool, x->state, x->own->ages, x->own->met, x->own->handle.mode, x->own->handle.below,
 	core_has, core_holds, core_told, core_context;
     ensures took: took(\result);
     ensures says: \result == 0 ==> says{Old, Here}(m, x) && listed{Old, Here}(m, x);

@@ -3,7 +3,7 @@
  *
  * source: doors/number.c
  * proves: mutex_at ww_number_at ww_number_take mutex_asked ww_number_lock ww_number_trylock ww_number_unlock ww_number_unlock_further_
- * inlines: is_orphaned_by_fork is_polled pool_at open_pool_of is_loop
+ * inlines: is_orphaned_by_fork is_polled pool_at open_pool_of is_loop note_used
  */
 #include "mutex.h"
 #include "../lock/used.h"

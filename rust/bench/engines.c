@@ -14,46 +14,24 @@ struct plain {
 	unsigned long value;
 } __attribute__((aligned(64)));
 
-/* One for mutexes, and one for numbers. */
-static DEFINE_WW_CLASS(wound);
-static DEFINE_WD_CLASS(die);
-static DEFINE_WW_CLASS(wound_numbers);
-static DEFINE_WD_CLASS(die_numbers);
-static struct ww_class *class_, *numbers;
+static DEFINE_WW_CLASS(class_);
+static DEFINE_WW_CLASS(numbers);
 static struct object *objects;
 static struct plain *plains;
 
 /* So many objects of both interfaces. */
-void engines_open(int is_wait_die, unsigned count)
+void engines_open(unsigned count)
 {
-	class_ = is_wait_die ? &die : &wound;
-	numbers = is_wait_die ? &die_numbers : &wound_numbers;
 	objects = aligned_alloc(64, count * sizeof *objects);
 	plains = aligned_alloc(64, count * sizeof *plains);
 	if (!objects || !plains)
 		abort();
 	for (unsigned k = 0; k < count; k++) {
-		ww_mutex_init(&objects[k].lock, class_);
-		if (ww_number_take(&plains[k].lock, numbers))
+		ww_mutex_init(&objects[k].lock, &class_);
+		if (ww_number_take(&plains[k].lock, &numbers))
 			abort();
 		objects[k].value = plains[k].value = 0;
 	}
-}
-
-/* What both counted. */
-void engines_close(unsigned count, unsigned long sums[2])
-{
-	sums[0] = sums[1] = 0;
-	for (unsigned k = 0; k < count; k++) {
-		sums[0] += objects[k].value;
-		sums[1] += plains[k].value;
-		if (ww_mutex_destroy(&objects[k].lock) || ww_number_put(plains[k].lock, numbers))
-			abort();
-	}
-	if (ww_class_free(numbers) || ww_class_free(class_))
-		abort();
-	free(objects);
-	free(plains);
 }
 
 /* So many different ones of `count`: for all engines, so that it costs each the same. */
@@ -76,7 +54,7 @@ static void by_mutexes(const unsigned *list, unsigned takes)
 	struct ww_acquire_ctx x;
 	unsigned slow = takes, k;
 
-	ww_acquire_init(&x, class_);
+	ww_acquire_init(&x, &class_);
 	for (;;) {
 		int r = 0;
 
@@ -106,7 +84,7 @@ static void by_numbers(const unsigned *list, unsigned takes)
 	struct ww_acquire_ctx x;
 	unsigned slow = takes, k;
 
-	ww_acquire_init(&x, numbers);
+	ww_acquire_init(&x, &numbers);
 	for (;;) {
 		int r = 0;
 
@@ -132,19 +110,17 @@ static void by_numbers(const unsigned *list, unsigned takes)
 	ww_acquire_fini(&x);
 }
 
-/* Until `stop` isn't 0, or so many if `most` isn't; how many it made. */
-unsigned long engines_go(int by_number, unsigned takes, unsigned count, unsigned long seed, const int *stop, unsigned long most)
+/* So many transactions. */
+void engines_go(int by_number, unsigned takes, unsigned count, unsigned long seed, unsigned long times)
 {
-	unsigned long x = seed, done = 0;
+	unsigned long x = seed;
 	unsigned list[MOST];
 
-	while (most ? done < most : !__atomic_load_n(stop, __ATOMIC_RELAXED)) {
+	for (unsigned long k = 0; k < times; k++) {
 		engines_draw(&x, takes, count, list);
 		if (by_number)
 			by_numbers(list, takes);
 		else
 			by_mutexes(list, takes);
-		done++;
 	}
-	return done;
 }

@@ -1,6 +1,7 @@
 use crate::tx::Tx;
-use crate::{Canceller, Class, Error, Options};
+use crate::{ffi, Canceller, Class, Error, Options};
 use core::fmt;
+use core::mem::ManuallyDrop;
 use core::ptr::NonNull;
 use std::time::Instant;
 
@@ -133,13 +134,33 @@ impl<C: Class> Kept<C> {
     pub(crate) fn begin(tx: Tx<C>) -> Result<Self, Error> {
         let kept = NonNull::from(Box::leak(Box::new(tx)));
         // SAFETY: it stays where it is until the drop, which ends it; all borrow it as shared until then.
-        match unsafe { kept.as_ref().context().begin() } {
-            Ok(()) => Ok(Kept(kept)),
-            Err(error) => {
-                // SAFETY: it came from a box, and nothing else has it.
-                drop(unsafe { Box::from_raw(kept.as_ptr()) });
-                Err(error)
-            }
+        let begun = unsafe { kept.as_ref().context().begin() };
+        Self::begun(kept, begun)
+    }
+
+    /// With the age of what is suspended, if anything is; after an error it still is.
+    #[track_caller]
+    pub(crate) fn begin_with(tx: Tx<C>, retry: &mut ffi::ww_retry) -> Result<Self, Error> {
+        let kept = NonNull::from(Box::leak(Box::new(tx)));
+        // SAFETY: as in `begin`; a `suspend` ends it, too.
+        let begun = unsafe { kept.as_ref().context().resume(retry) };
+        Self::begun(kept, begun)
+    }
+
+    fn begun(kept: NonNull<Tx<C>>, told: Result<(), Error>) -> Result<Self, Error> {
+        told.map(|()| Kept(kept)).inspect_err(|_| {
+            // SAFETY: it came from a box, and nothing else has it.
+            drop(unsafe { Box::from_raw(kept.as_ptr()) });
+        })
+    }
+
+    /// Instead of its end: its age goes on in the value, unless half of the class's contexts are suspended.
+    pub(crate) fn suspend(self, retry: &mut ffi::ww_retry) {
+        let kept = ManuallyDrop::new(self).0;
+        // SAFETY: as in `pause`. It came from a box, and the library has left it then.
+        unsafe {
+            kept.as_ref().context().suspend(retry);
+            drop(Box::from_raw(kept.as_ptr()));
         }
     }
 

@@ -259,7 +259,8 @@ pub trait Class: ByClass_ {
     /// ```
     ///
     /// A thread then asks for each mutex without a wait first: so [`counts`](Self::counts) has its lock waits twice, and a
-    /// `Deadlock` in place of a wait is told as one of no time. Not told: waits of locks without a context ([`Mutex::lock`](crate::Mutex::lock)), and those of threads for a context or a
+    /// `Deadlock` in place of a wait is told as one of no time. Not told: waits of locks without a context
+    /// ([`Mutex::lock`](crate::Mutex::lock)), waits for keys of a [`table`](crate::table), and those of threads for a context or a
     /// permit, which are counted there.
     #[cfg(feature = "events")]
     fn on_event(hook: fn(crate::Event)) {
@@ -423,8 +424,8 @@ impl RawClass {
         unsafe { ffi::ww_number_at(number.index(), self.get()) }
     }
 
-    /// Puts back the number of a mutex that was dropped; the library waits until no context holds it or reads it. A context
-    /// that got `Deadlock` at it may still wait for it, holding nothing; then it waits for the mutex that gets the number next.
+    /// Puts back the number of a mutex that was dropped; the library waits until no context holds it or reads it. A context that got
+    /// `Deadlock` at it counts as one that waits for it until it has backed off.
     pub(crate) fn give(&'static self, number: Number) {
         // A number of another class is lost.
         if number.tag() == self.tag() {

@@ -28,6 +28,8 @@ struct Rare {
     /// The number at which that was: it is locked first from then on, whatever happens to its mutex meanwhile. `None`, if that was
     /// at a shared mutex, or at one who reads it: the library knows where.
     contended: Cell<Option<Number>>,
+    /// Until then no other mutex gets that number.
+    keeps: Cell<Option<ffi::Contended>>,
     /// It was locked first, and the body hasn't asked for it yet.
     prelocked: Cell<Option<Number>>,
     /// What this attempt reads by `UpgradableGuard`s alone.
@@ -101,7 +103,7 @@ impl Context {
     }
 
     #[inline]
-    fn raw(&self) -> *mut ffi::ww_acquire_ctx {
+    pub(crate) fn raw(&self) -> *mut ffi::ww_acquire_ctx {
         self.raw.get()
     }
 
@@ -150,6 +152,35 @@ impl Context {
         Ok(())
     }
 
+    /// As `begin`, with the age of what is suspended, if anything is; after an error it still is. It has the age of a context by hand,
+    /// and may go on in another thread: so it isn't listed among this thread's.
+    ///
+    /// # Safety
+    ///
+    /// That of `begin`.
+    #[track_caller]
+    pub(crate) unsafe fn resume(&self, retry: &mut ffi::ww_retry) -> Result<(), Error> {
+        place::said();
+        let retry = ptr::from_mut(retry);
+        // SAFETY: as in `begin`; the value lives for the call.
+        let wait = |until: Option<&ffi::timespec>| unsafe {
+            let until = until.map_or(ptr::null(), ptr::from_ref);
+            ffi::ww_acquire_resume(self.raw(), self.class.get(), retry, until)
+        };
+        self.begin_late(-ffi::EAGAIN, wait)?;
+        // SAFETY: it has begun, and has locked nothing.
+        unsafe { ffi::ww_acquire_flags(self.raw(), ffi::WW_INTERRUPTIBLE) };
+        if let Some(rare) = self.rare() {
+            rare.join(self.raw());
+        }
+        Ok(())
+    }
+
+    /// It is this thread's until its end.
+    pub(crate) fn is_of_this_thread(&self) {
+        own::begun(self.raw(), self.class);
+    }
+
     /// The library's wait for a context ends at a time, but not by a canceller: with one, it is made of waits, each twice as long as
     /// the one before. Each begins at the end of the queue, so one has to last until all those before have had their turn.
     #[cold]
@@ -190,6 +221,26 @@ impl Context {
         own::ended(self.raw());
         // SAFETY: it has begun, hasn't ended, and holds nothing.
         unsafe { ffi::ww_acquire_fini(self.raw()) };
+    }
+
+    /// Instead of `end`: its age goes on in the value, unless half of the class's contexts are suspended.
+    ///
+    /// # Safety
+    ///
+    /// That of `end`.
+    pub(crate) unsafe fn suspend(&self, retry: &mut ffi::ww_retry) {
+        // SAFETY: as asked for here.
+        unsafe { self.release_all() };
+        if let Some(rare) = self.rare() {
+            rare.leave(self.raw());
+        }
+        own::ended(self.raw());
+        // SAFETY: it has begun, hasn't ended, and holds nothing; no poll is made by it.
+        unsafe {
+            if ffi::ww_acquire_suspend(self.raw(), retry) != 0 {
+                ffi::ww_acquire_fini(self.raw());
+            }
+        }
     }
 
     /// Between two runs of one age: releases all, and leaves its canceller. False: it was cancelled, so it may not go on.
@@ -287,6 +338,29 @@ impl Context {
         }
     }
 
+    /// Makes a lock call of a table, which waits no longer than the limits let it, and than until this time. It is made once, also
+    /// where there is a hook, since the wait for what was contended would end with a call of no time.
+    #[track_caller]
+    pub(crate) fn ask_table(
+        &self,
+        deadline: Option<Instant>,
+        call: impl FnOnce(*const ffi::timespec) -> c_int,
+    ) -> c_int {
+        let deadline = deadline.map(clock::monotonic);
+        let limits = self.rare().map(|rare| rare.limits.borrow());
+        let limits = limits.as_deref();
+        if limits.is_some_and(Limits::is_cancelled) {
+            return -ffi::EINTR;
+        }
+        place::said();
+        let own = limits.and_then(|limits| limits.until.as_ref()).map(|(_, until)| until);
+        let answer = call(own.into_iter().chain(deadline.as_ref()).min().map_or(ptr::null(), ptr::from_ref));
+        if let (ffi::EDEADLK, Some(hook)) = (-answer, self.class.hook()) {
+            hook(Event::BackedOff);
+        }
+        answer
+    }
+
     /// The error for a value other than 0 that the library returned.
     #[cold]
     #[track_caller]
@@ -294,7 +368,10 @@ impl Context {
         match -answer {
             ffi::EALREADY => Error::Duplicate,
             ffi::EDEADLK => {
-                self.rare.get_or_init(Box::default).is_over.set(true);
+                let rare = self.rare.get_or_init(Box::default);
+                rare.is_over.set(true);
+                // SAFETY: the last lock call of the context returned that; classes are static, and never freed.
+                rare.keeps.set(Some(unsafe { ffi::Contended::of(self.raw()) }));
                 if let Some(hook) = self.class.hook() {
                     hook(Event::BackedOff);
                 }
@@ -433,17 +510,9 @@ impl Context {
                 ffi::ww_shared_mutex_lock_shared_until(self.class.at(number), self.raw(), until)
             }
         };
-        let mut answer = self.ask(Some((number, writes)), call);
-        // The mutex that came first may be gone, and its number be this one's, or that of what the library reads by.
-        let first = self.rare().filter(|_| answer == -ffi::EALREADY).and_then(|rare| rare.prelocked.take());
-        if let Some(first) = first {
-            // SAFETY: the context holds it, without a guard.
-            unsafe { ffi::unlock(first.index(), self.raw()) };
-            answer = self.ask(Some((number, writes)), call);
-        }
-        match answer {
+        match self.ask(Some((number, writes)), call) {
             0 => Ok(()),
-            _ => Err(self.refused(answer)),
+            answer => Err(self.refused(answer)),
         }
     }
 
@@ -453,11 +522,6 @@ impl Context {
     #[inline]
     pub(crate) fn is_over(&self) -> bool {
         self.rare().is_some_and(|rare| rare.is_over.get())
-    }
-
-    /// The mutex at which it got `Deadlock`.
-    pub(crate) fn take_contended(&self) -> Option<Number> {
-        self.rare()?.contended.take()
     }
 
     /// Releases all, so that anything can be locked.
@@ -470,24 +534,28 @@ impl Context {
         unsafe { self.release_all() };
         if let Some(rare) = self.rare() {
             rare.contended.take();
+            rare.keeps.take();
             rare.is_over.set(false);
         }
     }
 
-    /// Releases all, and waits for this mutex, which it then holds; or for what it collided with, if that isn't a mutex.
+    /// Releases all. If it got `Deadlock` since it began last, it waits for the mutex at which that was, which it then holds; or, where
+    /// that was a shared one, for what it collided with.
     ///
     /// # Safety
     ///
     /// No guard of the context is left that anybody could use.
     #[cold]
-    pub(crate) unsafe fn back_off(&self, first: Option<Number>) -> Result<(), Error> {
+    pub(crate) unsafe fn back_off(&self) -> Result<(), Error> {
         let rare = self.rare.get_or_init(Box::default);
-        let is_over = rare.is_over.get();
+        let (first, keeps, is_over) = (rare.contended.take(), rare.keeps.take(), rare.is_over.get());
+        let is_gone = || keeps.as_ref().is_some_and(ffi::Contended::is_gone);
         // SAFETY: as asked for here.
         unsafe { self.start() };
         // A context that holds nothing never gets `Deadlock`. So an ordinary lock call serves as the slow one, and has
         // the same limits.
         let told = match first {
+            _ if is_gone() => return Ok(()),
             Some(first) => {
                 self.class.check(first);
                 self.lock_rarely(first)
@@ -499,12 +567,16 @@ impl Context {
             },
             None => Ok(()),
         };
-        if told.is_ok() {
-            rare.prelocked.set(first);
-        } else {
-            // It comes first in a further run, too.
-            rare.contended.set(first);
-            rare.is_over.set(is_over);
+        match first {
+            _ if told.is_err() => {
+                // It comes first in a further run, too.
+                rare.contended.set(first);
+                rare.keeps.set(keeps);
+                rare.is_over.set(is_over);
+            }
+            // SAFETY: the context holds it, without a guard.
+            Some(first) if is_gone() => unsafe { ffi::unlock(first.index(), self.raw()) },
+            _ => rare.prelocked.set(first),
         }
         told
     }

@@ -15,10 +15,14 @@ pub enum Error {
     Cancelled,
     /// The deadline came before the mutex was locked.
     TimedOut,
-    /// All mutexes that the class may have are in use: 65,536, or its own limit.
+    /// All mutexes that the class may have are in use: 65,536, or its own limit; or all keys that a table may have.
     Exhausted,
-    /// There is no memory to open the class, at its first use.
+    /// There is no memory to open the class, at its first use, or for a table or its key.
     OutOfMemory,
+    /// The key is taken, and the call doesn't wait for it ([`Transaction::try_lock`](crate::table::Transaction::try_lock)).
+    Taken,
+    /// The transaction doesn't have the key ([`Transaction::unlock`](crate::table::Transaction::unlock)).
+    NotHeld,
 }
 
 impl Error {
@@ -38,8 +42,12 @@ impl fmt::Display for Error {
             }
             Error::Cancelled => "the wait was cancelled",
             Error::TimedOut => "the deadline passed",
-            Error::Exhausted => "the class has all mutexes that it may have: 65,536, or as many as `class!` says",
-            Error::OutOfMemory => "there is no memory to open the class",
+            Error::Exhausted => {
+                "the class has all mutexes that it may have, 65,536 or as many as `class!` says, or the table all keys"
+            }
+            Error::OutOfMemory => "there is no memory to open the class, or for a key",
+            Error::Taken => "another transaction has the key",
+            Error::NotHeld => "the transaction doesn't have the key",
         })
     }
 }

@@ -1,11 +1,12 @@
-//! The declarations of `c/include/ww_number.h`, `c/include/ww_shared.h` and `c/include/ww_mutex.h` that are used here. The test below compares them with what a C compiler says.
+//! The declarations of the headers in `c/include` that are used here. The test below compares them with what a C compiler says.
 
 #![allow(non_camel_case_types, reason = "the names are those of the header")]
 
 use core::ffi::{c_char, c_int, c_long, c_uint, c_void};
 use core::mem::MaybeUninit;
-#[cfg(feature = "async")]
 use core::ptr;
+use core::sync::atomic::AtomicU32;
+use core::sync::atomic::Ordering::SeqCst;
 
 /// The first number of the library's version, which changes with its binary interface: that of the headers with which the tests
 /// below compare this file.
@@ -66,6 +67,12 @@ pub struct ww_acquire_ctx {
 
 const OWN: usize = 8;
 const ACQUIRED: usize = 24;
+const CONTENDING_LOCK: usize = 32;
+/// In a `ww_mutex`.
+const WAITERS: usize = 28;
+/// Bits of that word, which `c/admit/class.h` has.
+const IS_OF_NUMBER: u32 = 1 << 29;
+const IS_TAKEN: u32 = 1 << 31;
 
 impl ww_acquire_ctx {
     pub const fn uninit() -> Self {
@@ -93,6 +100,37 @@ pub unsafe fn own(ctx: *mut ww_acquire_ctx) -> *mut *mut ww_seat {
 pub unsafe fn acquired(ctx: *mut ww_acquire_ctx) -> *mut c_uint {
     // SAFETY: the field lies there.
     unsafe { ctx.byte_add(ACQUIRED).cast() }
+}
+
+/// The mutex at which a context got `Deadlock`. As long as this is there the context counts as one that waits for it: so, if it
+/// wasn't dropped before, no other mutex gets its number meanwhile.
+pub struct Contended(&'static AtomicU32);
+
+impl Contended {
+    /// # Safety
+    ///
+    /// The last lock call of the context returned `-EDEADLK`. The class is never freed.
+    pub unsafe fn of(ctx: *mut ww_acquire_ctx) -> Self {
+        // SAFETY: the fields lie there. The mutex is one of a number, or of a reader, which the class has until it is freed; its
+        // word is accessed atomically alone.
+        let waiters = unsafe {
+            let mutex: *mut ww_mutex = ctx.byte_add(CONTENDING_LOCK).cast::<*mut ww_mutex>().read();
+            AtomicU32::from_ptr(mutex.byte_add(WAITERS).cast())
+        };
+        waiters.fetch_add(1, SeqCst);
+        Contended(waiters)
+    }
+
+    /// Whether that was dropped, so that nobody can ask for it any more: its number was put back. A reader's has none to put back.
+    pub fn is_gone(&self) -> bool {
+        self.0.load(SeqCst) & (IS_OF_NUMBER | IS_TAKEN) == IS_OF_NUMBER
+    }
+}
+
+impl Drop for Contended {
+    fn drop(&mut self) {
+        self.0.fetch_sub(1, SeqCst);
+    }
 }
 
 /// That of `c/include/ww_poll.h`.
@@ -129,13 +167,97 @@ impl ww_seek {
 
 /// As 64-bit Linux has it.
 #[repr(C)]
-#[derive(Clone, Copy)]
+#[derive(Clone, Copy, PartialEq, Eq, PartialOrd, Ord)]
 pub struct timespec {
     pub tv_sec: c_long,
     pub tv_nsec: c_long,
 }
 
 pub const CLOCK_MONOTONIC: c_int = 1;
+
+/// A suspended context; zeros: none.
+#[repr(C)]
+#[allow(clippy::struct_field_names, reason = "the names are those of the header")]
+pub struct ww_retry {
+    pub ticket_: u64,
+    pub seat_: u32,
+    pub awaits_: u32,
+}
+
+/// Who has a mutex or waits for it.
+#[repr(C)]
+#[derive(Clone, Copy, Default)]
+pub struct ww_user {
+    pub label: u64,
+    pub place: u32,
+    pub part: c_uint,
+}
+
+pub const WW_NOBODY: c_uint = 0;
+pub const WW_HOLDS: c_uint = 1;
+pub const WW_READS: c_uint = 2;
+
+#[repr(C)]
+#[derive(Clone, Copy)]
+pub struct ww_place {
+    pub mutex: *mut ww_mutex,
+    pub number: u32,
+    pub by: ww_user,
+}
+
+impl ww_place {
+    pub const fn none() -> Self {
+        ww_place { mutex: ptr::null_mut(), number: 0, by: ww_user { label: 0, place: 0, part: WW_NOBODY } }
+    }
+}
+
+#[repr(C)]
+pub struct ww_why {
+    pub at: ww_place,
+    pub wanted: ww_place,
+}
+
+#[repr(C)]
+#[derive(Default)]
+pub struct ww_acquire_counts {
+    pub waits: u64,
+    pub back_offs: u64,
+    pub waited_ns: u64,
+}
+
+#[repr(C)]
+pub struct ww_table {
+    _inside: [u8; 0],
+}
+
+pub const WW_TABLE_SHARED: c_uint = 0;
+pub const WW_TABLE_EXCLUSIVE: c_uint = 1;
+pub const WW_TABLE_WAITS: c_uint = 0;
+pub const WW_TABLE_TRIES: c_uint = 1;
+
+#[repr(C)]
+pub struct ww_table_user {
+    pub key: *const c_void,
+    pub length: usize,
+    pub owner: u64,
+    pub mode: c_uint,
+    pub waits: bool,
+}
+
+#[repr(C)]
+pub struct ww_table_how {
+    pub owner: u64,
+    pub by: c_uint,
+    pub until: *const timespec,
+    /// No poll is made here.
+    pub waker: *const c_void,
+    pub meets: Option<unsafe extern "C" fn(data: *mut c_void, user: *const ww_table_user) -> bool>,
+    pub waits: Option<unsafe extern "C" fn(data: *mut c_void, how: *mut ww_table_how) -> c_int>,
+    pub data: *mut c_void,
+}
+
+/// A function that is shown who uses a key.
+pub type sees = unsafe extern "C" fn(data: *mut c_void, user: *const ww_table_user);
 
 /// Flags of `ww_acquire_flags`.
 pub const WW_INTERRUPTIBLE: c_uint = 2;
@@ -144,6 +266,7 @@ pub const WW_MAY_BE_OLDER: c_uint = 4;
 pub const EINTR: c_int = 4;
 pub const EAGAIN: c_int = 11;
 pub const ENOMEM: c_int = 12;
+pub const EBUSY: c_int = 16;
 pub const ENOSPC: c_int = 28;
 pub const EDEADLK: c_int = 35;
 pub const ETIMEDOUT: c_int = 110;
@@ -198,6 +321,37 @@ extern "C" {
     pub fn ww_shared_mutex_is_written_by(mutex: *const ww_shared_mutex, ctx: *const ww_acquire_ctx) -> bool;
     pub fn ww_shared_mutex_is_read_by(mutex: *const ww_shared_mutex, ctx: *const ww_acquire_ctx) -> bool;
     pub fn ww_shared_mutex_await(ctx: *mut ww_acquire_ctx, monotonic: *const timespec) -> c_int;
+
+    pub fn ww_acquire_suspend(ctx: *mut ww_acquire_ctx, retry: *mut ww_retry) -> c_int;
+    pub fn ww_acquire_resume(
+        ctx: *mut ww_acquire_ctx,
+        class: *mut ww_class,
+        retry: *mut ww_retry,
+        monotonic: *const timespec,
+    ) -> c_int;
+    pub fn ww_retry_drop(retry: *mut ww_retry) -> c_int;
+
+    pub fn ww_acquire_label(ctx: *mut ww_acquire_ctx, label: u64) -> c_int;
+    pub fn ww_acquire_why(ctx: *const ww_acquire_ctx, why: *mut ww_why) -> c_int;
+    pub fn ww_acquire_cycle(ctx: *const ww_acquire_ctx, path: *mut ww_place, room: usize) -> usize;
+    pub fn ww_acquire_count(ctx: *const ww_acquire_ctx, counts: *mut ww_acquire_counts) -> c_int;
+    pub fn ww_mutex_users(mutex: *const ww_mutex, users: *mut ww_user, room: usize) -> usize;
+
+    pub fn ww_table_open(table: *mut *mut ww_table, class: *mut ww_class, keys: u32) -> c_int;
+    pub fn ww_table_close(table: *mut ww_table) -> c_int;
+    pub fn ww_table_lock(
+        table: *mut ww_table,
+        ctx: *mut ww_acquire_ctx,
+        key: *const c_void,
+        length: usize,
+        mode: c_uint,
+        how: *const ww_table_how,
+    ) -> c_int;
+    pub fn ww_table_unlock(table: *mut ww_table, ctx: *mut ww_acquire_ctx, key: *const c_void, length: usize) -> c_int;
+    pub fn ww_table_mark(table: *mut ww_table, ctx: *const ww_acquire_ctx) -> usize;
+    pub fn ww_table_unlock_to(table: *mut ww_table, ctx: *mut ww_acquire_ctx, mark: usize);
+    pub fn ww_table_see(table: *mut ww_table, key: *const c_void, length: usize, see: sees, data: *mut c_void)
+        -> usize;
 
     // The calls of which those are made that the header compiles into its callers.
     fn ww_try_(seat: *mut ww_seat, lock: u32) -> i32;
@@ -376,7 +530,10 @@ pub unsafe fn downgrade(mutex: *mut ww_shared_mutex, ctx: *mut ww_acquire_ctx) {
 mod tests {
     #[cfg(feature = "async")]
     use super::ww_seek;
-    use super::{timespec, ww_acquire_ctx, ww_class, ww_class_counts, ACQUIRED, INTERFACE, OWN};
+    use super::{
+        timespec, ww_acquire_counts, ww_acquire_ctx, ww_class, ww_class_counts, ww_place, ww_retry, ww_table_how,
+        ww_table_user, ww_user, ww_why, ACQUIRED, CONTENDING_LOCK, INTERFACE, OWN, WAITERS,
+    };
     use std::fmt::Write as _;
     use std::io::Write;
     use std::mem::{align_of, offset_of, size_of};
@@ -408,9 +565,17 @@ mod tests {
                 task_contexts;
             ww_acquire_ctx: ;
             timespec: tv_sec tv_nsec;
+            ww_retry: ticket_ seat_ awaits_;
+            ww_user: label place part;
+            ww_place: mutex number by;
+            ww_why: at wanted;
+            ww_acquire_counts: waits back_offs waited_ns;
+            ww_table_user: key length owner mode waits;
+            ww_table_how: owner by until waker meets waits data;
         };
-        let fields = "PLACE(struct ww_acquire_ctx, own)\nPLACE(struct ww_acquire_ctx, acquired)\n";
-        let (asked, here) = (asked + fields, here + &format!("{OWN}\n{ACQUIRED}\n"));
+        let fields = "PLACE(struct ww_acquire_ctx, own)\nPLACE(struct ww_acquire_ctx, acquired)\n\
+                      PLACE(struct ww_acquire_ctx, contending_lock)\nPLACE(struct ww_mutex, waiters)\n";
+        let (asked, here) = (asked + fields, here + &format!("{OWN}\n{ACQUIRED}\n{CONTENDING_LOCK}\n{WAITERS}\n"));
         #[cfg(feature = "async")]
         let (asked, here) = {
             let (more, too) = layouts! {
@@ -419,7 +584,7 @@ mod tests {
             (asked + &more, here + &too)
         };
         let source = format!(
-            "#include \"ww_poll.h\"\n#include <stdio.h>\n\
+            "#include \"ww_poll.h\"\n#include \"ww_retry.h\"\n#include \"ww_table.h\"\n#include \"ww_why.h\"\n#include <stdio.h>\n\
              #define SIZE(it) printf(\"%zu %zu\\n\", sizeof(it), _Alignof(it));\n\
              #define PLACE(it, field) printf(\"%zu\\n\", offsetof(it, field));\n\
              int main(void) {{\n{asked}}}\n"
@@ -453,11 +618,12 @@ mod tests {
             "c_int" => "int",
             "c_uint" => "unsigned int",
             "c_char" => "char",
+            "usize" => "size_t",
             "" | "c_void" => "void",
             "i32" => "int32_t",
             "u32" => "uint32_t",
             "u64" => "uint64_t",
-            "bool" | "reports" => rust,
+            "bool" | "reports" | "sees" => rust,
             other => return format!("struct {other}"),
         }
         .into()
@@ -471,7 +637,9 @@ mod tests {
         let rust = rust.join("\n").replace(reports, "reports");
         let mut source = String::from(
             "#define WW_NO_INLINE\n#include \"ww_poll.h\"\n#include \"ww_shared.h\"\n#include \"ww_number.h\"\n\
-             #include \"ww_mutex_debug.h\"\n#include <time.h>\ntypedef void (*reports)(void *, const char *);\n",
+             #include \"ww_retry.h\"\n#include \"ww_table.h\"\n#include \"ww_why.h\"\n\
+             #include \"ww_mutex_debug.h\"\n#include <time.h>\ntypedef void (*reports)(void *, const char *);\n\
+             typedef void (*sees)(void *, const struct ww_table_user *);\n",
         );
         let mut count = 0;
         for block in rust.split("\nextern \"C\" {\n").skip(1) {
@@ -509,7 +677,7 @@ mod tests {
         };
         let here = include_str!("ffi.rs");
         let (source, count) = signatures(here);
-        assert_eq!((fits(&source), count > 30), (Ok(()), true));
+        assert_eq!((fits(&source), count > 45), (Ok(()), true));
         // Planted faults are found.
         for (right, wrong) in [
             ("fn ww_number_lock(number: u32", "fn ww_number_lock(number: u64"),

@@ -26,6 +26,8 @@
 //!   [`Options`] give it a deadline, or a [`Canceller`] for other threads.
 //! - [`Mutex::lock`] locks one mutex without a context, as std's does.
 //! - [`typed`] has contexts without closures: there the borrow checker keeps the order of the calls.
+//! - A [`table`] has locks by keys of any bytes, as a database's lock manager has them. [`Suspended`] is the age of a transaction that a
+//!   framework retries, and [`why`] says who is in the way.
 //!
 //! # The body runs again
 //!
@@ -85,11 +87,14 @@ mod options;
 mod own;
 mod place;
 mod shared;
+mod suspended;
+pub mod table;
 #[cfg(feature = "async")]
 #[allow(clippy::incompatible_msrv, reason = "the feature asks for Rust 1.85")]
 pub mod task;
 mod tx;
 pub mod typed;
+pub mod why;
 
 use core::ffi::{c_char, c_void, CStr};
 
@@ -106,6 +111,7 @@ pub use guards::Guards;
 pub use mutex::Mutex;
 pub use options::Options;
 pub use shared::{ArcRead, ArcSharedMutexGuard, SharedMutex, SharedMutexGuard, UpgradableGuard};
+pub use suspended::Suspended;
 pub use tx::Tx;
 
 /// The version of `libww`: 10,000 times its first number, 100 times the second one, and the third one.

@@ -2,7 +2,7 @@ use crate::age::Kept;
 use crate::class::OfClass;
 use crate::context::Context;
 use crate::tx::Running;
-use crate::{Canceller, Class, Error, Tx};
+use crate::{ffi, Canceller, Class, Error, Tx};
 use core::fmt;
 use core::marker::PhantomData;
 use std::time::{Duration, Instant};
@@ -99,6 +99,12 @@ impl<'c, C: Class> Options<'c, C> {
     #[track_caller]
     pub(crate) fn begin(&self) -> Result<Kept<C>, Error> {
         Kept::begin(Tx::new(Context::with_limits(C::raw(), self.deadline, self.canceller)))
+    }
+
+    /// The same with the age of what is suspended, if anything is.
+    #[track_caller]
+    pub(crate) fn begin_with(&self, retry: &mut ffi::ww_retry) -> Result<Kept<C>, Error> {
+        Kept::begin_with(Tx::new(Context::with_limits(C::raw(), self.deadline, self.canceller)), retry)
     }
 
     pub(crate) fn resume(&self, kept: &Kept<C>) -> Result<(), Error> {

@@ -105,7 +105,7 @@ impl<C: Class, T: ?Sized> SharedMutex<C, T> {
     #[must_use]
     pub fn is_locked(&self) -> bool {
         let class = C::raw();
-        let number = self.handle.existing().filter(|number| number.tag() == class.tag());
+        let number = self.existing().filter(|number| number.tag() == class.tag());
         // SAFETY: the number is one of the class.
         number.is_some_and(|number| unsafe { ffi::ww_shared_mutex_is_locked(class.at(number)) })
     }
@@ -121,6 +121,11 @@ impl<C: Class, T: ?Sized> SharedMutex<C, T> {
     #[inline]
     pub(crate) fn value(&self) -> *mut T {
         self.value.get()
+    }
+
+    #[inline]
+    pub(crate) fn existing(&self) -> Option<Number> {
+        self.handle.existing()
     }
 
     #[inline]

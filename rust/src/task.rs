@@ -334,6 +334,9 @@ impl<C: Class> Context<C> {
         let inside = self.tx.inner.own();
         let rare = inside.rare();
         rare.is_over = false;
+        if rare.keeps.as_ref().is_some_and(ffi::Contended::is_gone) {
+            (rare.contended, rare.keeps) = (None, None);
+        }
         if rare.contended.is_some() {
             return Poll::Pending;
         }
@@ -365,10 +368,12 @@ impl<C: Class> Context<C> {
                 // A context that holds nothing never gets `Deadlock`.
                 self.tx.inner.asks(first).await?;
                 let rare = self.tx.inner.own().rare();
-                rare.contended = None;
-                if let Asked::Lock(first) = first {
-                    class.check(first);
-                    rare.prelocked = Some(first);
+                let is_gone = rare.keeps.as_ref().is_some_and(ffi::Contended::is_gone);
+                (rare.contended, rare.keeps) = (None, None);
+                match first {
+                    Asked::Lock(first) if is_gone => self.tx.inner.release(first.index()),
+                    Asked::Lock(first) => rare.prelocked = Some(first),
+                    _ => {}
                 }
             }
             self.tx.attempts = self.tx.attempts.saturating_add(1);

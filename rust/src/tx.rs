@@ -383,7 +383,7 @@ impl<C: Class> Tx<C> {
     /// No guard of the context is left that anybody could use.
     pub(crate) unsafe fn back_off(&self) -> Result<(), Error> {
         // SAFETY: as asked for here.
-        unsafe { self.context.back_off(self.context.take_contended()) }?;
+        unsafe { self.context.back_off() }?;
         self.attempts.set(self.attempts.get().saturating_add(1));
         Ok(())
     }

@@ -79,7 +79,7 @@
 //! # use ww_mutex::{class, Error, Mutex};
 //! # class!(struct Boxes: WoundWait);
 //! let mut context = Context::<Boxes>::begin().unwrap();
-//! let tx = context.back_off(Deadlock { contended: None, class: std::marker::PhantomData });
+//! let tx = context.back_off(Deadlock { class: std::marker::PhantomData });
 //! ```
 //!
 //! ```compile_fail,E0382
@@ -169,7 +169,6 @@
 
 use crate::class::OfClass;
 use crate::context::Context as Inner;
-use crate::number::Number;
 use crate::{Class, Error, Mutex, MutexGuard};
 use core::fmt;
 use core::marker::PhantomData;
@@ -198,7 +197,6 @@ pub type Locked<'x, C, G> = (Acquiring<'x, C>, G);
 /// An older context goes first: the context must release everything, and wait for the contended mutex.
 #[must_use = "`Context::back_off` waits for the contended mutex"]
 pub struct Deadlock<C: Class> {
-    contended: Option<Number>,
     class: OfClass<C>,
 }
 
@@ -217,13 +215,6 @@ impl<C: Class> From<Refused<'_, C>> for Error {
             Refused::Deadlock(_) => Error::Deadlock,
             Refused::Other(error, _) => error,
         }
-    }
-}
-
-impl<C: Class> Deadlock<C> {
-    /// It is used once.
-    fn contended(self) -> Option<Number> {
-        self.contended
     }
 }
 
@@ -270,9 +261,9 @@ impl<C: Class> Context<C> {
     /// # Errors
     ///
     /// [`Error::Cancelled`], by [`Class::cancel`]. The context holds nothing then.
-    pub fn back_off(&mut self, lost: Deadlock<C>) -> Result<Acquiring<'_, C>, Error> {
+    pub fn back_off(&mut self, _lost: Deadlock<C>) -> Result<Acquiring<'_, C>, Error> {
         // SAFETY: as in `start`.
-        unsafe { self.inner().back_off(lost.contended()) }?;
+        unsafe { self.inner().back_off() }?;
         Ok(Acquiring { inner: self.inner(), class: PhantomData })
     }
 
@@ -293,7 +284,7 @@ impl<C: Class> Context<C> {
             match inner.lock_all(list) {
                 Ok(guards) => return Ok((Acquiring { inner, class: PhantomData }, guards)),
                 // SAFETY: as in `start`; no guard was kept.
-                Err(Error::Deadlock) => unsafe { inner.back_off(inner.take_contended()) }?,
+                Err(Error::Deadlock) => unsafe { inner.back_off() }?,
                 Err(error) => {
                     // SAFETY: as above.
                     unsafe { inner.start() };
@@ -329,9 +320,7 @@ impl<'x, C: Class> Acquiring<'x, C> {
                 let guard = unsafe { MutexGuard::of(mutex, self.inner.holder()) };
                 Ok((self, guard))
             }
-            Err(Error::Deadlock) => {
-                Err(Refused::Deadlock(Deadlock { contended: self.inner.take_contended(), class: PhantomData }))
-            }
+            Err(Error::Deadlock) => Err(Refused::Deadlock(Deadlock { class: PhantomData })),
             Err(error) => Err(Refused::Other(error, self)),
         }
     }

@@ -6,9 +6,10 @@ mod executor;
 
 use std::cell::RefCell;
 use std::thread;
-use std::time::Duration;
+use std::time::{Duration, Instant};
+use ww_mutex::table::{Mode, Table};
 use ww_mutex::typed::{Context, Refused};
-use ww_mutex::{class, Class, Error, Event, Mutex, SharedMutex, Wait};
+use ww_mutex::{class, Class, Error, Event, Mutex, SharedMutex, Suspended, Wait};
 
 thread_local! {
     /// Those of the thread, since a hook is called by the one that waits.
@@ -35,6 +36,25 @@ const BACKED_OFF: Seen = (None, None);
 
 fn wait(of: Wait, told: Result<(), Error>) -> [Seen; 2] {
     [(Some(of), None), (Some(of), Some(told))]
+}
+
+/// A hook is told of a back-off, and takes nothing from the wait for what was contended.
+#[test]
+#[cfg_attr(feature = "debug-library", ignore)]
+fn by_a_table() {
+    class!(struct Rows: WaitDie);
+    Rows::on_event(tell);
+    let table = Table::<Rows>::open().unwrap();
+    let begin = |owner| table.begin(owner, Rows::options(), &mut Suspended::new()).unwrap();
+    let (mut older, mut younger) = (begin(1), begin(2));
+    older.lock("1", Mode::Exclusive).unwrap();
+    younger.lock("2", Mode::Exclusive).unwrap();
+    assert_eq!(younger.lock("1", Mode::Shared), Err(Error::Deadlock));
+    assert_eq!(told(), [BACKED_OFF]);
+    younger.unlock_all();
+    let late = Instant::now() + Duration::from_millis(20);
+    younger.lock_until("3", Mode::Shared, late).unwrap();
+    assert!(Instant::now() >= late && told().is_empty());
 }
 
 #[test]

@@ -123,10 +123,10 @@ fn a_contended_mutex_may_go() {
             drop(guard);
             return told;
         }
-        // Its place is free at once. Whoever gets that has what the context waited for, and no guard of it is there.
+        // Its place is free at once, and the context has waited for nobody.
         let (one, other) = (Mutex::try_new(1).unwrap(), Mutex::try_new(3).unwrap());
         assert!(Mutex::<Boxes, u64>::try_new(2).is_err());
-        assert!(one.is_locked() != other.is_locked() && !younger.holds(&one) && !younger.holds(&other));
+        assert!(!one.is_locked() && !other.is_locked() && !younger.holds(&one) && !younger.holds(&other));
         let both = younger.lock_all([&one, &other])?;
         assert!(younger.holds(&one) && younger.holds(&other) && one.is_locked() && other.is_locked());
         assert_eq!(both.map(|value| *value), [1, 3]);

@@ -295,8 +295,49 @@ fn follows<C: Class>() {
     }
 }
 
-/// The mutex at which `Deadlock` came is gone, and its number is that of a shared one; or of what the context reads by, which takes
-/// one with its first read.
+/// A context that got `Deadlock` at a mutex which was dropped since waits for none of those that came meanwhile: none has its number,
+/// though they have all that are left.
+#[test]
+fn nobody_waits_for_a_stranger() {
+    class!(struct Boxes: WaitDie, mutexes = 8);
+    for writes in [None, Some(false), Some(true)] {
+        let strangers: [Mutex<Boxes, u64>; 8] = std::array::from_fn(|_| Mutex::new(0));
+        let other = Mutex::<Boxes, u64>::new(0);
+        let mut attempts = 0;
+        let told = Boxes::run(|older| {
+            let mut held = Vec::new();
+            let soon = Options::<Boxes>::new().timeout(Duration::from_millis(500));
+            soon.run(|younger| {
+                attempts += 1;
+                let _other = younger.lock(&other)?;
+                if attempts > 1 {
+                    return Ok(held.len());
+                }
+                let (gone, shared) = (Mutex::new(0), SharedMutex::new(0));
+                let told = match writes {
+                    None => {
+                        let _held = older.lock(&gone)?;
+                        younger.lock(&gone).map(|_| 0)
+                    }
+                    Some(writes) => {
+                        let _held = older.write(&shared)?;
+                        if writes {
+                            younger.write(&shared).map(|_| 0)
+                        } else {
+                            younger.read(&shared).map(|_| 0)
+                        }
+                    }
+                };
+                drop((gone, shared));
+                held.extend(strangers.iter().filter_map(Mutex::try_lock));
+                told
+            })
+        });
+        assert!(attempts == 2 && told.is_ok_and(|held| held > 3));
+    }
+}
+
+/// The mutex at which `Deadlock` came is gone, and other ones come.
 #[test]
 fn what_came_first_may_have_gone() {
     class!(struct Boxes: WaitDie, mutexes = 8, contexts = 4);

@@ -185,6 +185,32 @@ fn a_mutex_that_goes_takes_its_read_along() {
     }
 }
 
+/// As `nobody_waits_for_a_stranger` of threads.
+#[test]
+#[cfg_attr(feature = "debug-library", ignore = "that makes up Deadlocks")]
+fn nobody_waits_for_a_stranger() {
+    class!(struct Boxes: WaitDie, mutexes = 8);
+    let flag = Arc::new(Flag::default());
+    for writes in [None, Some(false), Some(true)] {
+        let strangers: [Mutex<Boxes, u64>; 8] = std::array::from_fn(|_| Mutex::new(0));
+        let other = Mutex::new(0);
+        let (mut older, mut younger) = (Context::<Boxes>::new(), Context::<Boxes>::new());
+        let told = block_on(async {
+            let (older, tx) = (older.attempt().await?, younger.attempt().await?);
+            let (gone, shared, _other) = (Mutex::new(0), SharedMutex::new(0), tx.lock(&other).await?);
+            let _held = (older.lock(&gone).await?, older.write(&shared).await?);
+            match writes {
+                None => tx.lock(&gone).await.map(|_| ()),
+                Some(false) => tx.read(&shared).await.map(|_| ()),
+                Some(true) => tx.write(&shared).await.map(|_| ()),
+            }
+        });
+        assert!(told == Err(Error::Deadlock) && younger.settle(told).is_continue());
+        let held: Vec<_> = strangers.iter().filter_map(Mutex::try_lock).collect();
+        assert!(held.len() > 2 && poll(pin!(younger.attempt()), &flag).is_ready());
+    }
+}
+
 /// As `what_came_first_may_have_gone` of threads.
 #[test]
 #[cfg_attr(feature = "debug-library", ignore = "that makes up Deadlocks")]

@@ -5,7 +5,8 @@
     with buffers.context() as context:
         context.lock(one, other)
 
-Class, Mutex and Context are those of ww_mutex.h, SharedMutex is that of ww_shared.h. Errors are raised as OSError with their errno: Deadlock for EDEADLK,
+Class, Mutex and Context are those of ww_mutex.h, SharedMutex is that of ww_shared.h, Table that of ww_table.h, and Suspended an age of
+ww_retry.h. Errors are raised as OSError with their errno: Deadlock for EDEADLK,
 Already for EALREADY, TimeoutError if a time limit came, and InterruptedError if the wait was cancelled.
 
 In a task of asyncio a context is a TaskContext: `async with buffers.context() as context`, or best `await buffers.run_async(body)`.
@@ -16,11 +17,13 @@ detects, with the lines of the program, and some lock calls raise Deadlock witho
 from typing import TYPE_CHECKING
 
 from .library import WAIT_DIE, WOUND_WAIT, Already, Counts, Deadlock, opened, report_to
-from .mutexes import Class, Context, Mutex, SharedMutex
+from .mutexes import Class, Context, Mutex, Place, SharedMutex, Suspended, Why
+from .tables import KeyUser, Table, Transaction
 
 if TYPE_CHECKING:
     from .tasks import TaskContext
 __all__ = ["WOUND_WAIT", "WAIT_DIE", "Class", "Mutex", "SharedMutex", "Context", "TaskContext", "Already", "Deadlock", "Counts", "report_to"]
+__all__ += ["Suspended", "Table", "Transaction", "KeyUser", "Why", "Place"]
 __version__: str
 
 

@@ -10,7 +10,7 @@ import sys
 from typing import Any, Callable, Dict, NamedTuple, Optional, Tuple
 
 WOUND_WAIT, WAIT_DIE = 0, 1
-_VERSION = 6
+_VERSION = 7
 _LARGEST = 2**32 - 1
 # Not empty: the debug library takes the place of the other one.
 _DEBUGS = os.environ.get("WW_DEBUG", "") not in ("", "0")
@@ -48,6 +48,30 @@ class Counted(ctypes.Structure):
     _fields_ = [(it, ctypes.c_uint64) for it in Counts._fields]
 
 
+class Retry(ctypes.Structure):
+    """struct ww_retry."""
+
+    _fields_ = [("ticket", ctypes.c_uint64), ("seat", ctypes.c_uint32), ("awaits", ctypes.c_uint32)]
+
+
+class _User(ctypes.Structure):
+    """struct ww_user."""
+
+    _fields_ = [("label", ctypes.c_uint64), ("place", ctypes.c_uint32), ("part", ctypes.c_int)]
+
+
+class _Place(ctypes.Structure):
+    """struct ww_place."""
+
+    _fields_ = [("mutex", ctypes.c_void_p), ("number", ctypes.c_uint32), ("by", _User)]
+
+
+class Reasons(ctypes.Structure):
+    """struct ww_why."""
+
+    _fields_ = [("at", _Place), ("wanted", _Place)]
+
+
 class _Number:
     """A number of 32 bits. Any other number becomes the largest one, which no class may have."""
 
@@ -77,6 +101,13 @@ _CALLS |= {
     "ww_acquire_unlock_to": (None, _AT, ctypes.c_size_t),
     "ww_acquire_end_wait": (ctypes.c_int, _AT),
     "ww_seek_end": (None, _AT),
+}
+_CALLS |= {
+    "ww_acquire_suspend": (ctypes.c_int, _AT, ctypes.POINTER(Retry)),
+    "ww_acquire_resume": (ctypes.c_int, _AT, _AT, ctypes.POINTER(Retry), ctypes.POINTER(Time)),
+    "ww_retry_drop": (ctypes.c_int, ctypes.POINTER(Retry)),
+    "ww_acquire_label": (ctypes.c_int, _AT, ctypes.c_uint64),
+    "ww_acquire_why": (ctypes.c_int, _AT, ctypes.POINTER(Reasons)),
 }
 _CALLS |= {
     "ww_acquire_init_poll": (ctypes.c_int, _AT, _AT, _AT, _AT),

@@ -14,9 +14,9 @@ import threading
 import time
 import types
 import weakref
-from typing import TYPE_CHECKING, Any, Awaitable, Callable, Dict, Iterable, List, Optional, Set, TypeVar
+from typing import TYPE_CHECKING, Any, Awaitable, Callable, Dict, Iterable, List, NamedTuple, Optional, Set, TypeVar
 
-from .library import WAIT_DIE, WOUND_WAIT, Already, Counted, Counts, Deadlock, Library, Time, at_caller, opened, told
+from .library import WAIT_DIE, WOUND_WAIT, Already, Counted, Counts, Deadlock, Library, Reasons, Retry, Time, at_caller, opened, told
 
 if TYPE_CHECKING:
     from .tasks import TaskContext
@@ -68,6 +68,12 @@ class _Exit:
 
     def __call__(self, it: Any, *_: object) -> None:
         self._format(it)
+
+
+class _Call(functools.partial):  # type: ignore[type-arg]
+    """A call that is made when it is looked up, by C alone, as _Exit does."""
+
+    made = property(functools.partial.__call__)
 
 
 def _memory(size: int) -> Any:
@@ -130,6 +136,22 @@ def _may_wait(until: Optional[int]) -> None:
         raise RuntimeError("this would stop the running event loop: begin the context by `async with`, and await its lock")
 
 
+def _in_slices(call: Callable[[Optional[Time]], int], until: Optional[int]) -> int:
+    """What a call that waits until this time returns in the end."""
+    if _runs_loop():
+        code = call(Time(0, 0))
+        if code == -errno.ETIMEDOUT:
+            _may_wait(until)
+        return code
+    while until is not None or _is_main():
+        end = time.monotonic_ns() + _SLICE if until is None or _is_main() else until
+        end = end if until is None else min(end, until)
+        code = call(Time(*divmod(end, 10**9)))
+        if code != -errno.ETIMEDOUT or end == until:
+            return code
+    return call(None)
+
+
 class Class:
     """A class of mutexes, among which deadlocks are detected. It has at most this many mutexes and contexts at a time (0:
     65,536, and 1,024 besides one for each thread), and allocates memory for as many. In a forked child it goes on, unless a
@@ -162,10 +184,11 @@ class Class:
         class stays cancelled. It stops nothing else, so a loop that needn't wait goes on: ask whether the program ends there."""
         told(self._library.ww_class_cancel(self._at))
 
-    def context(self, timeout: Optional[float] = None) -> Context:
+    def context(self, timeout: Optional[float] = None, resumes: Optional[Suspended] = None) -> Context:
         """A context. `with` begins it, or in a task `async with`, and ends it when its block ends in whatever way: then it releases
-        everything that it holds. If all contexts are in use it waits for one, at most for `timeout` seconds (TimeoutError)."""
-        return Context(self, timeout)
+        everything that it holds. If all contexts are in use it waits for one, at most for `timeout` seconds (TimeoutError). `resumes`,
+        in a thread, is what Context.suspend returned: it has that age, and first waits for the mutex at which that got Deadlock."""
+        return Context(self, timeout, resumes)
 
     async def run_async(self, body: Callable[[TaskContext], Awaitable[_T]], timeout: Optional[float] = None) -> _T:
         """As run, for a task: returns what `await body(context)` returns, with a context of `async with`."""
@@ -205,6 +228,62 @@ class Class:
                     if not context._is_contended():
                         raise
                 context.unlock_all()
+
+
+class Suspended:
+    """The age of a context that was suspended, by which another one goes on, in whichever thread: a new one would be the youngest. It is
+    true if it has an age. One without an age begins a new context; and so does what was resumed before, or whose class had half of its
+    contexts suspended."""
+
+    def __init__(self, of: Class) -> None:
+        if not isinstance(of, Class):
+            raise TypeError("an age is of a ww.Class")
+        self._class, self._library, self._retry = of, of._library, Retry()
+        self._its_end = _ending(functools.partial(self._library.ww_retry_drop, self._retry), of._its_end)
+
+    def __bool__(self) -> bool:
+        return bool(self._retry.ticket)
+
+    def __repr__(self) -> str:
+        return f"<ww.Suspended of {self._class.name!r} {'with an' if self else 'without'} age>"
+
+    def at_once(self) -> None:
+        """What resumes it doesn't wait first: after a TimeoutError, to lock others first."""
+        self._retry.awaits = 0
+
+    def _suspend(self, context: Any) -> bool:
+        """Whether it has the age of this context, which then has ended."""
+        code = self._library.ww_acquire_suspend(context, self._retry)
+        if code != -errno.EAGAIN:
+            told(code)
+        return bool(not code)
+
+    def _resume(self, context: Any, until: Optional[int]) -> int:
+        return _in_slices(functools.partial(self._library.ww_acquire_resume, context, self._class._at, self._retry), until)
+
+
+class Place(NamedTuple):
+    """A mutex, and one that has it or waits for it: its label (Context.label; 0: none)."""
+
+    number: int
+    label: int
+    part: str  # "nobody", "holds", "reads" or "waits"
+
+    def is_at(self, mutex: Mutex) -> bool:
+        """Whether it is this mutex, of the same class."""
+        return bool(mutex._number.value == self.number)
+
+
+class Why(NamedTuple):
+    """What a context collided with: the mutex at which its last lock call ended that waited or failed, and who has that now; and a mutex
+    that it still has, with one that waits for it."""
+
+    at: Optional[Place]
+    wanted: Optional[Place]
+
+
+def _place(it: Any) -> Optional[Place]:
+    return Place(it.number, it.by.label, ("nobody", "holds", "reads", "waits")[it.by.part]) if it.mutex else None
 
 
 class Mutex:
@@ -350,8 +429,11 @@ class Context(Holder):
     lock is awaited. In other threads, and outside the block, its calls are EINVAL, except cancel. Where it would have to wait in a
     thread that runs a loop of asyncio, it raises RuntimeError."""
 
-    def __init__(self, of: Class, timeout: Optional[float] = None) -> None:
+    def __init__(self, of: Class, timeout: Optional[float] = None, resumes: Optional[Suspended] = None) -> None:
         super().__init__(of, timeout)
+        if resumes is not None and resumes._class is not of:
+            raise _wrong("what is suspended is of another class")
+        self._resumes = resumes
         self._thread: Optional[int] = None
         self._of_task: Optional[TaskContext] = None
         # Who comes first says what is done after an exception: the thread by which it has begun, or whoever leaves it before.
@@ -381,6 +463,8 @@ class Context(Holder):
 
     async def __aenter__(self) -> TaskContext:
         self._begins_once()
+        if self._resumes:
+            raise _wrong("what is suspended goes on in a thread, and not in a task")
         context: TaskContext = _tasks().TaskContext(self._class, self._timeout)
         self._of_task = context
         await context.begin()
@@ -396,8 +480,11 @@ class Context(Holder):
     def _begin(self, until: Optional[int] = None) -> None:
         if self._library.is_debug:
             at_caller(self._library)
-        code = self._library.ww_acquire_init_checked(self._at, self._class._at)
-        told(self._begin_in_turn(until) if code == -errno.EAGAIN else code)
+        if self._resumes:
+            told(self._resumes._resume(self._at, until))
+        else:
+            code = self._library.ww_acquire_init_checked(self._at, self._class._at)
+            told(self._begin_in_turn(until) if code == -errno.EAGAIN else code)
         # All of it is a loop of ww_until_all_locked.
         self._library.ww_tries_begin_(self._at)
         self._thread = threading.get_ident()
@@ -442,19 +529,7 @@ class Context(Holder):
 
     def _answer(self, mutex: Mutex, until: Optional[int], call: Any) -> int:
         """What this lock call returns in the end."""
-        if _runs_loop():
-            code: int = call(mutex._at, self._at, Time(0, 0))
-            if code == -errno.ETIMEDOUT:
-                _may_wait(until)
-            return code
-        while until is not None or _is_main():
-            end = time.monotonic_ns() + _SLICE if until is None or _is_main() else until
-            end = end if until is None else min(end, until)
-            code = call(mutex._at, self._at, Time(*divmod(end, 10**9)))
-            if code != -errno.ETIMEDOUT or end == until:
-                return code
-        code = call(mutex._at, self._at, None)
-        return code
+        return _in_slices(functools.partial(call, mutex._at, self._at), until)
 
     def lock(self, *mutexes: Mutex, timeout: Optional[float] = None) -> None:
         """Acquires all of them, and waits for them; at most for `timeout` seconds (TimeoutError), or until it is cancelled
@@ -516,6 +591,30 @@ class Context(Holder):
             self._library.ww_back_off_(self._at)
         else:
             self._library.ww_acquire_unlock_all(self._at)
+
+    def suspend(self) -> Suspended:
+        """Releases everything, and ends the context, whose age goes on in the result: for a retry that is another's. If half of the
+        class's contexts are suspended, that has none, and what resumes it is the youngest."""
+        self._check()
+        age = Suspended(self._class)
+        self._unlock_all()
+        if not age._suspend(self._at):
+            self._library.ww_acquire_end(self._at)
+        return age
+
+    def label(self, number: int) -> None:
+        """Others find the context by this number of 64 bits (Context.why), until it ends."""
+        self._check()
+        if not 0 <= number < 2**64:
+            raise ValueError("a label is a number of 64 bits")
+        told(self._library.ww_acquire_label(self._at, number))
+
+    def why(self) -> Why:
+        """What it collided with: to be asked after a lock call failed, before anything else is released."""
+        self._check()
+        reasons = Reasons()
+        told(self._library.ww_acquire_why(self._at, ctypes.byref(reasons)))
+        return Why(_place(reasons.at), _place(reasons.wanted))
 
     def __contains__(self, mutex: object) -> bool:
         """Whether it holds this mutex."""

@@ -28,14 +28,17 @@ static void uses_a_class(struct ww_class *c)
 	MUST(!ww_number_put(number, c) && !ww_shared_mutex_destroy(&read) && !ww_mutex_destroy(&m) && !ww_class_free(c));
 }
 
-void library_locks(void);
+/* Returns the function by which it begins contexts. */
+typedef __typeof__(ww_acquire_init) begins;
+begins *library_locks(void);
 
 #ifdef LIBRARY
-void library_locks(void)
+begins *library_locks(void)
 {
 	static DEFINE_WW_CLASS(of_library);
 
 	uses_a_class(&of_library);
+	return ww_acquire_init;
 }
 #else
 int main(void)
@@ -43,7 +46,7 @@ int main(void)
 	static DEFINE_WW_CLASS(of_program);
 
 	for (unsigned k = 0; k < 2; k++) {
-		library_locks();
+		MUST(library_locks() != ww_acquire_init);
 		uses_a_class(&of_program);
 	}
 	puts("beside: the program and the library each use their own copy");

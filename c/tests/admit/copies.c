@@ -6,6 +6,7 @@
  * wherever it lies then, is another copy.  copies LIBRARY LIBRARY, of which the first one is gone once it is closed.
  */
 #include "../mutex_test.h"
+#include "ww_poll.h"
 #include <dlfcn.h>
 #include <sys/wait.h>
 
@@ -14,7 +15,9 @@ static struct copy {
 	__typeof__(ww_mutex_destroy) *destroy;
 	__typeof__(ww_mutex_lock) *lock;
 	__typeof__(ww_mutex_unlock) *unlock;
+	__typeof__(ww_mutex_is_held_by) *is_held_by;
 	__typeof__(ww_acquire_init) *begin;
+	__typeof__(ww_acquire_init_poll) *begin_poll;
 	__typeof__(ww_acquire_fini) *end;
 	__typeof__(ww_class_open) *open;
 	__typeof__(ww_class_free) *free;
@@ -44,7 +47,9 @@ static void *load(struct copy *it, const char *library)
 	*(void **)&it->destroy = named(handle, "ww_mutex_destroy");
 	*(void **)&it->lock = named(handle, "ww_mutex_lock");
 	*(void **)&it->unlock = named(handle, "ww_mutex_unlock");
+	*(void **)&it->is_held_by = named(handle, "ww_mutex_is_held_by");
 	*(void **)&it->begin = named(handle, "ww_acquire_init");
+	*(void **)&it->begin_poll = named(handle, "ww_acquire_init_poll");
 	*(void **)&it->end = named(handle, "ww_acquire_fini");
 	*(void **)&it->open = named(handle, "ww_class_open");
 	*(void **)&it->free = named(handle, "ww_class_free");
@@ -85,10 +90,11 @@ static void does(unsigned what)
 	case 3: it->free(&other->c); break;
 	case 4: it->stats(&other->c, &counts); break;
 	case 5: it->lock(&first, NULL); break;
+	case 6: MUST(!it->begin_poll(&x, &other->c, NULL, NULL)); break;
 	}
 }
 
-enum { WAYS = 6 };
+enum { WAYS = 7 };
 
 /* Each copy has a class, and the thread keeps a seat of it. */
 static void uses(unsigned k)
@@ -151,6 +157,25 @@ static void is_refused(void (*by)(unsigned what), unsigned what)
 	MUST(WIFSIGNALED(status) && WTERMSIG(status) == SIGABRT && strstr(told, "class \"one\": another copy of the library opened it"));
 }
 
+/* This thread has its own seats in the second copy at the place at which the first thread has its own in the first copy. */
+static void *asks_the_second(void *arg)
+{
+	uses(1);
+	MUST(!copies[1].is_held_by(&owns[0].m, NULL));
+	return arg;
+}
+
+/* What a thread holds without a context, by its own seat in one copy, no other thread holds by the other copy. */
+static void is_held_by_one_thread(void)
+{
+	uses(0);
+	MUST(!copies[0].lock(&owns[0].m, NULL) && copies[0].is_held_by(&owns[0].m, NULL));
+	end_thread(begin_thread(asks_the_second, NULL));
+	copies[0].unlock(&owns[0].m);
+	for (unsigned k = 0; k < 2; k++)
+		MUST(!copies[k].destroy(&owns[k].m) && !copies[k].free(&owns[k].c));
+}
+
 int main(int count, char **words)
 {
 	MUST(count == 3);
@@ -162,6 +187,7 @@ int main(int count, char **words)
 	MUST(copies[0].begin != copies[1].begin);
 	for (unsigned what = 0; what < WAYS; what++)
 		is_refused(by_two_copies, what);
+	is_held_by_one_thread();
 	/* A context that one copy began may be used, and ended, by the other. */
 	for (unsigned k = 0; k < 2; k++) {
 		struct own *own = &owns[k];

@@ -52,16 +52,14 @@ static unsigned long made[THREADS];
 static bool stops;
 static unsigned hold_for, least, mutexes, quick = QUICK, to_do;
 
-/* Once in a while a context that waits for no permit, or not for long. */
+/* Once in a while it first asks for a context by a call that waits for no permit, or not for long. */
 static void begin(struct ww_acquire_ctx *x, unsigned drawn)
 {
 	struct timespec soon = in_ms(0);
+	int r = drawn % 8 == 0 ? ww_acquire_init_checked(x, c) : drawn % 8 == 1 ? ww_acquire_init_until(x, c, &soon) : -EAGAIN;
 
-	if (drawn % 8 == 0)
-		MUST(!ww_acquire_init_checked(x, c));
-	else if (drawn % 8 == 1)
-		MUST(!ww_acquire_init_until(x, c, &soon));
-	else
+	MUST(!r || r == (drawn % 8 == 1 ? -ETIMEDOUT : -EAGAIN));
+	if (r)
 		ww_acquire_init(x, c);
 }
 

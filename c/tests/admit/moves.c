@@ -5,7 +5,7 @@
  * seats that threads keep.  Each seat has one user, each mutex one holder, and no seat is lost.  moves TIMES
  */
 #include "../mutex_test.h"
-#include "../../admit/class.h"
+#include "../../admit/crowd.h"
 
 enum { MUTEXES = 3, LEFT = 32, ROUNDS = 12, MANY = 1000 };
 
@@ -112,6 +112,7 @@ static void nothing_is_lost(uint32_t contexts, bool has_own)
 	struct ww_acquire_ctx all[64];
 	uint32_t at_once = contexts + has_own;
 
+	ww_reset_crowd(c.pool); /* the leases of threads that have ended go on for a while */
 	for (uint32_t k = 0; k < at_once; k++)
 		MUST(!ww_acquire_init_checked(&all[k], &c));
 	MUST(ww_acquire_init_checked(&all[at_once], &c) == -EAGAIN);

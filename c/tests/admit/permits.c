@@ -13,7 +13,7 @@
 #include <sys/wait.h>
 
 /* As in crowd.c, in nanoseconds; and longer than this test may take. */
-enum { TIMER_SLACK = 50000, GRACE = 16000000, REST = 16000000, LONGEST_REST = 512000000, MEETING = 1000, AWAKE = 2 };
+enum { TIMER_SLACK = 50000, GRACE = 16000000, REST = 16000000, LONGEST_REST = 512000000, MEETING = 1000, AWAKE = 2, MOST_BEGINS = 16 };
 #define FAR ((uint64_t)1 << 50)
 
 static struct ww_class c, other;
@@ -27,7 +27,23 @@ static __thread unsigned slept;	      /* how often it did, or would have */
 static __thread uint64_t looks;	      /* until when */
 static unsigned called;		      /* how many were woken at most, since one slept last; */
 static unsigned calls_in_all;	      /* and how often some were, ever */
-static bool goes_on;		      /* who slept last would have been woken, or not have slept */
+static const uint32_t *is_called, *sleeps_on; /* who was called last; and who seems to sleep, of those that others[] stands for */
+static bool was_called, goes_on;      /* who slept last was called meanwhile; it would have been woken, or not have slept */
+
+/* In place of other threads that wait. */
+static struct ww_turn others[60000], *last_of_others = others;
+
+/* Whether a thread that waits for a permit of c sleeps on this word. */
+static bool is_turn(const uint32_t *word)
+{
+	const struct ww_turn *it = c.pool->crowd.first;
+
+	if (word >= &others->calls && word < (const uint32_t *)last_of_others)
+		return true;
+	while (it && &it->calls != word)
+		it = it == others ? last_of_others[-1].next : it->next; /* others stand behind one another */
+	return it;
+}
 
 long __real_syscall(long number, ...);
 long __wrap_syscall(long number, ...);
@@ -45,11 +61,14 @@ long __wrap_syscall(long number, ...)
 	is = va_arg(list, uint32_t);
 	until = va_arg(list, const struct timespec *);
 	va_end(list);
-	is_entry = c.pool && word == &c.pool->crowd.calls;
+	is_entry = c.pool && is_turn(word);
 	wakes = (command & FUTEX_CMD_MASK) == FUTEX_WAKE;
 	if (is_entry && wakes) {
-		called = is == INT_MAX ? INT_MAX : called + is;
+		called += is;
 		calls_in_all++;
+		is_called = word;
+		if (word == sleeps_on)
+			return 1;
 	}
 	if (!is_entry || wakes)
 		return __real_syscall(number, word, command, is, until, NULL, FUTEX_BITSET_MATCH_ANY);
@@ -59,8 +78,43 @@ long __wrap_syscall(long number, ...)
 	if (!asleep)
 		return __real_syscall(number, word, command, is, until, NULL, FUTEX_BITSET_MATCH_ANY);
 	asleep();
-	goes_on = __atomic_load_n(word, __ATOMIC_RELAXED) != is && called;
+	was_called = __atomic_load_n(word, __ATOMIC_RELAXED) != is;
+	goes_on = was_called && called;
 	return 0;
+}
+
+/* What happens before this thread locks the queue of c, once, as if another thread came first. */
+static __thread void (*before_lock)(void);
+int __real_pthread_mutex_lock(pthread_mutex_t *lock);
+int __wrap_pthread_mutex_lock(pthread_mutex_t *lock);
+int __wrap_pthread_mutex_lock(pthread_mutex_t *lock)
+{
+	void (*what)(void) = before_lock;
+
+	if (what && lock == &c.pool->queue) {
+		before_lock = NULL;
+		what();
+	}
+	return __real_pthread_mutex_lock(lock);
+}
+
+/* The library's clock, where it stands still. */
+static struct timespec stands_at;
+int __real_clock_gettime(clockid_t id, struct timespec *is);
+int __wrap_clock_gettime(clockid_t id, struct timespec *is);
+int __wrap_clock_gettime(clockid_t id, struct timespec *is)
+{
+	if (!stands_at.tv_sec)
+		return __real_clock_gettime(id, is);
+	*is = stands_at;
+	return 0;
+}
+static void stands(void) { MUST(!__real_clock_gettime(CLOCK_MONOTONIC, &stands_at)); }
+static void goes_by(uint64_t time)
+{
+	uint64_t now = nanoseconds(&stands_at) + time;
+
+	stands_at = (struct timespec){ (time_t)(now / 1000000000), (long)(now % 1000000000) };
 }
 
 /* ---- what is set by hand ---- */
@@ -87,10 +141,30 @@ static void all_end(void)
 /* So many wait, before whoever comes next; and so many no longer do. */
 static void come(uint32_t many)
 {
-	c.pool->crowd.sought += many;
-	c.pool->crowd.waiting += many;
+	struct ww_crowd *crowd = &c.pool->crowd;
+
+	crowd->sought += many;
+	crowd->waiting += many;
+	for (; many; many--, last_of_others++) {
+		*last_of_others = (struct ww_turn){ 0 };
+		*crowd->end = last_of_others;
+		crowd->end = &last_of_others->next;
+	}
 }
-static void go(uint32_t many) { c.pool->crowd.waiting -= many; }
+static void go(uint32_t many)
+{
+	struct ww_crowd *crowd = &c.pool->crowd;
+	struct ww_turn **at = &crowd->first, *last = last_of_others - 1;
+
+	crowd->waiting -= many;
+	last_of_others -= many;
+	while (many && *at != last_of_others)
+		at = &(*at)->next;
+	if (many && crowd->end == &last->next)
+		crowd->end = at;
+	if (many)
+		*at = last->next;
+}
 
 /* This thread's lease is over. */
 static void lease_ends(void)
@@ -102,7 +176,7 @@ static void lease_ends(void)
 
 static void *begins(void *x)
 {
-	is_awake();
+	ww_mine.awake = -1; /* it slept elsewhere, so it needs no permit */
 	MUST(!ww_acquire_init_checked(x, &c));
 	return NULL;
 }
@@ -133,7 +207,9 @@ static bool has(unsigned permit)
 static bool has_one(void) { return ww_mine.permit.id == c.pool->id && ww_mine.permit.ends; }
 
 /* When this thread took its permit. */
-static uint64_t taken(void) { return ww_mine.permit.ends - LEASE; }
+static uint64_t taken(void) { return ww_mine.permit.taken; }
+/* How long it lasts, as in these crowds no rate is known. */
+enum { LASTS = LEASE / 8 };
 
 /* ---- over: taken by who comes, if nobody waits, or by whose turn it is ---- */
 
@@ -175,10 +251,10 @@ static void none_is_passed(void)
 static void looks_in_turn(void)
 {
 	enum { PERMITS = 3 };
-	static const uint64_t ahead[] = { 0, LEASE / 2, LEASE, FAR };
+	static const uint64_t ahead[] = { 0, LASTS * 3 / 4, LASTS, FAR };
 
 	opens(&c, PERMITS);
-	for (uint32_t place = 0; place <= 6000; place = place ? place * 10 : 6)
+	for (uint32_t place = 0; place <= 60000; place = place ? place * 10 : 6)
 		for (unsigned k = place ? 0 : 2; k < sizeof ahead / sizeof *ahead; k++) {
 			uint64_t before = ww_now(), first = before + ahead[k], least, most;
 			unsigned looked;
@@ -188,8 +264,10 @@ static void looks_in_turn(void)
 			ends_at(1, first);
 			ends_at(2, before + FAR);
 			come(place);
+			sleeps_on = &others->calls;
 			asleep = all_end;
 			looked = sleeps();
+			sleeps_on = NULL;
 			go(place);
 			if (!looked && ww_now() + TIMER_SLACK >= first) {
 				k--; /* that came before this thread looked: once more */
@@ -197,11 +275,11 @@ static void looks_in_turn(void)
 			}
 			MUST(looked == 1 && has(0));
 			/* From when this thread came until it took the permit, for which it waited. */
-			least = before + (ahead[k] < LEASE ? LEASE / 16 : LEASE - TIMER_SLACK);
-			least = ahead[k] < LEASE && least < first - TIMER_SLACK ? first - TIMER_SLACK : least;
-			most = taken() + (ahead[k] < LEASE ? LEASE / 16 : LEASE - TIMER_SLACK);
-			most = ahead[k] < LEASE && most < first - TIMER_SLACK ? first - TIMER_SLACK : most;
-			MUST(looks >= least + (uint64_t)LEASE * place / PERMITS && looks <= most + (uint64_t)LEASE * place / PERMITS);
+			least = before + (ahead[k] < LASTS ? LEASE / 16 : LASTS - TIMER_SLACK);
+			least = ahead[k] < LASTS && least < first - TIMER_SLACK ? first - TIMER_SLACK : least;
+			most = taken() + (ahead[k] < LASTS ? LEASE / 16 : LASTS - TIMER_SLACK);
+			most = ahead[k] < LASTS && most < first - TIMER_SLACK ? first - TIMER_SLACK : most;
+			MUST(looks >= least + (uint64_t)LASTS * place / PERMITS && looks <= most + (uint64_t)LASTS * place / PERMITS);
 		}
 	MUST(!ww_class_free(&c));
 }
@@ -209,9 +287,9 @@ static void looks_in_turn(void)
 /* Those before it ended their waits. */
 static void next_in_turn(void)
 {
-	uint64_t soon = ww_now() + LEASE;
+	uint64_t soon = ww_now() + LASTS;
 
-	MUST(looks > soon + 4 * LEASE);
+	MUST(looks > soon + 4 * LASTS - TIMER_SLACK);
 	go(5);
 	asleep = all_end;
 }
@@ -221,16 +299,17 @@ static void moves_up(void)
 	ends_at(0, ww_now() + FAR);
 	come(5);
 	asleep = next_in_turn;
-	MUST(sleeps() == 2 && looks <= taken() + LEASE - TIMER_SLACK && has(0) && !ww_class_free(&c));
+	MUST(sleeps() == 2 && looks <= taken() + LASTS - TIMER_SLACK && has(0) && !ww_class_free(&c));
 }
 
 /* ---- taken: for many contexts, until its lease is over; then it is put back ---- */
 
-/* Each context is counted. */
+/* Each context is counted.  While no time passes the permit stays the same, and it is another one once its lease is over. */
 static void for_many_contexts(void)
 {
 	uint64_t begun, first;
 
+	stands();
 	opens(&c, 1);
 	begun = c.pool->crowd.begun;
 	MUST(!sleeps());
@@ -239,10 +318,50 @@ static void for_many_contexts(void)
 		is_awake();
 		begins_and_ends(&c);
 		MUST(c.pool->crowd.begun + ww_mine.permit.begun - ww_mine.permit.reported == begun + k && !permit_waits(&c) && has(0));
-		MUST(taken() == first || taken() >= first + LEASE);
-		first = taken();
+		MUST(taken() == first && ww_mine.permit.begun == k);
 	}
+	ww_mine.permit.begins = 0;
+	goes_by(LASTS);
+	MUST(!sleeps() && has(0) && taken() == first + LASTS && ww_mine.permit.begun == 1);
+	stands_at.tv_sec = 0;
 	MUST(!ww_class_free(&c));
+}
+
+/* The next contexts begin without a look at the clock if those since the last look took less than a sixteenth of a lease together. */
+static void looks_at_the_clock(void)
+{
+	stands();
+	opens(&c, 1);
+	MUST(!sleeps() && has(0));
+	for (unsigned k = 0; k < 6; k++) {
+		ww_mine.permit.ends = ww_mine.permit.it->ends = ww_now() + FAR;
+		ww_mine.permit.begins = 0;
+		goes_by(k % 2 ? LASTS / 16 : LASTS / 16 - 1);
+		MUST(!sleeps() && ww_mine.permit.seen == ww_now() && ww_mine.permit.begins == (k % 2 ? 0 : MOST_BEGINS));
+	}
+	stands_at.tv_sec = 0;
+	MUST(!ww_class_free(&c));
+}
+
+/* For how long: where each thread has a processor, for an eighth of a lease until a rate is known and while another width is tried. */
+static void for_a_lease(void)
+{
+	static const struct {
+		bool has_processor, tries;
+		uint64_t rate, lasts;
+	} cases[] = { { true, false, 0, LEASE / 8 }, { true, false, 1, LEASE }, { true, true, 1, LEASE / 8 },
+		      { false, false, 0, LEASE }, { false, false, 1, LEASE }, { false, true, 1, LEASE } };
+
+	for (size_t k = 0; k < sizeof cases / sizeof *cases; k++) {
+		opens(&c, 1);
+		c.pool->processors = cases[k].has_processor ? 8 : 1;
+		ww_threads = 2;
+		c.pool->crowd.limiter.tries = cases[k].tries;
+		c.pool->crowd.limiter.rate = cases[k].rate;
+		MUST(!sleeps() && has(0) && ww_mine.permit.ends - taken() == cases[k].lasts);
+		ww_threads = 1;
+		MUST(!ww_class_free(&c));
+	}
 }
 
 static void gives_back(void)
@@ -256,9 +375,11 @@ static void keeps_it(void)
 	ends_at(0, 0);
 }
 
-/* To those that wait, before it comes again; but not once another has taken it. */
+/* To those that wait, before it comes again; but not once another has taken it.  How long its lease was is counted. */
 static void is_given_back(void)
 {
+	uint64_t held;
+
 	opens(&c, 0);
 	begins_and_ends(&c);
 	crowds(&c, 1);
@@ -271,7 +392,9 @@ static void is_given_back(void)
 			ends_at(0, FAR);
 		come(1);
 		asleep = k ? keeps_it : gives_back;
-		MUST(sleeps() == 1 && has(0));
+		held = c.pool->crowd.held;
+		ww_mine.permit.taken -= FAR;
+		MUST(sleeps() == 1 && has(0) && c.pool->crowd.held >= held + FAR);
 		go(1);
 	}
 	MUST(!ww_class_free(&c));
@@ -341,7 +464,7 @@ static void one_is_over(void)
 	c.pool->crowd.due = 0;
 	ends_at(1, 0);
 	another_begins();
-	MUST(calls && called == 1);
+	MUST(calls && called == 1 && c.pool->crowd.due && c.pool->crowd.due <= ww_now() + LEASE);
 }
 static void none_looks(void)
 {
@@ -403,6 +526,25 @@ static void by_who_gives_back(bool has_processor)
 	ends_at(0, ww_now() + FAR);
 	asleep = it_gives_back;
 	MUST(sleeps() == 1 && calls == has_processor && !ww_class_free(&c));
+}
+
+/* The one that has waited longest of those that sleep, though another fell asleep before it looked the last time. */
+static void the_first_is_called(void)
+{
+	for (unsigned k = 0; k < 3; k++) {
+		opens(&c, 1);
+		c.pool->processors = 8;
+		ends_at(0, ww_now() + FAR);
+		come(3);
+		asleep = it_gives_back;
+		sleeps_on = &others[k].calls;
+		MUST(sleeps() == 1 && is_called == sleeps_on && !was_called);
+		for (unsigned each = 0; each < 3; each++)
+			MUST(others[each].calls == (each <= k));
+		go(3);
+		MUST(!ww_class_free(&c));
+	}
+	sleeps_on = NULL;
 }
 
 /* Who got one calls the next, if another is over. */
@@ -533,7 +675,7 @@ static void without_limit(void)
 
 /* ---- times, and cancels ---- */
 
-/* Who can't wait goes on at once; who can, at its time, without a permit.  All are counted. */
+/* Who can't wait is refused at once; who can, at its time.  Only who begins is counted. */
 static void in_time(void)
 {
 	static const struct timespec never = { .tv_sec = (time_t)1 << 62 }, long_ago = { .tv_sec = -1 };
@@ -545,26 +687,26 @@ static void in_time(void)
 	ends_at(0, ww_now() + FAR);
 	begun = c.pool->crowd.begun;
 	slept = 0;
-	MUST(!ww_acquire_init_checked(&x, &c));
-	ww_acquire_fini(&x);
-	MUST(!ww_acquire_init_until(&x, &c, &now));
-	ww_acquire_fini(&x);
-	MUST(!ww_acquire_init_until(&x, &c, &long_ago));
-	ww_acquire_fini(&x);
+	MUST(ww_acquire_init_checked(&x, &c) == -EAGAIN && !x.own);
+	MUST(ww_acquire_init_until(&x, &c, &now) == -ETIMEDOUT && ww_acquire_init_until(&x, &c, &long_ago) == -ETIMEDOUT);
 	MUST(!slept && !permit_waits(&c));
-	MUST(!ww_acquire_init_until(&x, &c, &soon) && !has_one() && ww_now() >= nanoseconds(&soon));
-	ww_acquire_fini(&x);
+	MUST(ww_acquire_init_until(&x, &c, &soon) == -ETIMEDOUT && ww_now() >= nanoseconds(&soon) && !waiting_threads(c.pool));
 	asleep = all_end;
 	MUST(!ww_acquire_init_until(&x, &c, &never) && has(0));
 	ww_acquire_fini(&x);
-	MUST(c.pool->crowd.begun == begun + 5);
+	MUST(c.pool->crowd.begun == begun + 1);
+	ends_at(0, 0);
+	ww_mine.permit = (struct ww_my_permit){ 0 };
+	MUST(!ww_acquire_init_checked(&x, &c) && has(0)); /* a permit that is over is at hand */
+	ww_acquire_fini(&x);
 	/* It comes before this thread's turn; once more if it came before the thread slept. */
-	for (slept = 0; !slept; ww_acquire_fini(&x)) {
+	asleep = NULL;
+	for (slept = 0; !slept;) {
 		soon = in_ms(0);
-		soon.tv_nsec += soon.tv_nsec < 999000000 ? LEASE / 2 : 0;
+		soon.tv_nsec += soon.tv_nsec < 999000000 ? LASTS / 2 : 0;
 		ww_mine.permit = (struct ww_my_permit){ 0 };
 		ends_at(0, ww_now() + FAR);
-		MUST(!ww_acquire_init_until(&x, &c, &soon) && (!slept || looks == nanoseconds(&soon)));
+		MUST(ww_acquire_init_until(&x, &c, &soon) == -ETIMEDOUT && (!slept || looks == nanoseconds(&soon)));
 	}
 	MUST(!ww_class_free(&c));
 }
@@ -577,6 +719,7 @@ static void cancels(void)
 }
 static void a_cancel_ends_it(bool heeds)
 {
+	const struct timespec past = { .tv_nsec = 1 };
 	struct ww_acquire_ctx x;
 
 	opens(&c, 1);
@@ -584,9 +727,12 @@ static void a_cancel_ends_it(bool heeds)
 	asleep = cancels;
 	slept = 0;
 	if (heeds) {
-		MUST(ww_acquire_init_until(&x, &c, NULL) == -EINTR && called == INT_MAX && goes_on && slept == 1);
+		MUST(ww_acquire_init_until(&x, &c, NULL) == -EINTR && called == 1 && goes_on && slept == 1);
 		MUST(ww_acquire_fini_checked(&x) == -EINVAL && ww_acquire_init_until(&x, &c, NULL) == -EINTR && slept == 1);
-		MUST(!waiting_threads(c.pool) && !ww_acquire_init_checked(&x, &c)); /* who needn't wait goes on */
+		MUST(ww_acquire_init_until(&x, &c, &past) == -EINTR); /* a cancel comes before a time that is over */
+		MUST(!waiting_threads(c.pool) && ww_acquire_init_checked(&x, &c) == -EAGAIN);
+		ends_at(0, 0);
+		MUST(!ww_acquire_init_checked(&x, &c)); /* who needn't wait goes on */
 		ww_acquire_fini(&x);
 		ends_at(0, 0);
 	} else {
@@ -631,7 +777,7 @@ static void begins_by_waits(void)
 		limiter = &c.pool->crowd.limiter;
 		c.pool->processors = cases[k].processors;
 		ww_threads = cases[k].threads;
-		c.pool->crowd.begun = c.pool->crowd.waited = 77;
+		c.pool->crowd.begun = c.pool->crowd.waited = c.pool->crowd.sleepers = 77;
 		if (cases[k].rests)
 			c.pool->crowd.quiet_until = UINT64_MAX;
 		ww_mine.waited = 0;
@@ -643,7 +789,8 @@ static void begins_by_waits(void)
 		if (cases[k].begins) {
 			MUST(limiter->width == (cases[k].said ? 3 : 1) && limiter->least == limiter->width);
 			MUST(limiter->most == (cases[k].said ? 3 : cases[k].processors));
-			MUST(!c.pool->crowd.begun && !c.pool->crowd.waited && !c.pool->crowd.held && c.pool->crowd.since > at - 1000 * cases[k].apart && c.pool->crowd.since <= at);
+			MUST(!c.pool->crowd.begun && !c.pool->crowd.waited && !c.pool->crowd.held && !c.pool->crowd.sleepers);
+			MUST(c.pool->crowd.since > at - 1000 * cases[k].apart && c.pool->crowd.since <= at);
 		}
 		ww_threads = 1;
 		MUST(!ww_class_free(&c));
@@ -657,6 +804,24 @@ static bool waits(unsigned samples)
 	for (unsigned k = 0; k < samples; k++)
 		ww_note_wait(c.pool, at += 20000, 40000);
 	return is_crowded(c.pool);
+}
+
+/* Another thread has begun a crowd, of five permits, just before this one would: so it stays that. */
+static void of_five(void) { crowds(&c, 5); }
+static void begins_once(void)
+{
+	bool is;
+
+	opens(&c, 0);
+	ww_mine.waited = 0;
+	ww_mine.counted = at = ww_now();
+	before_lock = of_five;
+	do {
+		is_awake();
+		is = waits(AWAKE);
+	} while (before_lock); /* it slept elsewhere meanwhile */
+	MUST(is && c.pool->crowd.limiter.width == 5 && c.pool->crowd.since == UINT64_MAX - LEASE);
+	MUST(!ww_class_free(&c));
 }
 
 /* A crowd begins by a thread that is awake for AWAKE samples; in a thread that slept elsewhere, for twice as many. */
@@ -722,7 +887,7 @@ static void ends_if_contexts_are_long(void)
 		crowd->waited = cases[k].others;
 		MUST(!sleeps() && has(0));
 		lease_ends();
-		ww_mine.permit.ends = crowd->permits[0].ends = ww_now() - HELD + LEASE;
+		ww_mine.permit.taken = ww_now() - HELD;
 		ww_mine.permit.begun = ww_mine.permit.reported = (uint32_t)(HELD / cases[k].each);
 		ww_mine.permit.waited = 0;
 		ww_mine.permit.ran -= HELD;
@@ -798,14 +963,19 @@ static void it_ends(void)
 	c.pool->crowd.limiter = no_use;
 	c.pool->crowd.due = 0;
 	another_begins();
-	MUST(!is_crowded(c.pool) && called == INT_MAX);
+	MUST(!is_crowded(c.pool) && called == 3);
 }
 static void ends_for_all(void)
 {
 	opens(&c, 1);
 	ends_at(0, ww_now() + FAR);
+	come(2);
+	sleeps_on = &others->calls;
 	asleep = it_ends;
-	MUST(sleeps() == 1 && goes_on && !has_one() && !waiting_threads(c.pool) && !ww_class_free(&c));
+	MUST(sleeps() == 1 && goes_on && !has_one() && waiting_threads(c.pool) == 2);
+	sleeps_on = NULL;
+	go(2);
+	MUST(!ww_class_free(&c));
 }
 
 /* The next crowd begins once the class has rested: each time for twice as long; anew, once a crowd has lasted. */
@@ -916,12 +1086,15 @@ int main(void)
 	looks_in_turn();
 	moves_up();
 	for_many_contexts();
+	for_a_lease();
+	looks_at_the_clock();
 	is_given_back();
 	amid_its_context();
 	says_its_seat();
 	one_is_called();
 	by_who_gives_back(true);
 	by_who_gives_back(false);
+	the_first_is_called();
 	the_next_one();
 	not_for_sleepers();
 	amid_another();
@@ -931,6 +1104,7 @@ int main(void)
 	a_cancel_ends_it(true);
 	a_cancel_ends_it(false);
 	begins_by_waits();
+	begins_once();
 	begins_by_who_is_awake();
 	ends_if_contexts_are_long();
 	ends_by_few_waits();

@@ -185,10 +185,14 @@ static void no_task_passes(bool was_called)
 enum { CLASSES = 13, ROUNDS = 300 };
 static struct ww_class classes[CLASSES];
 
+/* The thread's own comes first, and those that tasks may have, too, come last. */
 static unsigned contexts_of(struct ww_class *of)
 {
 	unsigned count = begins_all(of);
+	const struct ww_pool *p = of->pool;
 
+	for (unsigned k = 1; k <= p->threads.count - p->tasks.count; k++)
+		MUST(all[k].own->of == &p->threads);
 	for (unsigned k = 0; k < count; k++)
 		ww_acquire_fini(&all[k]);
 	return count;

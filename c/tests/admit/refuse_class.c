@@ -2,13 +2,15 @@
  * Each allocation of a class's opening is refused in turn: nothing is left, and the same call does it later.
  *
  * Those of the thread-local key and of what a fork calls are refused too.  The class isn't open then, and nothing is
- * left but the one piece of memory that the next class has.  No other call allocates, but the first read of a context's
- * seat, which is refused then, and changes nothing.  This heap stands in for that of the library, and what the
- * library's sources ask for comes by the wrappers (ld --wrap).
+ * left but the one piece of memory that the next class has.  No other call allocates, but one that needs a seat that isn't made yet,
+ * which finds fewer seats then, and no other error; and the first read of a context's seat, which is refused, and changes nothing.
+ * This heap stands in for that of the library, and what the library's sources ask for comes by the wrappers (ld --wrap).
  */
 #include "../mutex_test.h"
+#include "../../admit/class.h"
 #include "ww_poll.h"
 #include "ww_shared.h"
+#include <limits.h>
 #include <sys/mman.h>
 
 struct tried {
@@ -21,6 +23,8 @@ struct tried {
  * program is loaded.
  */
 static long made, live, keys, refused;
+static long refused_from = LONG_MAX; /* and all from this one on */
+static bool is_refused(void) { return made++ == refused || made > refused_from; }
 static char nothing[16];
 
 /* How the proved library is told of an allocation: whether it has the memory, and an address in any case. */
@@ -55,32 +59,32 @@ int __wrap_pthread_atfork(void (*before)(void), void (*parent)(void), void (*chi
 
 struct tried rattle_alloc(size_t size, size_t align)
 {
-	return told(counted(made++ == refused ? NULL : malloc(size ? size : align)));
+	return told(counted(is_refused() ? NULL : malloc(size ? size : align)));
 }
 
 struct tried rattle_realloc(void *p, size_t kept, size_t size, size_t align)
 {
 	(void)kept;
-	return told(made++ == refused ? NULL : realloc(p, size ? size : align));
+	return told(is_refused() ? NULL : realloc(p, size ? size : align));
 }
 
 void rattle_dealloc(void *p) { free(p); }
 
 /* It returns nothing to the system. */
 void ww_heap_opens(void) { }
-void ww_heap_opened(void) { }
+size_t ww_heap_opened(void) { return 0; }
 
 void *__wrap_aligned_alloc(size_t align, size_t size)
 {
-	return counted(made++ == refused ? NULL : __real_aligned_alloc(align, size));
+	return counted(is_refused() ? NULL : __real_aligned_alloc(align, size));
 }
 
-void *__wrap_calloc(size_t count, size_t size) { return counted(made++ == refused ? NULL : __real_calloc(count, size)); }
+void *__wrap_calloc(size_t count, size_t size) { return counted(is_refused() ? NULL : __real_calloc(count, size)); }
 
-/* That of a slot. */
+/* That of the seats, and of a slot. */
 void *__wrap_mmap(void *at, size_t size, int protection, int flags, int file, off_t from)
 {
-	if (made++ == refused)
+	if (is_refused())
 		return MAP_FAILED;
 	live++;
 	return __real_mmap(at, size, protection, flags, file, from);
@@ -94,7 +98,7 @@ int __wrap_munmap(void *at, size_t size)
 
 int __wrap_pthread_key_create(pthread_key_t *key, void (*end)(void *))
 {
-	if (made++ == refused)
+	if (is_refused())
 		return EAGAIN;
 	keys++;
 	return __real_pthread_key_create(key, end);
@@ -108,7 +112,7 @@ int __wrap_pthread_key_delete(pthread_key_t key)
 
 int __wrap_pthread_atfork(void (*before)(void), void (*parent)(void), void (*child)(void))
 {
-	return made++ == refused ? ENOMEM : __real_pthread_atfork(before, parent, child);
+	return is_refused() ? ENOMEM : __real_pthread_atfork(before, parent, child);
 }
 
 void __wrap_free(void *p)
@@ -194,6 +198,138 @@ static void reads_all(void)
 	}
 }
 
+/* ---- seats that are made later ---- */
+
+enum { SOME = 5 };
+
+static bool begins(struct ww_acquire_ctx *x)
+{
+	int r = ww_acquire_init_checked(x, c);
+
+	MUST(!r || r == -EAGAIN);
+	return !r;
+}
+
+/* All that there are, with this one. */
+static unsigned begin_all(struct ww_acquire_ctx *all, unsigned most)
+{
+	unsigned count = 0;
+
+	while (count < most && begins(&all[count]))
+		count++;
+	return count;
+}
+
+static void end_all(struct ww_acquire_ctx *all, unsigned count)
+{
+	while (count)
+		ww_acquire_fini(&all[--count]);
+}
+
+/* Those for one more seat are refused, from each on in turn: then there is none, and each call says so in its way. */
+static void refuses_each(void)
+{
+	struct ww_acquire_ctx all[SOME + 1];
+	struct ww_mutex m;
+	long of_one;
+
+	MUST(!ww_class_limit(c, 4, SOME));
+	ww_mutex_init(&m, c);
+	MUST(begins(&all[0]));
+	for (refused_from = 0;; refused_from++) {
+		struct timespec soon = in_ms(1);
+
+		made = 0;
+		if (begins(&all[1]))
+			break;
+		made = 0;
+		MUST(!ww_mutex_trylock(&m, NULL) && !ww_mutex_is_locked(&m));
+		made = 0;
+		MUST(ww_mutex_lock_until(&m, NULL, &soon) == -ETIMEDOUT && !ww_mutex_is_locked(&m));
+		made = 0;
+		MUST(ww_acquire_init_until(&all[1], c, &soon) == -ETIMEDOUT);
+		made = 0;
+		MUST(ww_acquire_init_poll(&all[1], c, NULL, NULL) == -ETIMEDOUT);
+	}
+	of_one = made;
+	MUST(made == refused_from && made > 0);
+	refused_from = LONG_MAX;
+	made = 0;
+	MUST(begin_all(&all[2], SOME - 1) == SOME - 2 && made == (SOME - 2) * of_one);
+	end_all(all, SOME);
+	made = 0;
+	MUST(begin_all(all, SOME + 1) == SOME && !made);
+	end_all(all, SOME);
+	MUST(!ww_mutex_destroy(&m) && !ww_class_free(c) && live == 1);
+	printf("%ld allocations for one more seat, refused from each on\n", of_one);
+}
+
+static struct ww_acquire_ctx held[3];
+
+static void *ends_soon(void *arg)
+{
+	usleep(5000);
+	ww_acquire_fini(arg);
+	return NULL;
+}
+
+/* No seat is made any more: there are those that were, for threads and for tasks, and whoever waits gets one that is given. */
+static void by_the_first_ones(bool own_is_there)
+{
+	const struct ww_waker waker = { nobody_wakes, NULL, NULL };
+	struct ww_seek seek = { 0 };
+	struct ww_acquire_ctx x;
+	unsigned most = own_is_there ? 3 : 2;
+
+	MUST(begin_all(held, 3) == most);
+	for (unsigned k = 0; k < most; k++) {
+		pthread_t thread = begin_thread(ends_soon, &held[k]);
+
+		MUST(!ww_acquire_init_until(&x, c, NULL));
+		end_thread(thread);
+		ww_acquire_fini(&x);
+		MUST(begins(&held[k]));
+	}
+	MUST(ww_acquire_init_poll(&x, c, &seek, &waker) == -EINPROGRESS);
+	end_all(held, most);
+	MUST(!ww_acquire_init_poll(&x, c, &seek, &waker));
+	MUST(ww_acquire_init_poll(&held[0], c, NULL, NULL) == -ETIMEDOUT);
+	ww_acquire_fini(&x);
+}
+
+/* A class that says nothing opens with a seat for threads and one for tasks, which threads may have too. */
+static void refuses_all_seats(void)
+{
+	struct ww_acquire_ctx all[SOME];
+
+	MUST(!ww_class_limit(c, 4, 0) && !ww_class_open(c));
+	refused_from = 0;
+	by_the_first_ones(false);
+	refused_from = LONG_MAX;
+	MUST(begins(&all[0]) && all[0].own != c->pool->seats);
+	ww_acquire_fini(&all[0]);
+	refused_from = 0;
+	by_the_first_ones(true);
+	refused_from = LONG_MAX;
+	MUST(begin_all(all, SOME) == SOME);
+	end_all(all, SOME);
+	MUST(!ww_class_free(c) && live == 1);
+}
+
+/* However many contexts a class may have, it opens with as many allocations. */
+static void are_as_many(void)
+{
+	const uint32_t contexts[] = { 2, 16, 4094 };
+	long first = 0;
+
+	for (unsigned k = 0; k < sizeof contexts / sizeof *contexts; k++) {
+		made = 0;
+		MUST(!ww_class_limit(c, 100, contexts[k]) && !ww_class_open(c));
+		first = k ? first : made;
+		MUST(made == first && !ww_class_free(c));
+	}
+}
+
 int main(void)
 {
 	struct ww_class *classes[] = { &wound_wait, &wait_die };
@@ -212,13 +348,17 @@ int main(void)
 				MUST(r == -ENOMEM && live <= 1 && keys <= 1 && !c->pool && !ww_class_free(c));
 			}
 			MUST(made == refused && live > 1);
-			printf("%ld allocations to open a class, each refused in turn; none by the other calls\n", made);
+			printf("%ld allocations to open a class, each refused in turn; none by the other calls, once it has its seats\n", made);
 			refused = -1;
+			uses_all();
 			made = 0;
 			uses_all();
 			MUST(!made && !ww_class_free(c) && live == 1);
 		}
 		reads_all();
+		refuses_each();
+		refuses_all_seats();
+		are_as_many();
 	}
 	return 0;
 }

@@ -113,6 +113,23 @@ static void *uses_for_long(void *arg)
 	return NULL;
 }
 
+/* A thread comes back to the seat that it used last, though the one that it used before is free, too. */
+static void *comes_back(void *arg)
+{
+	struct ww_acquire_ctx first, last;
+	const struct ww_seat *its;
+
+	ww_acquire_init(&first, c);
+	ww_acquire_init(&last, c);
+	its = last.own;
+	ww_acquire_fini(&first);
+	ww_acquire_fini(&last);
+	ww_acquire_init(&last, c);
+	MUST(last.own == its);
+	ww_acquire_fini(&last);
+	return arg;
+}
+
 /* Many threads for few contexts: each gets one at last. */
 static unsigned long sum;
 static struct ww_mutex guard;
@@ -198,6 +215,7 @@ int main(int count, char **words)
 			all_in_use();
 			kept_by_others();
 			end_thread(begin_thread(uses_for_long, NULL));
+			end_thread(begin_thread(comes_back, NULL));
 			MUST(!ww_class_free(c)); /* what threads kept of it is nothing to the next one */
 		}
 		many_for_few();

@@ -30,12 +30,12 @@ RULES = {
     "clears": "who was called says that it isn't any more before it looks",
     "all": "then it looks at all seats",
     "its": "and first at that for which it was called",
-    "passes": "who was called and is handed a seat passes the call on",
     "leaves": "who was called and leaves passes the call on",
     "late": "who waits again, as it hasn't come for a lease, passes the call on",
     "limit": "a claim heeds how many seats may be claimed",
-    "serves": "seats that may be claimed from now on are handed to who waits",
+    "serves": "who waits is called for seats that may be claimed from now on",
     "threads": "nobody else begins while a thread waits",
+    "passes": "who was called and is handed a seat passes the call on",
     "wakes": "who is called wakes, or is awake",
     "ends": "a cancel of the class ends each wait, also that of a task that took its waker back",
     "stays out": "who comes to wait after that doesn't wait",
@@ -106,12 +106,20 @@ class Model:
         return state.but(seats=put(state.seats, s, (t, state.seats[s][1]))).does(t, USES, s)
 
     def call(self, state, s):
-        """The first in the queue that isn't, if there is one, is called for the seat: its waker, or it has taken that back, and is awake."""
+        """
+        The first in the queue that isn't, if there is one, is called for the seat: its waker, or it has taken that back, and is awake.
+        Those that were called stand behind all that wait, in the order of their calls.
+        """
         for k, (who, is_, passed, sleeps) in enumerate(state.queue):
             if is_ == WAITS:
                 called = (who, s, passed, sleeps and not self.has["wakes"])
-                return state.but(queue=put(state.queue, k, called), called=put(state.called, s, True))
+                return state.but(queue=state.queue[:k] + state.queue[k + 1:] + (called,), called=put(state.called, s, True))
         return state
+
+    @staticmethod
+    def first(state):
+        """The first that was called, or else the first that waits; or nobody."""
+        return next((it[0] for it in state.queue if it[1] != WAITS), state.queue[0][0] if state.queue else NOBODY)
 
     def out(self, state, t, passes):
         """It isn't in its queue any more; if it was called, the next one is."""
@@ -130,7 +138,8 @@ class Model:
         late = next((it for it in state.queue if it[1] != WAITS), None)
         if late and any(it[1] == WAITS for it in state.queue):
             state = self.out(state, late[0], "late")
-            yield state.but(queue=state.queue + ((late[0], WAITS, 0, late[3]),))
+            waiting, called = ([it for it in state.queue if (it[1] == WAITS) == is_] for is_ in (True, False))
+            yield state.but(queue=(*waiting, (late[0], WAITS, 0, late[3]), *called))
 
     def hand(self, state, t, s):
         return self.uses(self.out(state, t, "passes"), t, s)
@@ -182,10 +191,10 @@ class Model:
     def ends_one(self, state):
         """The first of those that wait and weren't called, who look by themselves; at last there is none."""
         if state.threads:
-            return self.out(state, state.threads[0], "passes").does(state.threads[0], IDLE)
+            return self.out(state, state.threads[0], "leaves").does(state.threads[0], IDLE)
         for t, is_, _, sleeps in state.queue:
             if is_ == WAITS:
-                state = self.out(state, t, "passes").does(t, IDLE)
+                state = self.out(state, t, "leaves").does(t, IDLE)
                 return state if sleeps or self.has["ends"] else state.but(ends=ENDED)
         return state.but(ends=ENDED)
 
@@ -230,7 +239,7 @@ class Model:
                 state = state.but(called=called, queue=put(state.queue, k, (t, WAITS, state.queue[k][2], True)))
             state = state.but(lock=NOBODY)
             ends = state.ends != GOES_ON and self.has["polls" if what == SCANS else "stays out"]
-            yield self.out(state, t, "passes").does(t, IDLE) if ends else state.does(t, QUEUED)
+            yield self.out(state, t, "leaves").does(t, IDLE) if ends else state.does(t, QUEUED)
 
     def gives(self, state, t, s):
         """It is through: it may come to look at the limiter first."""
@@ -243,10 +252,10 @@ class Model:
             width = WIDTHS[state.width == WIDTHS[0]]
             yield state.but(width=width).does(t, WIDENS, s)
         if state.queue and not state.threads and lent and self.has["hands"] and state.lock is NOBODY:
-            if s < state.width:
-                who = state.queue[0][0]
+            who = self.first(state)
+            if s < state.width and who is not NOBODY:
                 if not self.has["stays"]:
-                    yield self.out(state, who, "passes").but(seats=put(state.seats, s, (NOBODY, False))).does(who, USES, s).does(t, IDLE)
+                    yield self.out(state, who, "leaves").but(seats=put(state.seats, s, (NOBODY, False))).does(who, USES, s).does(t, IDLE)
                     return
                 state = state.but(seats=put(state.seats, s, (NOBODY, False))).does(t, IDLE)
                 yield self.hand(state, who, s)
@@ -271,15 +280,18 @@ class Model:
         return self.hand(done, state.threads[0], s) if state.threads and state.seats[s][0] is NOBODY else done
 
     def widened(self, state, t, s):
-        """Those that may be claimed from now on are handed to who waits; and then it gives its own."""
+        """Who waits is called for those that may be claimed from now on; and then it gives its own."""
         state = state.does(t, USES, s)
         for free in range(state.width):
-            if self.has["serves"] and state.queue and not state.threads and state.seats[free][0] is NOBODY:
-                state = self.hand(state, state.queue[0][0], free)
+            if self.has["serves"] and not state.threads and state.seats[free][0] is NOBODY and not state.called[free]:
+                state = self.call(state, free)
         return state
 
     def polls(self, state, t):
-        """Who was called looks at all; so may who waits.  That takes its waker back, and leaves one, or doesn't wait any more."""
+        """
+        Who was called waits before all others, and looks at all seats.  Who waits passes a late call on, takes its waker back, and leaves one,
+        or doesn't wait any more.
+        """
         k = self.place_of(state, t)
         if k is None:
             return
@@ -288,14 +300,13 @@ class Model:
             yield state.but(queue=put(state.queue, k, (who, is_, passed, False)))
         if is_ == WAITS and not sleeps:
             ends = state.ends != GOES_ON and self.has["polls"]
-            yield self.out(state, t, "passes").does(t, IDLE) if ends else state.but(queue=put(state.queue, k, (who, is_, passed, True)))
-        if is_ == WAITS and any(state.called) and not self.is_barred(state, t):
-            for s in (s for s in range(self.count) if self.is_free(state, t, s)):
-                yield self.hand(state, t, s)
+            yield self.out(state, t, "leaves").does(t, IDLE) if ends else state.but(queue=put(state.queue, k, (who, is_, passed, True)))
+        if is_ == WAITS:
+            yield from self.pass_on(state)
         if is_ == WAITS or sleeps:
             return
         called = put(state.called, is_, False) if self.has["clears"] else state.called
-        state = state.but(called=called, queue=put(state.queue, k, (t, WAITS, passed, False)))
+        state = state.but(called=called, queue=((t, WAITS, passed, False),) + state.queue[:k] + state.queue[k + 1:])
         yield state.but(lock=t).does(t, SCANS, (is_ if self.has["its"] else is_ + 1, 0))
 
     def look(self, state):

@@ -21,7 +21,7 @@ static unsigned pairs = 20000;
 /* So many wait, or went. */
 static void awaits_seekers(uint32_t count)
 {
-	while (__atomic_load_n(&c->pool->threads.seekers, __ATOMIC_SEQ_CST) + __atomic_load_n(&gone, __ATOMIC_SEQ_CST) != count)
+	while (__atomic_load_n(&c->pool->threads.lines[WAITS].seekers, __ATOMIC_SEQ_CST) + __atomic_load_n(&gone, __ATOMIC_SEQ_CST) != count)
 		usleep(100);
 }
 
@@ -75,7 +75,7 @@ static void in_order(void)
 	for (unsigned k = 0; k < WAITERS; k++)
 		if (!is_late(k))
 			end_thread(threads[k]);
-	MUST(come == WAITERS - 2 && !c->pool->threads.seekers);
+	MUST(come == WAITERS - 2 && !c->pool->threads.lines[WAITS].seekers);
 	for (unsigned k = 0; k < come; k++)
 		MUST(order[k] == (k < LATE ? k : k + 2));
 	for (unsigned k = 0; k < WAITERS; k++)
@@ -124,13 +124,13 @@ static void nobody_barges(void)
 		MUST(ww_mutex_trylock(&alone[0], NULL));
 		ww_mutex_unlock(&alone[0]);
 		/* As if somebody waited whom no seat was handed to yet. */
-		of->seekers++;
-		of->first = &other;
-		of->end = &other.next_;
+		of->lines[WAITS].seekers++;
+		of->lines[WAITS].first = &other;
+		of->lines[WAITS].end = &other.next_;
 		MUST(ww_acquire_init_checked(&y, c) == -EAGAIN && !ww_mutex_trylock(&alone[0], NULL));
-		of->seekers--;
-		of->end = &of->first;
-		of->first = NULL;
+		of->lines[WAITS].seekers--;
+		of->lines[WAITS].end = &of->lines[WAITS].first;
+		of->lines[WAITS].first = NULL;
 		ww_acquire_fini(&x);
 	}
 	MUST(!ww_mutex_destroy(&alone[0]) && !ww_class_free(c));
@@ -236,7 +236,7 @@ static void ends_just_then(void)
 		ends_then = &x;
 		before_that = 0;
 		ww_acquire_init(&y, c);
-		MUST(!ends_then && !c->pool->threads.seekers && ww_acquire_init_checked(&x, c) == -EAGAIN);
+		MUST(!ends_then && !c->pool->threads.lines[WAITS].seekers && ww_acquire_init_checked(&x, c) == -EAGAIN);
 		ww_acquire_fini(&y);
 	}
 	ww_class_stats(c, &counts);
@@ -256,10 +256,10 @@ static void gives_up_just_then(void)
 	MUST(!ww_class_limit(c, 1, 1));
 	ww_acquire_init(&x, c);
 	for (unsigned k = 0; k < 3; k++) {
-		MUST(ww_acquire_init_until(&y, c, &past) == -ETIMEDOUT && !c->pool->threads.seekers);
+		MUST(ww_acquire_init_until(&y, c, &past) == -ETIMEDOUT && !c->pool->threads.lines[WAITS].seekers);
 		ends_then = &x;
 		before_that = 1;
-		MUST(!ww_acquire_init_until(&y, c, &past) && !ends_then && !c->pool->threads.seekers);
+		MUST(!ww_acquire_init_until(&y, c, &past) && !ends_then && !c->pool->threads.lines[WAITS].seekers);
 		MUST(ww_acquire_init_checked(&x, c) == -EAGAIN);
 		ww_acquire_fini(&y);
 		MUST(!ww_acquire_init_until(&x, c, &past));
@@ -299,14 +299,12 @@ static void is_never_idle(void)
 
 /* ---- a class that is freed beside the end of its last context, and a fork then ---- */
 
-static void *gives_up(void *arg)
+static void *waits_in_vain(void *arg)
 {
-	struct timespec soon = in_ms(100);
 	struct ww_acquire_ctx x;
 
-	(void)arg;
-	MUST(ww_acquire_init_until(&x, c, &soon) == -ETIMEDOUT);
-	return NULL;
+	MUST(ww_acquire_init_until(&x, c, NULL) == -EINTR);
+	return arg;
 }
 
 static void *ends_and_stops(void *x)
@@ -328,7 +326,7 @@ static bool goes_well_in_child(void)
 }
 
 /*
- * A thread that ended the only context saw somebody wait, who gives up before it is served: when it locks the queue the class is
+ * A thread that ended the only context saw somebody wait, whose wait is cancelled before it is served: when it locks the queue the class is
  * freed.  Then the program forks, and the child's next class has that memory.
  */
 static void freed_and_forked(void)
@@ -340,10 +338,11 @@ static void freed_and_forked(void)
 	MUST(!ww_class_limit(c, 1, 1));
 	ww_acquire_init(&x, c);
 	queue = &c->pool->queue;
-	waits = begin_thread(gives_up, NULL);
+	waits = begin_thread(waits_in_vain, NULL);
 	awaits_seekers(1);
 	ends = begin_thread(ends_and_stops, &x);
 	sem_wait(&stopped);
+	MUST(!ww_class_cancel(c));
 	end_thread(waits);
 	MUST(!ww_class_free(c));
 	sem_post(&goes_on);
@@ -654,7 +653,7 @@ static void each_end_wakes(void)
 			sched_yield();
 	}
 	end_thread(thread);
-	MUST(!c->pool->threads.seekers && !ww_class_free(c));
+	MUST(!c->pool->threads.lines[WAITS].seekers && !ww_class_free(c));
 }
 
 /* So many contexts at once, of a class that may have so many: each but the one beyond is there. */
@@ -732,9 +731,9 @@ static void as_it_is_given(void)
 	MUST(polls(&first) == -EINPROGRESS && polls(&second) == -EINPROGRESS);
 	called_then = one_comes;
 	ww_acquire_fini(&all[0]);
-	MUST(!called_then && first.calls == 1 && polls(&first) == -EINPROGRESS && !second.calls && !c->pool->tasks.calls);
+	MUST(!called_then && !first.calls && polls(&first) == -EINPROGRESS && !second.calls && !c->pool->tasks.lines[CALLED].seekers);
 	ww_acquire_fini(&late.x);
-	MUST(first.calls == 2 && !polls(&first) && !second.calls && !c->pool->tasks.calls);
+	MUST(first.calls == 1 && !polls(&first) && !second.calls && !c->pool->tasks.lines[CALLED].seekers);
 	first.x.own->lease = 0;
 	called_then = none_begins;
 	ww_acquire_fini(&first.x);

@@ -163,7 +163,7 @@ static void freed_amid(void)
 	MUST(!blocks());
 }
 
-/* Of each page that isn't zero one byte isn't. */
+/* Of each page that isn't zero one byte isn't.  A block with large pages begins with one, and its first page goes back too. */
 static void zeros_go(size_t size)
 {
 	size_t pages, kept[] = { 1, 2, 5, 9, 12, 15 };
@@ -173,7 +173,8 @@ static void zeros_go(size_t size)
 	ww_heap_opens();
 	p = block(size);
 	memset(p, 0, size);
-	first = p - (uintptr_t)p % page + page;
+	first = size < LARGE_PAGE ? p - (uintptr_t)p % page + page : p;
+	MUST(size < LARGE_PAGE || !((uintptr_t)p % LARGE_PAGE));
 	pages = (size_t)(p + size - first) / page;
 	for (unsigned k = 0; k < sizeof kept / sizeof *kept; k++) {
 		byte[k] = first + kept[k] * page + (k % 3 == 0 ? page - 1 : k % 3 == 1 ? 0 : page / 2);

@@ -260,8 +260,21 @@ static void knows_no_past(void)
 	MUST(r.limiter.kept == 2);
 }
 
+/* Where the width has just changed, as many contexts as that of the width before have to end first: so many begin, and none counts. */
+static void settles(void)
+{
+	for (uint32_t begun = 0; begun <= 64; begun += 16) {
+		struct ww_limiter it = {
+			.width = 1, .kept = 64, .least = 1, .most = 64, .before = 64, .many = 1, .tries = true, .settles = true, .since = 1,
+		};
+
+		MUST(ww_limiter_look(&it, MILLISECOND, begun, 1) && it.settles == (begun < 64) && it.since == (begun < 64 ? 1 : MILLISECOND));
+	}
+}
+
 int main(void)
 {
+	settles();
 	ends_up(cases, sizeof cases / sizeof *cases, false);
 	ends_up(bounded, sizeof bounded / sizeof *bounded, true);
 	ends_with_its_load();

@@ -296,12 +296,14 @@ static void *waits_for_it(void *arg)
 	return arg;
 }
 
-/* Who owns a lock is read off its word as the library says it. */
+/* Who owns a lock, and by which timestamp, is read off its word as the library says it; a debugger finds the timestamp in the seat, too. */
 static void word_says(ww_seat *s)
 {
-	uint64_t word = look_at(owned.pool, &owned);
+	uint64_t word = look_at(owned.pool, &owned), stamp;
 
 	MUST(owner_of_word(word) == place_among(s) && owner_of_word(word) == owner_in(ww_look_(&s->handle, owned.number)));
+	memcpy(&stamp, (const char *)s->handle.at + STAMP_AT, sizeof stamp);
+	MUST(stamp == word >> (0xD4 >> word % 8 & 1 ? 15 : 8) && !stamp == !!seat_of(&owned));
 }
 
 /* By each seat of a class of few and of many, with a context and without one, and with somebody who waits for it. */

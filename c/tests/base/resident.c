@@ -4,13 +4,12 @@
  * What is zero once it is open is returned to the system.  Afterwards all of them work, those that wait for one or read
  * make little resident, and the class opens again.
  */
-#include "../mutex_test.h"
+#include "../resident.h"
 #include "ww_shared.h"
 #include "../../admit/class.h"
-#include <sys/mman.h>
 
 /* Of so many mutexes so many are used, whose words lie all over the class; and of these one in so many is waited for. */
-enum { MUTEXES = 1 << 20, NUMBERS = MUTEXES / 4, WAITERS = 16, APART = NUMBERS / WAITERS, MiB = 1 << 20 };
+enum { MUTEXES = 1 << 20, NUMBERS = MUTEXES / 4, WAITERS = 16, APART = NUMBERS / WAITERS };
 
 static DEFINE_WW_CLASS(wound_wait);
 static DEFINE_WD_CLASS(wait_die);
@@ -18,40 +17,6 @@ static struct ww_class *c;
 static uint32_t numbers[NUMBERS];
 static unsigned long counters[NUMBERS];
 static pthread_barrier_t turns;
-
-/* The bytes of this process that are resident and of no file, or -1. */
-static long resident(void)
-{
-	FILE *from = fopen("/proc/self/smaps_rollup", "r");
-	char line[256];
-	long kib = -1;
-
-	while (from && fgets(line, sizeof line, from))
-		if (sscanf(line, "Anonymous: %ld", &kib) == 1)
-			break;
-	if (from)
-		fclose(from);
-	return kib < 0 ? -1 : kib * 1024;
-}
-
-/*
- * Whether it tells, and what a program frees or returns to the system isn't resident any more: of an emulator or valgrind
- * that isn't so.
- */
-static bool is_told(void)
-{
-	const size_t size = 32 * MiB, part = size / 2;
-	char *p = aligned_alloc(MiB, size);
-	long before = resident(), there, returned, freed;
-
-	MUST(p);
-	memset(p, 1, size);
-	there = resident();
-	returned = madvise(p, part, MADV_DONTNEED) ? there : resident();
-	free(p);
-	freed = resident();
-	return before >= 0 && there - returned > 12 * MiB && freed - before < 2 * MiB;
-}
 
 static void locks(struct ww_acquire_ctx *x, unsigned k)
 {

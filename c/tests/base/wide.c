@@ -20,7 +20,7 @@ static void neither_has_the_others_locks(uint32_t kind)
 {
 	ww_handle *narrow = &seats[NARROW], *wide = &seats[WIDE];
 
-	MUST(!ww_open_(kind, 8, 1000, seats, SEATS) && !ww_begin_(wide)); /* stamp 1 */
+	MUST(!open_all(kind, 8, 1000, seats, SEATS) && !ww_begin_(wide)); /* stamp 1 */
 	for (unsigned k = FIRST + 1; k < LATER; k++)
 		MUST(!ww_begin_(&seats[0]) && !ww_end_(&seats[0]));
 	MUST(!ww_begin_(narrow)); /* stamp 129 */
@@ -37,7 +37,7 @@ static void neither_has_the_others_locks(uint32_t kind)
 /* Each seat has all locks in turn, and no other seat has one of them meanwhile. */
 static void each_seat_has_its_own(uint32_t kind, uint32_t count)
 {
-	MUST(!ww_open_(kind, 3, 10000, seats, count));
+	MUST(!open_all(kind, 3, 10000, seats, (uint16_t)count));
 	for (uint32_t k = 0; k < count; k++) {
 		ww_handle *h = &seats[k], *other = &seats[(k + 1) % count];
 

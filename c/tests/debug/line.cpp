@@ -1,8 +1,8 @@
-// The debug library tells where a wrong call came through ww_mutex.hpp: `wrong` stands in each such line.
+// The debug library tells where a wrong call came through ww_mutex.hpp or ww_table.hpp: `wrong` stands in each such line.
 #ifndef WW_DEBUG
 #define WW_DEBUG
 #endif
-#include "ww_mutex.hpp"
+#include "ww_table.hpp"
 #include <cerrno>
 #include <cstdio>
 #include <cstdlib>
@@ -25,6 +25,12 @@ int main()
 	std::vector<mutex *> list{ &m };
 	const timespec at{};
 	auto next = [&](bool starts) { return starts ? &m : nullptr; };
+	{
+		ww::lock_table table(c);
+		ww::transaction t(table, 1);
+
+		must(t.unlock("none") == ww::table_result::not_held);	// wrong
+	}
 	context x(c);
 
 	must(x.lock(m) == -EINVAL);	// wrong
@@ -37,6 +43,6 @@ int main()
 	must(!x.with_walk(next, [] {}));	// wrong
 	must(!ww::lock_walk(c, next, [] {}));	// wrong
 	must(!ww::lock_by(c, [&](context &y) { return y.lock(m); }, [] {}));	// wrong
-	must(ww_debug_faults() == 10);
+	must(ww_debug_faults() == 11);
 	return 0;
 }

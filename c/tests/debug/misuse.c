@@ -140,6 +140,8 @@ static void told_without_need(void)
 	ww_mutex_init(&its, &c);
 	lines->asked = __LINE__ + 1;
 	MUST(ww_mutex_lock(&its, &x) == -EDEADLK && !its.ctx);
+	/* From here on each answer is as after one that wasn't made up. */
+	MUST(ww_mutex_lock(&a, &x) == -EALREADY && !ww_mutex_trylock(&a, &x) && !ww_mutex_trylock(&its, &x) && x.acquired == 1);
 	MUST(HERE(ww_mutex_lock(&its, &x)) == -EINVAL);
 }
 
@@ -504,7 +506,7 @@ int main(int count, char **words)
 	tells(unlocks_in_vain, "ww_mutex_unlock: nobody holds the mutex, or it is a copy of that which is held");
 	tells(unlocks_what_nobody_holds, "ww_mutex_unlock: class \"c\": " NOT_LOOKED_AT " $");
 	tells(unlocks_anothers, "ww_mutex_unlock: class \"c\": " NOT_LOOKED_AT " $");
-	tells(unlocked_by_another, "ww_mutex_unlock: class \"c\": another thread acquired the mutex");
+	tells(unlocked_by_another, "ww_mutex_unlock: class \"c\": its context is another thread's, which named it last in a call: see ww_acquire_here");
 	goes_on();
 	prints_beside_others();
 	MUST(!ww_debug_faults() && !ww_class_free(&c));

@@ -7,6 +7,8 @@
 #ifndef WW_DEBUG
 #define WW_DEBUG
 #endif
+#include "../mutex_test.h"
+#include "ww_retry.h" /* before the next one, behind which no call says its line */
 #include "../crowd.h"
 #include "../later.h"
 #include <sys/mman.h>
@@ -61,18 +63,27 @@ static void second_context(void)
 	MUST(ww_debug_warnings() == 2);
 }
 
-/* Each time as the youngest; one that backs off isn't told. */
-static void begins_anew(void)
+/* Each time as the youngest; one that backs off isn't told, nor one that is suspended, though its value is dropped. */
+static void loses_its_age(void)
 {
-	for (unsigned k = 0; k < 8; k++) {
-		AT(1, ww_acquire_init(&x, &c));
-		x.deadlock_inject_countdown = k == 2 ? ~0u : 0;
-		MUST(!ww_mutex_lock(&a, &x) && ww_mutex_lock(&b, &x) == (k == 2 ? 0 : -EDEADLK));
+	struct ww_retry retry = { 0 };
+
+	for (unsigned k = 0; k < 5; k++) {
+		ww_acquire_init(&x, &c);
+		x.deadlock_inject_countdown = k == 0 ? ~0u : 0;
+		MUST(!ww_mutex_lock(&a, &x) && AT(0, ww_mutex_lock(&b, &x)) == (k == 0 ? 0 : -EDEADLK));
 		ww_mutex_unlock(&a);
-		if (k == 2)
+		if (k == 0)
 			ww_mutex_unlock(&b);
-		ww_acquire_fini(&x);
-		MUST(ww_debug_warnings() == (k > 5));
+		if (k == 1) {
+			ww_mutex_lock_slow(&b, &x);
+			ww_mutex_unlock(&b);
+		}
+		if (k == 2)
+			MUST(!ww_acquire_suspend(&x, &retry) && !ww_retry_drop(&retry));
+		else
+			AT(1, ww_acquire_fini(&x));
+		MUST(ww_debug_warnings() == (k > 2));
 	}
 }
 
@@ -141,6 +152,8 @@ static void awaits_seekers(unsigned count)
 	}
 }
 
+static bool has_tried; /* it found no context at its time, for which it waited a moment, too */
+
 static void *waits_for_context(void *holds)
 {
 	struct timespec now = in_ms(0);
@@ -149,6 +162,7 @@ static void *waits_for_context(void *holds)
 	if (holds)
 		AT(0, ww_mutex_lock(&other, NULL));
 	MUST(ww_mutex_lock_until(&a, NULL, &now) == -ETIMEDOUT && !ww_debug_warnings());
+	__atomic_store_n(&has_tried, true, __ATOMIC_SEQ_CST);
 	AT(1, ww_acquire_init(&z, &c));
 	ww_acquire_fini(&z);
 	if (holds)
@@ -164,7 +178,10 @@ static void wait_for_context(void)
 	for (size_t holds = 0; holds < 2; holds++) {
 		ww_acquire_init(&x, &c);
 		ww_mutex_lock(&b, NULL);
+		has_tried = false;
 		thread = begin_thread(waits_for_context, (void *)holds);
+		while (!__atomic_load_n(&has_tried, __ATOMIC_SEQ_CST))
+			usleep(100);
 		awaits_seekers(1);
 		ww_mutex_unlock(&b);
 		ww_acquire_fini(&x);
@@ -181,6 +198,14 @@ static void stays_open(void)
 	for (unsigned k = 0; k < 2; k++)
 		MUST(AT(2, ww_class_free(&c)) == -EBUSY);
 	MUST(ww_debug_warnings() == 1);
+}
+
+static void stays_suspended(void)
+{
+	struct ww_retry retry = { 0 };
+
+	AT(0, ww_acquire_init(&x, &c));
+	MUST(!AT(1, ww_acquire_suspend(&x, &retry)) && AT(2, ww_class_free(&c)) == -EBUSY);
 }
 
 /* ---- deadlocks ---- */
@@ -434,13 +459,15 @@ int32_t __wrap_ww_go_on_(ww_handle *handle)
 
 static void *is_wounded(void *arg)
 {
+	struct ww_retry retry = { 0 };
+
 	(void)arg;
 	is_younger = true;
 	ww_acquire_init(&y, &c);
 	y.deadlock_inject_countdown = ~0u;
 	MUST(!ww_mutex_lock(&b, &y) && ww_mutex_lock(&a, &y) == -EDEADLK);
 	ww_mutex_unlock(&b);
-	ww_acquire_fini(&y);
+	MUST(!ww_acquire_suspend(&y, &retry) && !ww_retry_drop(&retry));
 	return NULL;
 }
 
@@ -622,8 +649,8 @@ static void tells_warnings(void)
 {
 	tells(4, 4, second_context, "$1: ww_acquire_init: class \"c\": " OTHER_CONTEXT "$0\n"
 				    "$2: ww_acquire_init: class \"c\": " OTHER_CONTEXT "$0\n");
-	tells(4, 4, begins_anew, "$1: ww_acquire_init: class \"c\": the last 3 contexts that the thread began here ended after -EDEADLK: one that "
-				 "begins anew is the youngest, and gives way again; let it back off, and go on\n");
+	tells(4, 4, loses_its_age, "$1: ww_acquire_fini: class \"c\": the context loses its age: one that begins in its place is the youngest, and "
+				   "gives way again; let it back off, and go on, or suspend it (ww_retry.h); it got -EDEADLK at $0\n");
 	tells(4, 4, without_context, "$2: ww_mutex_lock: class \"c\": " BESIDE "$1\n");
 	tells(4, 4, without_context_beside_one, "$1: ww_mutex_lock: class \"c\": " BESIDE "$0\n");
 	tells(2, 2, wait_for_context, "$1: a wait for a context: class \"c\": " NONE_LEFT "$0\n");
@@ -637,9 +664,12 @@ static void tells_warnings(void)
 	      "$1: ww_acquire_init: class \"c\": the context that was here before was left without ww_acquire_fini; it began at $0\n"
 	      "$1: ww_acquire_init: class \"c\": " OTHER_CONTEXT "$0\n"
 	      "$2: ww_acquire_init: class \"c\": " OTHER_CONTEXT "$0\n");
+	tells(4, 2, stays_suspended,
+	      "$2: ww_class_free: class \"c\": 2 of 8 mutexes and 1 of 4 contexts in use, waits for a context: 0\n"
+	      "the user of context 1: context 1 began at $0; suspended at $1\n");
 	tells(2, 2, stays_open,
 	      "$2: ww_class_free: class \"c\": 2 of 8 mutexes and 2 of 2 contexts in use, waits for a context: 0\n"
-	      "seat 0: context 1 began at $0; ~2\nseat 1: a lock without a context began at $1; ~2\nmutex 0 is held by seat 1\n");
+	      "~2: context 1 began at $0\n~2: a lock without a context began at $1\nmutex 0 is held by ~2 since $1\n");
 }
 
 static void tells_deadlocks(void)
@@ -660,7 +690,7 @@ static void tells_deadlocks(void)
 				 "~0 waits at $1 for mutex 4 of class \"c\", which ~1 holds\n"
 				 "~1 waits at $1 for mutex 0 of class \"c\", which ~0 holds\n");
 	tells(4, 2, itself, "$1: ww_mutex_lock: class \"c\": " BESIDE "$0\n"
-			    "$1: a wait: no class detects this deadlock of 1 thread\n"
+			    "$1: a wait: the thread waits for what it holds itself\n"
 			    "~0 waits at $1 for mutex 0 of class \"c\", which ~0 holds\n");
 	tells(4, 2, three, "$1: ww_mutex_lock: class \"c\": " BESIDE "$0\n"
 			   "$1: a wait: no class detects this deadlock of 3 threads\n"
@@ -712,18 +742,17 @@ static void prints_what_is(void)
 	ww_mutex_init(&b, &c);
 	prints(2, 0, "");
 	AT(0, ww_acquire_init(&x, &c));
-	MUST(!ww_mutex_lock(&a, &x));
+	MUST(!AT(3, ww_mutex_lock(&a, &x)));
 	thread = begin_thread(acquires, NULL);
 	awaits_waiter(&a);
-	prints(2, 2, "seat 0: context 1 began at $0; ~2\nseat 1: a lock without a context began at $1; ~0 waits at $1 for mutex 0\n"
-		     "mutex 0 is held by seat 0\n");
+	prints(2, 2, "~2: context 1 began at $0\n~0: a lock without a context began at $1; waits at $1 for mutex 0\nmutex 0 is held by ~2 since $3\n");
 	ww_mutex_unlock(&a);
 	pthread_barrier_wait(&all_hold);
-	prints(2, 2, "seat 0: context 1 began at $0; ~2\nseat 1: a lock without a context began at $1; ~0\nmutex 0 is held by seat 1\n");
+	prints(2, 2, "~2: context 1 began at $0\n~0: a lock without a context began at $1\nmutex 0 is held by ~0 since $1\n");
 	MUST(ww_mutex_lock_until(&a, &x, &now) == -ETIMEDOUT && ww_mutex_lock_until(&a, NULL, &now) == -ETIMEDOUT);
 	pthread_barrier_wait(&all_hold);
 	end_thread(thread);
-	prints(2, 1, "seat 0: context 1 began at $0; ~2\n");
+	prints(2, 1, "~2: context 1 began at $0\n");
 	ww_acquire_fini(&x);
 	MUST(!ww_mutex_destroy(&b));
 	prints(1, 0, "");

@@ -309,6 +309,35 @@ static void without_one(void)
 
 /* ---- waits ---- */
 
+static void *locks_another(void *unused)
+{
+	MUST(!ww_number_lock(n[1], &x) && x.acquired == 1);
+	ww_acquire_unlock_all(&x);
+	return unused;
+}
+
+/* The number for which a loop waits first is left meanwhile: its body can't ask for that, so the loop doesn't hold it on. */
+static void is_left_amid_a_wait(void)
+{
+	enum { WAITERS = 0xffff, OF_A_LOOP = 2 /* it counts itself, and so does its wait */ };
+	pthread_t thread;
+
+	begins(&y);
+	begins(&x);
+	MUST(!ww_number_lock(n[0], &y));
+	ww_acquire_begin_tries(&x);
+	MUST(!ww_number_lock(n[1], &x) && ww_number_lock(n[0], &x) == -EDEADLK && ww_acquire_end_try(&x));
+	thread = begin_thread(locks_another, NULL);
+	while ((__atomic_load_n(&mutex_at(n[0])->waiters, __ATOMIC_SEQ_CST) & WAITERS) != OF_A_LOOP)
+		usleep(100);
+	ww_number_leave(n[0], c);
+	MUST(!ww_number_unlock(n[0], &y));
+	end_thread(thread);
+	MUST(!ww_number_take(&n[0], c));
+	ww_acquire_fini(&x);
+	ww_acquire_fini(&y);
+}
+
 /* It waits for n[0], which another holds, with n[1] held. */
 static void *waits(void *arg)
 {
@@ -610,6 +639,8 @@ static void all_of(struct ww_class *class_)
 	tells(has_one_victim, 0);
 	if (c == &wait_die)
 		tells(another_comes_first, 1);
+	if (c == &wait_die)
+		tells(is_left_amid_a_wait, 0);
 	tells(in_a_child, 0);
 	puts_back();
 	MUST(!ww_class_free(c) && !ww_class_limit(c, COUNT, THREADS));

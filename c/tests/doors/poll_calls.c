@@ -182,6 +182,21 @@ static void waits_for_a_context(void)
 	ends(&x);
 }
 
+/*
+ * The library's clock. It stands still while the tests of contexts run, as a thread that lost its processor for longer than a lease would
+ * else find that who was called came too late.
+ */
+static struct timespec stands_at;
+int __real_clock_gettime(clockid_t id, struct timespec *at);
+int __wrap_clock_gettime(clockid_t id, struct timespec *at);
+int __wrap_clock_gettime(clockid_t id, struct timespec *at)
+{
+	if (!stands_at.tv_sec)
+		return __real_clock_gettime(id, at);
+	*at = stands_at;
+	return 0;
+}
+
 /* Whether one can be begun at once. */
 static bool begins_at_once(struct ww_acquire_ctx *ctx)
 {
@@ -210,7 +225,7 @@ static uint32_t given(const struct ww_seats *of)
 	return sum;
 }
 
-/* Its seat goes to whoever begins next, or to the one that waits longest; so that no pause of the machine decides. */
+/* Its seat goes to whoever begins next, or to the one that waits longest. */
 static void is_lent(struct ww_acquire_ctx *ctx, bool is) { ctx->own->lease = is ? UINT64_MAX : 1; }
 
 /* Both contexts are in use, and lent, and so many tasks wait. */
@@ -244,7 +259,7 @@ static void handed_in_turn(void)
 	is_lent(&both[1], false);
 	ww_acquire_fini(&both[1]);
 	MUST(called[0] == 1 && !called[1] && !begins_at_once(&y) && !ww_poll_take_back(&y, &seeks[0]));
-	MUST(looks(1, &y) == -EINPROGRESS && !looks(0, &both[1]) && both[1].own->lease > 0);
+	MUST(looks(1, &y) == -EINPROGRESS && !looks(0, &both[1]) && both[1].own->lease > ww_now());
 	is_lent(&both[0], false);
 	ww_acquire_fini(&both[0]);
 	MUST(called[1] == 1 && !looks(1, &both[0]));
@@ -301,12 +316,15 @@ static void may_come_until(const ww_seat *s, uint64_t time)
 }
 
 /*
- * The first doesn't come: others go on nevertheless, be it that the next one is called for another seat, that one polls without a call,
- * or that the lease of the first is over: then the next one is called in its place.
+ * The first doesn't come: others go on nevertheless, be it that the next one is called for another seat, or that the call of the first has
+ * lasted for a lease: then the next one is called in its place, by whoever gives its seat, polls, or comes to wait.
  */
 static void goes_on_without_who_was_called(void)
 {
 	struct ww_acquire_ctx both[2];
+	struct ww_seek more = { 0 };
+	int calls = 0;
+	const struct ww_waker waker = counts_in(&calls);
 
 	all_in_use(both, 2);
 	end_both(both);
@@ -324,13 +342,37 @@ static void goes_on_without_who_was_called(void)
 	may_come_until(both[0].own, 1);
 	ww_acquire_fini(&both[0]);
 	MUST(called[0] == 1 && called[1] == 1 && !called[2]);
-	MUST(!looks(2, &both[0]) && looks(1, &y) == -EINPROGRESS && looks(0, &y) == -EINPROGRESS);
+	MUST(looks(2, &y) == -EINPROGRESS && looks(0, &y) == -EINPROGRESS && !looks(1, &both[0]));
 	ww_acquire_fini(&both[0]);
-	MUST(called[0] == 1 && called[1] == 2 && !looks(1, &both[0]));
+	MUST(called[0] == 1 && called[2] == 1 && !looks(2, &both[0]));
 	ww_acquire_fini(&both[0]);
 	MUST(called[0] == 2);
+	may_come_until(seeks[0].seat_, 1); /* it may come nevertheless, while nobody comes in its place */
 	MUST(!looks(0, &both[0]));
 	end_both(both);
+
+	all_in_use(both, 2);
+	ww_acquire_fini(&both[0]);
+	MUST(called[0] == 1 && looks(1, &y) == -EINPROGRESS);
+	may_come_until(seeks[0].seat_, 1);
+	MUST(!looks(1, &both[0]) && looks(0, &y) == -EINPROGRESS);
+	ww_acquire_fini(&both[0]);
+	MUST(called[0] == 2 && !looks(0, &both[0]));
+	end_both(both);
+
+	all_in_use(both, 3);
+	end_both(both);
+	MUST(called[0] == 1 && called[1] == 1 && !called[2]);
+	ww_mine.last.id = NO_ID; /* so a task of this thread that comes looks at no seat */
+	MUST(ww_acquire_init_poll(&y, c, &more, &waker) == -EINPROGRESS && !called[2]);
+	ww_seek_end(&more);
+	may_come_until(seeks[0].seat_, 1);
+	MUST(ww_acquire_init_poll(&y, c, &more, &waker) == -EINPROGRESS && called[2] == 1);
+	ww_seek_end(&more);
+	MUST(!looks(2, &both[0]) && !looks(1, &both[1]) && looks(0, &y) == -EINPROGRESS);
+	end_both(both);
+	MUST(called[0] == 2 && !looks(0, &y));
+	ww_acquire_fini(&y);
 }
 
 /* What may not be claimed any more is nobody's; what may be from now on is whose who waits. */
@@ -361,8 +403,10 @@ static void as_many_as_the_limiter_says(void)
 		.begun = given(tasks) - 1000,
 	};
 	tasks->due = 0;
+	tasks->seats[2].given += 1000; /* by a context within another one: what may be claimed from now on is counted from now on */
 	is_lent(in, true);
 	ww_acquire_fini(in);
+	MUST(tasks->open > 2 && tasks->limiter.begun == given(tasks));
 	tasks->due = UINT64_MAX;
 	MUST(called[1] == 1 && called[2] == 1 && !looks(1, in) && !looks(2, out));
 	MUST(begins_at_once(&more) && !begins_at_once(&y));
@@ -407,7 +451,7 @@ static void waits_for_a_lock(struct ww_acquire_ctx both[2], uint64_t due)
 	MUST(!ww_mutex_lock_poll(&m[0], &both[0], &wakers[0]) && ww_mutex_lock_poll(&m[0], &both[1], &wakers[0]) == -EINPROGRESS);
 	ww_mutex_unlock(&m[0]);
 	tasks->due = due;
-	MUST(!ww_mutex_lock_poll(&m[0], &both[1], &wakers[0]) && tasks->due > due);
+	MUST(!ww_mutex_lock_poll(&m[0], &both[1], &wakers[0]) && tasks->due > ww_now() && tasks->due <= ww_now() + LEASE);
 	ww_mutex_unlock(&m[0]);
 }
 
@@ -421,17 +465,35 @@ static void looks_after_a_wait(void)
 
 	ww_mutex_init(&m[0], c);
 	all_in_use(both, 0);
-	do { /* until it was looked at soon, whatever else the machine does */
-		one.since = now = ww_now();
-		one.begun = given(tasks);
-		tasks->limiter = one;
-		waits_for_a_lock(both, now);
-	} while (ww_now() - now > 2000000);
+	one.since = now = ww_now();
+	one.begun = given(tasks);
+	tasks->limiter = one;
+	waits_for_a_lock(both, now);
 	MUST(tasks->open == 1 && tasks->limiter.rate == 1);
 	waits_for_a_lock(both, now - 20000000);
 	MUST(tasks->open == 2 && !tasks->limiter.rate);
 	end_both(both);
 	MUST(!ww_mutex_destroy(&m[0]));
+}
+
+/* Whoever comes to wait looks, too.  Contexts count only if their seats may be claimed. */
+static void looks_before_a_wait(void)
+{
+	struct ww_acquire_ctx both[2];
+	struct ww_seats *tasks = &c->pool->tasks;
+	struct ww_limiter limiter = tasks->limiter;
+
+	all_in_use(both, 0);
+	tasks->limiter = (struct ww_limiter){
+		.width = 2, .kept = 2, .least = 1, .widest = 448, .most = 896, .holds = 1, .since = 1, .begun = given(tasks),
+	};
+	tasks->seats[2].given += 1000;
+	seeks[0] = (struct ww_seek){ 0 };
+	tasks->due = ww_now();
+	MUST(looks(0, &y) == -EINPROGRESS && tasks->due > ww_now() && tasks->open == 2 && tasks->limiter.since == 1);
+	ww_seek_end(&seeks[0]);
+	tasks->limiter = limiter;
+	end_both(both);
 }
 
 /* No limit is as many as there are. */
@@ -468,6 +530,18 @@ static void stays_while_one_waits(void)
 	ww_acquire_fini(&x);
 }
 
+/* A cancel of the class ends the wait of a task that waits on, and leaves one that was called for a seat, since that needn't wait. */
+static void cancelled_unless_called(void)
+{
+	struct ww_acquire_ctx both[2];
+
+	all_in_use(both, 2);
+	ww_acquire_fini(&both[0]);
+	MUST(called[0] == 1 && !called[1] && !ww_class_cancel(c) && called[0] == 1 && called[1] == 1);
+	MUST(looks(1, &y) == -EINTR && !looks(0, &both[0]));
+	end_both(both);
+}
+
 /* On one processor tasks have two contexts. */
 static void by_contexts_of_their_own(void)
 {
@@ -478,6 +552,7 @@ static void by_contexts_of_their_own(void)
 	CPU_SET((size_t)sched_getcpu(), &one);
 	MUST(!sched_getaffinity(0, sizeof all, &all) && !sched_setaffinity(0, sizeof one, &one) && !ww_class_open(c));
 	MUST(!sched_setaffinity(0, sizeof all, &all));
+	MUST(!clock_gettime(CLOCK_MONOTONIC, &stands_at));
 	handed_in_turn();
 	called_in_turn();
 	passes_on_its_call();
@@ -485,8 +560,11 @@ static void by_contexts_of_their_own(void)
 	as_many_as_the_limiter_says();
 	begins_within_another();
 	looks_after_a_wait();
+	looks_before_a_wait();
 	as_many_as_there_are();
 	stays_while_one_waits();
+	cancelled_unless_called();
+	stands_at.tv_sec = 0;
 	MUST(!ww_class_free(c));
 }
 

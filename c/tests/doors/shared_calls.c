@@ -1350,8 +1350,62 @@ static void of(struct ww_class *class)
 	MUST(!ww_shared_mutex_destroy(&m) && !ww_shared_mutex_destroy(&n) && !ww_mutex_destroy(&plain) && !ww_class_free(c));
 }
 
+/* In any order: each may be written from then on, and all others not before; but a writer that came before waits for all. */
+static void *writes_first(void *arg)
+{
+	struct ww_shared_mutex *it = arg;
+	struct ww_acquire_ctx z;
+
+	begins(&z);
+	MUST(!ww_shared_mutex_lock(it, &z) && !ww_shared_mutex_unlock(it, &z));
+	ww_acquire_fini(&z);
+	return NULL;
+}
+static void reads_end_one_by_one(void)
+{
+	enum { MANY = 400 };
+	static struct ww_class of_many;
+	static struct ww_shared_mutex list[MANY];
+	unsigned drawn = 7, left = MANY;
+	bool is_over[MANY] = { false };
+	pthread_t thread;
+
+	c = &of_many;
+	MUST(!ww_class_limit(c, MANY + 4, 4));
+	for (unsigned k = 0; k < MANY; k++)
+		ww_shared_mutex_init(&list[k], c);
+	begin_both();
+	for (unsigned k = 0; k < MANY; k++)
+		MUST(!ww_shared_mutex_lock_shared(&list[k], &x));
+	while (left--) {
+		unsigned k = left & 1 ? next(&drawn) % MANY : left, other = next(&drawn) % MANY;
+
+		while (is_over[k])
+			k = (k + 1) % MANY;
+		MUST(!ww_shared_mutex_end_read(&list[k], &x) && ww_shared_mutex_end_read(&list[k], &x) == -EINVAL && x.acquired == !!left);
+		is_over[k] = true;
+		MUST(!ww_shared_mutex_is_read_by(&list[k], &x) && ww_shared_mutex_trylock(&list[k], &y) && !ww_shared_mutex_unlock(&list[k], &y));
+		MUST(ww_shared_mutex_trylock(&list[other], &y) == is_over[other]);
+		if (is_over[other])
+			MUST(!ww_shared_mutex_unlock(&list[other], &y));
+	}
+	MUST(!ww_shared_mutex_lock_shared(&list[0], &x) && !ww_shared_mutex_lock_shared(&list[1], &x) && !ww_shared_mutex_lock(&list[2], &x));
+	thread = begin_thread(writes_first, &list[0]);
+	awaits_waiter(&list[0].mutex_);
+	MUST(!ww_shared_mutex_end_read(&list[0], &x) && ww_shared_mutex_is_locked(&list[0]));
+	MUST(!ww_shared_mutex_unlock_shared(&list[1], &x));
+	end_thread(thread);
+	ww_shared_mutex_downgrade(&list[2], &x);
+	MUST(!ww_shared_mutex_end_read(&list[2], &x) && !x.acquired);
+	end_both();
+	for (unsigned k = 0; k < MANY; k++)
+		MUST(!ww_shared_mutex_destroy(&list[k]));
+	MUST(!ww_class_free(c));
+}
+
 int main(void)
 {
+	reads_end_one_by_one();
 	of(&wound_wait);
 	of(&wait_die);
 	readers_take_mutexes_of_the_class();

@@ -495,22 +495,21 @@ static void alone_it_waits(void)
 	}
 }
 
+static void is_woken(void *loop, void *task) { MUST(!loop && task); }
+
 /* The second context of a thread at once has none of its seats at hand, so it draws, and leaves no age. */
 static void two_of_a_thread(void)
 {
+	const struct ww_waker waker = { is_woken, NULL, &m[1] };
 	struct ww_acquire_ctx first, second;
 	struct ww_mutex *const list[] = { &m[1] }, *const other[] = { &m[2] };
 
 	for (unsigned k = 0; k < 3; k++) {
-		struct timespec soon;
-
 		ww_acquire_init(&first, &c);
 		ww_acquire_init(&second, &c);
 		MUST(!ww_mutex_lock_all(&second, list, 1) && !ww_mutex_lock_all(&first, other, 1));
-		soon = in_ms(5);
-		MUST(ww_mutex_lock_until(&m[1], &first, &soon) == -ETIMEDOUT);
-		soon = in_ms(5000);
-		MUST(ww_mutex_lock_until(&m[2], &second, &soon) == -EDEADLK);
+		MUST(ww_mutex_lock_poll(&m[1], &first, &waker) == -EINPROGRESS && !ww_acquire_end_wait(&first));
+		MUST(ww_mutex_lock(&m[2], &second) == -EDEADLK);
 		ww_mutex_unlock(&m[1]);
 		ww_mutex_unlock(&m[2]);
 		ww_acquire_fini(&second);

@@ -370,7 +370,7 @@ int main(void)
 
 	for (unsigned kind = 0; kind < 2; kind++) {
 		c = classes[kind];
-		MUST(!ww_class_limit(c, 0, 16));
+		MUST(!ww_class_limit(c, 0, 16) && !ww_class_crowd(c, WW_NO_CROWD));
 		ww_mutex_init(&a, c);
 		ww_mutex_init(&b, c);
 		for (unsigned k = 0; k < 8; k++)

@@ -4,6 +4,7 @@
  * And what a program that is written for the kernel relies on.
  */
 #include "../mutex_test.h"
+#include "ww_number.h"
 
 static DEFINE_WW_CLASS(wound_wait);
 /* The struct's own name is a name for a class, too. */
@@ -325,6 +326,30 @@ static void numbers(struct ww_class *c)
 	MUST(ww_mutex_init_checked(&list[8], c) == -ENOSPC && ww_class_free(c) == -EBUSY);
 }
 
+/* As many keys as it asks for, and a mutex for each reader besides; and it says what it takes. */
+static void servers(void)
+{
+	static struct ww_class c, larger;
+	struct ww_acquire_ctx x[4];
+	uint32_t number[104];
+	size_t bytes = 0, more = 0;
+
+	MUST(ww_class_open_for(&c, WW_MAX_SEATS, 1, &bytes) == -EINVAL && ww_class_open_for(&c, 1, WW_MAX_LOCKS, NULL) == -EINVAL);
+	MUST(ww_class_open_for(&c, 0, UINT32_MAX, NULL) == -EINVAL && !bytes && !ww_class_open_for(&c, 3, 100, &bytes));
+	MUST(ww_class_open_for(&c, 3, 100, NULL) == -EBUSY);
+	for (unsigned k = 0; k < 3; k++)
+		MUST(!ww_acquire_init_checked(&x[k], &c));
+	MUST(ww_acquire_init_checked(&x[3], &c) == -EAGAIN);
+	for (unsigned k = 0; k < 103; k++)
+		MUST(!ww_number_take(&number[k], &c));
+	MUST(ww_number_take(&number[103], &c) == -ENOSPC);
+	for (unsigned k = 0; k < 103; k++)
+		MUST(!ww_number_put(number[k], &c));
+	for (unsigned k = 0; k < 3; k++)
+		ww_acquire_fini(&x[k]);
+	MUST(!ww_class_open_for(&larger, 0, 0, &more) && more > bytes && !ww_class_free(&larger) && !ww_class_free(&c));
+}
+
 /* A class and its mutexes in memory that is aligned as malloc aligns it, and no better. */
 static void in_memory(int kind)
 {
@@ -367,6 +392,7 @@ int main(void)
 		numbers(c);
 		in_memory((int)kind);
 	}
+	servers();
 	owed_and_released();
 	list_gives_way(0);
 	list_gives_way(WW_IGNORE_DUPLICATES);

@@ -31,6 +31,22 @@ static void *asks(void *arg)
 	return arg;
 }
 
+/* Whoever looks who uses a mutex has it by a seat that no other look sees. */
+static void *asks_beside_a_look(void *arg)
+{
+	MUST(!ww_mutex_is_locked(&free_) && !ww_shared_mutex_is_locked(&unused) && ww_mutex_is_locked(&held) && !ww_mutex_is_held_by(&free_, NULL));
+	return arg;
+}
+
+static void look_who_uses(uint32_t its)
+{
+	ww_handle *spare = &spare_of(boxes.pool)->handle;
+
+	MUST(!ww_try_(spare, its));
+	end_thread(begin_thread(asks_beside_a_look, NULL));
+	MUST(!ww_unlock_(spare, its));
+}
+
 /* By a context: tries, and questions of what it has. */
 static void *asks_by_context(void *arg)
 {
@@ -59,6 +75,8 @@ int main(void)
 	end_thread(begin_thread(asks, NULL));
 	end_thread(begin_thread(asks_by_context, NULL));
 	locks_the_class(false);
+	look_who_uses(free_.number);
+	look_who_uses(unused.mutex_.number);
 	puts("looks: each by itself");
 	return 0;
 }

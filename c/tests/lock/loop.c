@@ -238,6 +238,11 @@ static void walks(const struct row *row)
 	}
 	/* What it owes isn't counted, as long as it holds that. */
 	MUST(ww_acquire_mark(&x) == x.acquired - (x.state & IS_PRELOCKED && x.prelocked->ctx == &x));
+	/* Nothing came behind this mark, so nothing is released; with the mark of nothing all would be. */
+	before = x.acquired;
+	if (ww_acquire_mark(&x))
+		ww_acquire_unlock_to(&x, ww_acquire_mark(&x));
+	MUST(x.acquired == before);
 	/* Behind it all that it had to do can be done, and the loop ends. */
 	if (row->then == FIRST || row->then == TOLD_BARE || row->then == TOLD || row->then == TOLD_OWES) {
 		ww_acquire_flags(&x, 0);

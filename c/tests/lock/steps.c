@@ -194,7 +194,7 @@ static void has_no_owner(void)
 
 	ww_acquire_init(&y, c);
 	ww_mutex_unlock(&m);
-	are_more(more);
+	are_more(more % 2);
 	looks = 0;
 	MUST(!ww_mutex_lock(&m, &y) && (more ? looks == 1 : looks > 1));
 	ww_mutex_unlock(&m);
@@ -202,32 +202,67 @@ static void has_no_owner(void)
 }
 
 /*
+ * Waits that were over soon, then ten that took too long, and then such as the first ones: from six of the long ones on the thread stays
+ * awake for less long, until four were over soon again.  If the machine paused in a wait that was to be over soon, all begins anew.
+ */
+static void stays_awake_by_its_waits(ww_seat *s, uint64_t most)
+{
+	const struct ww_how how = { .who = THREAD };
+
+	ww_mine.too_long = 0;
+	for (unsigned k = 0; k < 30; k++) {
+		struct ww_wait wait = ww_wait_of(s, NULL, &how);
+
+		MUST(wait.awake == wait.from + (k >= 16 && k < 24 ? 500 : most));
+		wait.from -= k / 10 == 1 ? most : 0;
+		ww_learn_from(s, &wait);
+		if (k / 10 != 1 && ww_now() - wait.from >= most) {
+			ww_mine.too_long = 0;
+			k = UINT32_MAX;
+		}
+	}
+}
+
+static void waits_without_an_owner(struct ww_acquire_ctx *x)
+{
+	struct ww_acquire_ctx older;
+
+	ww_acquire_init(&older, c);
+	ww_acquire_init(x, c);
+	MUST(!ww_mutex_lock(&m, &older));
+	asleep = has_no_owner;
+	MUST(!ww_mutex_lock(&m, x) && !asleep);
+	ww_mutex_unlock(&m);
+	ww_acquire_fini(&older);
+}
+
+/*
  * Where threads are short of processors a call takes a mutex that nobody owns, though another thread waits for that, and doesn't look
- * at it any longer; and it stays awake for less long.
+ * at it any longer; and it stays awake for less long.  So it is in a class without threads' own seats, in which nobody knows that each
+ * thread has a processor.
  */
 static void by_processors(void)
 {
-	struct ww_acquire_ctx older, x;
-	const struct ww_how how = { .who = THREAD };
-	struct ww_wait wait;
+	struct ww_class said, *was = c;
+	struct ww_acquire_ctx x;
 	uint32_t threads = ww_threads;
 
 	for (more = 0; more < 2; more++) {
-		ww_acquire_init(&older, c);
-		ww_acquire_init(&x, c);
-		MUST(!ww_mutex_lock(&m, &older));
-		asleep = has_no_owner;
-		MUST(!ww_mutex_lock(&m, &x) && !asleep);
-		ww_mutex_unlock(&m);
-		ww_mine.usual = 1000000;
-		wait = ww_wait_of(x.own, NULL, &how);
-		MUST(wait.awake == wait.from + (more ? 20000 : 100000));
-		ww_mine.usual = 100;
-		wait = ww_wait_of(x.own, NULL, &how);
-		MUST(wait.awake == wait.from + 5000 + 16 * 100);
+		waits_without_an_owner(&x);
+		stays_awake_by_its_waits(x.own, more ? 20000 : 100000);
 		ww_acquire_fini(&x);
-		ww_acquire_fini(&older);
 	}
+	ww_threads = threads;
+	MUST(!ww_mutex_destroy(&m));
+	c = &said;
+	ww_class_init(c, was == &wait_die, "said");
+	MUST(!ww_class_limit(c, 1, 3));
+	ww_mutex_init(&m, c);
+	waits_without_an_owner(&x);
+	ww_acquire_fini(&x);
+	MUST(!ww_mutex_destroy(&m) && !ww_class_free(c));
+	c = was;
+	ww_mutex_init(&m, c);
 	ww_threads = threads;
 }
 

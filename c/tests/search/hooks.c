@@ -723,9 +723,18 @@ LOCKS(ww_lock_slow_)
 STEP(ww_begin_, ww_handle *h) { return step("ww_begin_", PC), by(h, PC), answered(h, __real_ww_begin_(h)); }
 /* Also by whoever frees the class, where a seat rests. */
 STEP(ww_end_, ww_handle *h) { return step("ww_end_", PC), by_any(h, PC), answered(h, __real_ww_end_(h)); }
+/* Also by who makes the seat. */
 STEP(ww_cancel_, ww_handle *h, uint16_t victim)
 {
-	return step("ww_cancel_", PC), by(h, PC), answered(h, __real_ww_cancel_(h, victim));
+	return step("ww_cancel_", PC), by_any(h, PC), answered(h, __real_ww_cancel_(h, victim));
+}
+/* One thread at a time. */
+STEP(ww_open_seat_, ww_world *world, uint16_t number, ww_handle *h)
+{
+	step("ww_open_seat_", PC);
+	check(world, sizeof *world, WRITES, PC);
+	check(h, sizeof *h, WRITES, PC);
+	return __real_ww_open_seat_(world, number, h);
 }
 STEP(ww_try_, ww_handle *h, uint32_t lock)
 {

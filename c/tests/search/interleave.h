@@ -57,9 +57,10 @@ void il_late(void);
 /* Sleeps until the word isn't 0, and sets it, which orders what came before. */
 void il_await(uint32_t *word);
 void il_set(uint32_t *word);
-/* A call says that the context reads that shared mutex from now on, or writes it. */
+/* A call says that the context reads that shared mutex from now on, or writes it; or it is about to read it no more, though others. */
 struct ww_acquire_ctx;
 void il_reads(unsigned k, const struct ww_acquire_ctx *x);
+void il_reads_no_more(unsigned k, const struct ww_acquire_ctx *x);
 void il_writes(unsigned k, const struct ww_acquire_ctx *x);
 /* A shared mutex is gone, or there again. */
 void il_hall(void);

@@ -21,22 +21,27 @@
  *	-	under m: one user less	D	whoever was the last one destroys m, and its memory goes
  *	d	destroys m where nobody has it or waits for it, and makes it anew
  *	C	cancels the class: ends i( and what is i, by a poll too
+ *	S	suspends the context	R	resumes that; X: drops it: of several that do so one does, and for the others all up to ) is left out
+ *	r	the next lock backs off by a value, from which the context goes on; f: it gives up, and all up to ) is left out, but
+ *		the context is suspended and resumed, between which 8 happens	Y	destroys m and makes it anew, twice: the second time at once
  *	c	cancels; k: or that has ended, or hasn't begun	1-9	something has happened	~1	waits for that, which orders	_1	which doesn't	=1	it has
  *	s w	waits until somebody waits for a context or a permit, unless 4 has happened; until somebody waits for m
  *	e E	the lease of the thread's permit is over; at the next look the crowd is of no use
  *	W N	at the next look at the limiter tasks may claim two seats; one		V	tasks that were called haven't come for a lease
- *	F	frees the class, asking until it is free	v	looks at its counts
+ *	F	frees the class, asking until it is free	v	looks at its counts	J	opens another one, and frees that
  *	T G	takes a number, if one is free (.: one is); puts back that taken last
  *	q	asks whether anybody has the number of m
  *	p P	puts the number of m, which is to be -EBUSY; which one thread is to have done
  *	O	leaves it, and takes it again if it is free by then
+ *	#	labels the context	@	lists who uses each mutex, and asks who is in the context's way; g: so does the next lock, if told to back off
  *	Where a program is NUMBERED all mutexes are known by their numbers.
  */
 #define _GNU_SOURCE
-#include "interleave.h"
-#include "../../admit/seat.h"
+#include "made.h"
 #include "ww_shared.h"
 #include "ww_poll.h"
+#include "ww_retry.h"
+#include "ww_why.h"
 #include <ctype.h>
 #include <stdio.h>
 #include <string.h>
@@ -50,17 +55,18 @@
 #define TASKS (CONTEXTS(1) | HAS_TASKS | LENT)
 #define HANDED (CONTEXTS(1) | HAS_TASKS)
 #define HANDED_ONCE (HANDED | ONCE)
-/* There is a crowd of one permit; calls look a few times before they queue. */
+/* There is a crowd of one permit; calls look a few times before they queue.  MAKES: seats are made as they are needed, and not before. */
 enum {
 	WAIT_DIE = 1 << 8, STATIC = 1 << 9, NUMBERED = 1 << 10, CROWD = 1 << 14, HAS_TASKS = 1 << 15, AWAKE = 1 << 16,
-	LENT = 1 << 17, ONCE = 1 << 18, NARROW = 1 << 19
+	LENT = 1 << 17, ONCE = 1 << 18, NARROW = 1 << 19, MAKES = 1 << 20
 };
 
 enum way { FREE, BY_CONTEXT, ALONE, BY_LOOP };
 struct user {
 	struct ww_acquire_ctx *own, *x; /* two, the second once the first is another's */
 	enum way held[3];
-	bool told, last, goes_on;
+	bool told, last, goes_on, is_awaited; /* somebody waits for m, which it holds */
+	unsigned label, labels;
 	uint32_t number[2];
 	unsigned numbers;
 	struct ww_seek *seek;
@@ -87,12 +93,16 @@ static bool put[IL_THREADS + 1], is_left;
 enum { IN_A_LINE = 4 };
 static uint32_t heeding; /* how many begin contexts in a way that a cancel of the class ends */
 static uint32_t inside, most, own, tasks, users[8], happened[10], refs, owner[3], cancels, met;
+static unsigned long refused; /* uses of a value that was used before, and destroys of a mutex in use */
 static struct timespec soon;
 unsigned il_looks, il_bits = MANY_BITS;
 static struct polled polled[IL_THREADS + 1][POLLS];
 static unsigned polls[IL_THREADS + 1];
 static struct ww_acquire_ctx *left; /* by h, to whoever is called */
+static struct ww_retry value;
 static uint32_t handed;
+static unsigned label_of_value;
+static uint32_t may_use[3]; /* of each mutex a bit for each label, of contexts that asked for it; the lowest for none */
 
 /* What these do is no access of a thread, so nobody comes between: not the library's, and right in any case. */
 #define COUNTS __attribute__((no_sanitize("thread"), noinline))
@@ -105,6 +115,7 @@ static struct ww_mutex *mutex_at(uint32_t n) { return &ww_number_at(n, &c)->mute
 
 static unsigned index_of(char letter) { return tolower(letter) == 'm' ? 2 : (unsigned)(tolower(letter) - 'a'); }
 static struct ww_mutex *mutex_of(char letter) { return &mutexes[index_of(letter)]; }
+static struct ww_mutex *mutex_with_index(unsigned k) { return numbered ? mutex_at(numbers[k]) : &mutexes[k]; }
 
 /* Whether the text of a thread has one of these letters. */
 static bool names(const struct il_program *p, const char *some)
@@ -126,6 +137,7 @@ static void is_held(struct user *u, unsigned k, enum way way)
 static void is_held_no_more(struct user *u, unsigned k)
 {
 	MUST(holder[k] == il_me());
+	u->is_awaited = false;
 	holder[k] = 0;
 	u->held[k] = FREE;
 }
@@ -146,6 +158,7 @@ static void begin_crowd(void)
 	ww_limiter_open(limiter, 1, 1, 1, 1, 64);
 	limiter->since = UINT64_MAX;
 	limiter->kept = 2; /* whose waits are many or few */
+	limiter->rate = 1; /* so that leases are whole */
 	c.pool->crowd.since = UINT64_MAX - LEASE;
 	crowded = ww_now();
 }
@@ -240,6 +253,8 @@ void il_setup(const struct il_program *p)
 		*mutex_of('m') = (struct ww_mutex)WW_MUTEX_INIT(&c);
 	else
 		MUST(!ww_class_open(&c));
+	if (c.pool && !(p->flags & MAKES))
+		make_seats(c.pool);
 	for (unsigned k = 0; k < IL_THREADS && p->threads[k]; k++)
 		refs += !!strchr(p->threads[k], '-');
 	if (names(p, "[t"))
@@ -261,8 +276,11 @@ void il_check(const struct il_program *p)
 			MUST(!ww_mutex_destroy(&mutexes[k]));
 	MUST(met <= cancels && put[1] + put[2] == names(p, "P"));
 #ifdef WW_DEBUG
-	/* Of these, each call is right, and none is dangerous; but a time is long over once a lease is. */
-	MUST(names(p, "n>LKdDFP") || is_later() || (!ww_debug_faults() && !ww_debug_warnings()));
+	/*
+	 * Of the others each call is right but those that were refused, each of which is told, and none is dangerous; but a time is long over
+	 * once a lease is.
+	 */
+	MUST(names(p, "n>LKdDFP") || is_later() || (ww_debug_faults() == refused && !ww_debug_warnings()));
 #endif
 	for (unsigned k = 1; k <= IL_THREADS; k++)
 		for (unsigned i = 0; i < polls[k]; i++)
@@ -271,15 +289,17 @@ void il_check(const struct il_program *p)
 	for (unsigned k = 0; numbered && k < 3; k++)
 		MUST(ww_number_put(numbers[k], &c) == (k == 2 && names(p, "P") ? -EINVAL : 0));
 	if (c.pool) {
-		MUST(!c.pool->threads.seekers && !c.pool->threads.first && !c.pool->crowd.waiting);
+		MUST(!c.pool->threads.lines[WAITS].seekers && !c.pool->threads.lines[WAITS].first && !c.pool->crowd.waiting);
 		MUST(!names(p, "E") || !is_crowded(c.pool));
 		most += !!own + tasks;
+		if (is_crowded(c.pool))
+			ww_reset_crowd(c.pool); /* the leases of threads that have ended go on for a while */
 		for (uint32_t k = 0; k < most; k++)
 			MUST(!ww_acquire_init_checked(&x[k], &c));
 		MUST(ww_acquire_init_checked(&x[most], &c) == -EAGAIN);
 		for (uint32_t k = 0; k < most; k++)
 			ww_acquire_fini(&x[k]);
-		MUST(!c.pool->tasks.seekers && !c.pool->tasks.first && !c.pool->tasks.calls);
+		MUST(!c.pool->tasks.lines[WAITS].seekers && !c.pool->tasks.lines[WAITS].first && !c.pool->tasks.lines[CALLED].seekers);
 		tasks = c.pool->tasks.open;
 		MUST(!names(p, "WN") || tasks == (names(p, "W") ? 2 : 1));
 		for (uint32_t k = 0; k < tasks; k++)
@@ -292,13 +312,13 @@ void il_check(const struct il_program *p)
 	MUST(!ww_class_free(&c));
 }
 
-/* A seat is free that may be claimed, somebody waits for one that wasn't called, and nobody was called for this one. */
+/* A seat is free that may be claimed, or isn't made yet, somebody waits for one that wasn't called, and nobody was called for this one. */
 static bool is_forgotten(const struct ww_seats *of)
 {
 	bool is_tasks = of == &c.pool->tasks;
 	uint32_t open = is_tasks ? of->open : of->count;
 
-	for (uint32_t k = 0; k < open && of->seekers > of->calls; k++)
+	for (uint32_t k = 0; k < open && of->lines[WAITS].first; k++)
 		if (!(of->seats[k].busy & BUSY) && !(is_tasks && c.pool->called[k]))
 			return true;
 	return false;
@@ -480,6 +500,84 @@ static int begin(struct user *u, char how, const char *words)
 	return r;
 }
 
+/* ---- ww_why.h ---- */
+
+/* Each thread's contexts have labels of their own, of which there are so many. */
+enum { LABELS = 7 };
+static void label(struct user *u)
+{
+	u->label = (il_me() - 1) * LABELS + ++u->labels;
+	MUST(u->labels <= LABELS && !ww_acquire_label(u->x, u->label));
+}
+
+/* It is about to ask for this. */
+COUNTS static void asks_for(const struct user *u, unsigned k, enum way way) { may_use[k] |= 1u << (way == ALONE ? 0 : u->label); }
+
+/* Whoever is named asked for the mutex at some time. */
+COUNTS static void is_user(const struct ww_user *it, unsigned k)
+{
+	MUST(it->place < most + own + tasks && it->label < 8 * sizeof *may_use && may_use[k] >> it->label & 1);
+}
+
+static unsigned index_of_place(const struct ww_place *at)
+{
+	unsigned k = 0;
+
+	while (k < 3 && at->mutex != mutex_with_index(k))
+		k++;
+	MUST(k < 3 && (!numbered || at->number == numbers[k]));
+	return k;
+}
+
+/* What it holds it is listed with. */
+static void lists_users(const struct user *u, unsigned k)
+{
+	struct ww_user all[8];
+	size_t count = ww_mutex_users(mutex_with_index(k), all, 8);
+	unsigned holders = 0, waiters = 0;
+
+	MUST(count <= 8);
+	for (size_t i = 0; i < count; i++) {
+		is_user(&all[i], k);
+		MUST(all[i].part == WW_HOLDS || all[i].part == WW_WAITS);
+		holders += all[i].part == WW_HOLDS;
+		waiters += all[i].part == WW_WAITS;
+		if (all[i].part == WW_HOLDS && u->held[k])
+			MUST(all[i].label == (u->held[k] == ALONE ? 0 : u->label));
+	}
+	MUST(holders == 1 || (!holders && !u->held[k]));
+	MUST(waiters || k < 2 || !u->is_awaited);
+}
+
+/* Where its own call ended, and what others want that it holds. */
+static void asks_why(const struct user *u)
+{
+	struct ww_acquire_counts counts;
+	struct ww_place path[4];
+	struct ww_why why;
+	size_t count;
+
+	MUST(!ww_acquire_count(u->x, &counts) && counts.waits <= 8 && counts.back_offs <= 8);
+	MUST(!ww_acquire_why(u->x, &why));
+	if (why.at.mutex && why.at.by.part != WW_NOBODY)
+		is_user(&why.at.by, index_of_place(&why.at));
+	if (why.wanted.mutex) {
+		MUST(u->held[index_of_place(&why.wanted)] && why.wanted.by.part == WW_WAITS);
+		is_user(&why.wanted.by, index_of_place(&why.wanted));
+	}
+	count = ww_acquire_cycle(u->x, path, 4);
+	MUST(count <= 4 && (!count || (index_of_place(path) == index_of_place(&why.at) && path[count - 1].by.label == u->label)));
+}
+
+static void lists_all(const struct user *u)
+{
+	for (unsigned k = 0; k < 3; k++)
+		if (mutex_with_index(k)->pool)
+			lists_users(u, k);
+	if (u->x->own)
+		asks_why(u);
+}
+
 static void unlock_plainly(const struct user *u, unsigned k, enum way way)
 {
 	if (!numbered)
@@ -503,9 +601,75 @@ static int lock_plainly(const struct user *u, unsigned k)
 	return numbered ? ww_number_lock(numbers[k], u->x) : ww_mutex_lock(&mutexes[k], u->x);
 }
 
-/* All that it held by its context it holds again, and this one. */
-static void back_off(struct user *u, unsigned slow)
+COUNTS static void counts_refused(int r) { refused += r != 0; }
+
+/* Into a value, and by that again. */
+static void suspend(struct user *u, struct ww_retry *retry)
 {
+	leave(u->x->own);
+	MUST(!ww_acquire_suspend(u->x, retry));
+}
+static bool resume(struct user *u, struct ww_retry retry)
+{
+	int r = ww_acquire_resume(u->x, &c, &retry, NULL);
+
+	MUST(!r || r == -EINVAL);
+	counts_refused(r);
+	if (!r)
+		enter(u->x->own);
+	return !r;
+}
+/* The same of the value that all have, by which a label goes on, too. */
+static void suspends(struct user *u)
+{
+	label_of_value = u->label;
+	suspend(u, &value);
+}
+static bool resumes(struct user *u)
+{
+	bool is = resume(u, value);
+
+	if (is)
+		u->label = label_of_value;
+	return is;
+}
+static void drop(struct ww_retry retry)
+{
+	int r = ww_retry_drop(&retry);
+
+	MUST(!r || r == -EINVAL);
+	counts_refused(r);
+}
+
+static void end_context(struct user *u)
+{
+	leave(u->x->own);
+	if (hands)
+		u->x->own->lease = 0;
+	u->label = 0;
+	ww_acquire_fini(u->x);
+	if (u->goes_on)
+		il_gone(u->x, sizeof *u->x);
+	u->x = &u->own[u->x == &u->own[1]];
+}
+
+static void give_up(struct user *u)
+{
+	struct ww_retry mine = { 0 };
+
+	for (unsigned k = 0; k < 3; k++)
+		if (u->held[k] == BY_CONTEXT)
+			unlock(u, k);
+	suspend(u, &mine);
+	il_set(&happened[8]);
+	MUST(resume(u, mine));
+	end_context(u);
+}
+
+/* All that it held by its context it holds again, and this one. */
+static void back_off(struct user *u, unsigned slow, bool by_value)
+{
+	struct ww_retry mine = { 0 };
 	bool again[3];
 	int r = -EDEADLK;
 
@@ -515,7 +679,12 @@ static void back_off(struct user *u, unsigned slow)
 	for (again[slow] = true; r == -EDEADLK;) {
 		unsigned k;
 
-		if (numbered)
+		if (by_value) {
+			suspend(u, &mine);
+			MUST(resume(u, mine));
+			mine = (struct ww_retry){ 0 };
+		}
+		if (numbered || by_value)
 			MUST(!lock_plainly(u, slow));
 		else
 			ww_mutex_lock_slow(&mutexes[slow], u->x);
@@ -552,6 +721,7 @@ static int lock(struct user *u, char letter, const char *how)
 	const struct timespec *until = ends ? &soon : NULL;
 	int r;
 
+	asks_for(u, k, alone ? ALONE : BY_CONTEXT);
 	if (strpbrk(how, "lxyzj"))
 		r = by_polls(u, (int)k, how);
 	else if (strchr(how, 'h'))
@@ -568,8 +738,14 @@ static int lock(struct user *u, char letter, const char *how)
 		r = strchr(how, 'i') ? ww_mutex_lock_interruptible(m, x) : ww_mutex_lock(m, x);
 	MUST(!strchr(how, '!') || r == (ends ? -ETIMEDOUT : -EINTR));
 	MUST(!strchr(how, '.') || !r);
+	if (strchr(how, 'g') && r && !tries)
+		asks_why(u);
+	if (r == -EDEADLK && strchr(how, 'f')) {
+		give_up(u);
+		return r;
+	}
 	if (r == -EDEADLK) {
-		back_off(u, k);
+		back_off(u, k, strchr(how, 'r'));
 		return 0;
 	}
 	MUST(!r || tries || (r == -ETIMEDOUT && (ends || strpbrk(how, "xj"))) || (r == -EINTR && strchr(how, 'i')) ||
@@ -621,8 +797,7 @@ static void back_off_by_hand(struct user *u, const char *at, unsigned contended)
 static const char *loop(struct user *u, const char *at, char way)
 {
 	ww_until_all_locked(u->x) {
-		/* After an -EDEADLK that the debug library made up, it refuses what is held with -EINVAL, and not with -EALREADY. */
-		bool goes_back = way == 'Q' && !IS_DEBUG;
+		bool goes_back = way == 'Q';
 
 		for (const char *k = at; *k != ';'; k++) {
 			int r = lock_plainly(u, index_of(*k));
@@ -682,6 +857,17 @@ static void destroy_last(void)
 	il_gone(m, sizeof *m);
 }
 
+/* In the same place, where nobody uses the next one. */
+static void destroy_again(void)
+{
+	struct ww_mutex *m = mutex_of('m');
+	int r;
+
+	for (; (r = ww_mutex_destroy(m)) == -EBUSY; counts_refused(r))
+		il_yield();
+	MUST(!r && !ww_mutex_init_checked(m, &c) && !ww_mutex_destroy(m) && !ww_mutex_init_checked(m, &c));
+}
+
 /* A waiter that was there before has had it before it is destroyed, which happened[8] says. */
 static void destroy_beside(void)
 {
@@ -714,6 +900,14 @@ static void free_class(void)
 	own = 0; /* of the class that is opened next */
 }
 
+static void open_another(void)
+{
+	struct ww_class other;
+
+	ww_class_init(&other, 0, "other");
+	MUST(!ww_class_limit(&other, 1, 1) && !ww_class_open(&other) && !ww_class_free(&other));
+}
+
 static void take_number(struct user *u, bool is_there)
 {
 	uint32_t *number = &u->number[u->numbers];
@@ -736,17 +930,6 @@ static void put_number(struct user *u)
 	MUST(!ww_number_put(u->number[u->numbers], &c));
 }
 
-static void end_context(struct user *u)
-{
-	leave(u->x->own);
-	if (hands)
-		u->x->own->lease = 0;
-	ww_acquire_fini(u->x);
-	if (u->goes_on)
-		il_gone(u->x, sizeof *u->x);
-	u->x = &u->own[u->x == &u->own[1]];
-}
-
 static void end_all(struct user *u)
 {
 	for (unsigned k = 0; k < 3; k++)
@@ -762,7 +945,7 @@ static bool are_waiting(void) { return numbered ? SEEN(c.pool->numbered[numbers[
 /* Or it was, but no longer: all leases are over. */
 static bool is_sought(void)
 {
-	return SEEN(c.pool->threads.seekers) || SEEN(c.pool->tasks.seekers) || SEEN(c.pool->crowd.waiting) || is_later();
+	return waiters_of(&c.pool->threads) || waiters_of(&c.pool->tasks) || SEEN(c.pool->crowd.waiting) || is_later();
 }
 
 static void act(struct user *u, char what, const char *how)
@@ -780,22 +963,28 @@ static void act(struct user *u, char what, const char *how)
 	case '-': u->last = !--refs; break;
 	case 'D': if (u->last) destroy_last(); break;
 	case 'd': destroy_beside(); break;
+	case 'Y': destroy_again(); break;
+	case 'S': suspends(u); break;
+	case 'X': drop(value); break;
 	case 'c': ADD(cancels, 1); MUST(!ww_acquire_cancel(shared)); break;
 	case 'k': ADD(cancels, !ww_acquire_cancel(shared)); break;
 	case 'C': ADD(cancels, IL_THREADS); MUST(!ww_class_cancel(&c)); break;
 	case 's': while (!is_sought() && !SEEN(happened[4])) il_yield(); break;
-	case 'w': while (!are_waiting()) il_yield(); break;
+	case 'w': while (!are_waiting()) il_yield(); u->is_awaited = u->held[2]; break;
 	case 'e': end_lease(); break;
 	case 'E': end_crowd(); break;
 	case 'W': widen(2); break;
 	case 'N': widen(1); break;
 	case 'V': end_calls(); break;
 	case 'F': free_class(); break;
+	case 'J': open_another(); break;
 	case 'v': ww_class_stats(&c, &counts); MUST(counts.context_waits <= 8); break;
 	case 'T': take_number(u, strchr(how, '.')); break;
 	case 'G': put_number(u); break;
 	case 'O': leave_beside(); break;
 	case 'P': put[il_me()] = !ww_number_put(numbers[2], &c); break;
+	case '#': label(u); break;
+	case '@': lists_all(u); break;
 	case 'q': (void)ww_mutex_is_locked(mutex_at(numbers[2])); break;
 	case 'p': MUST(ww_number_put(numbers[2], &c) == -EBUSY); break;
 	default: il_fail("no such call: %c", what);
@@ -810,14 +999,16 @@ void il_thread(const char *at)
 
 	for (; *at; at++) {
 		il_position((size_t)(at - text));
-		if (strchr("?tin!.luxyzjho", *at)) {
+		if (strchr("?tin!.luxyzjhorfg", *at)) {
 			strncat(how, at, 1);
 			continue;
 		}
 		if (strchr("([{", *at))
 			at = begin(&u, *at, how) ? past(at, ')') : at;
 		else if (strchr("abm", *at))
-			at = lock(&u, *at, how) ? past(at, strchr(how, 'h') ? ')' : (char)toupper(*at)) : at;
+			at = lock(&u, *at, how) ? past(at, strpbrk(how, "hf") ? ')' : (char)toupper(*at)) : at;
+		else if (*at == 'R')
+			at = resumes(&u) ? at : past(at, ')');
 		else if (*at == 'H')
 			at = goes_on(&u) ? at : past(at, ')');
 		else if (strchr("ABM", *at))
@@ -895,6 +1086,17 @@ const struct il_program il_programs[] = {
 	{ "handed-on", { "(>1()", "~1<)", "()" }, CONTEXTS(1), WHOLE },
 	{ "handed-on-2", { "(>1()", "~1<)", "()" }, CONTEXTS(2), WHOLE },
 	{ "handed-on-end", { "(>1", "~1<)()", "()" }, CONTEXTS(1), WHOLE },
+	{ "suspend", { "(aAS1", "~1RaA)", "~1RmM)" }, CONTEXTS(4), WHOLE },
+	{ "suspend-own", { "(aAS1()", "~1R)", "~1RaA)" }, CONTEXTS(1) | OWN, WHOLE },
+	{ "suspend-delayed", { "(La;US1()", "~1RLa;U)" }, CONTEXTS(1) | OWN | IL_DELAYS, 2 },
+	{ "suspend-drop", { "(aAS1()", "~1RaA)", "~1X" }, CONTEXTS(2), WHOLE },
+	{ "suspend-free", { "(S1", "~1X8", "_8F" }, CONTEXTS(2), WHOLE },
+	{ "suspend-beside", { "(S1", "~1X", "~1J" }, CONTEXTS(2), 1 },
+	{ "suspend-slow", { "(arbAB)", "(braBA)" }, CONTEXTS(4), WHOLE },
+	{ "suspend-slow-die", { "(arbAB)", "(braBA)" }, CONTEXTS(4) | WAIT_DIE, WHOLE },
+	{ "suspend-number", { "(arbAB)", "(braBA)" }, CONTEXTS(4) | NUMBERED, WHOLE },
+	{ "suspend-gone", { "(m1~2aAM3)", "~1(a2fmMA)", "~3_8Y" }, CONTEXTS(4), 2 },
+	{ "suspend-task", { "y(1sS2", "~3~2X", "~1y(3)" }, TASKS | NARROW, 2 },
 	{ "own", { "()()", "()()" }, CONTEXTS(1) | OWN, WHOLE_INSIDE },
 	{ "own-2", { "()()", "()()", "()" }, CONTEXTS(1) | OWN, 2 },
 	{ "own-amid", { "()(>()(<)^)", "()()" }, CONTEXTS(2) | OWN, WHOLE },
@@ -1037,6 +1239,7 @@ const struct il_program il_programs[] = {
 	{ "tasks-late-due", { "y(~1)y(~4)", "y(~2)y(4~3)", "l()", "12y(3)" }, TASKS, 1 },
 	{ "tasks-unanswered", { "y(>y(1s<)^)", "~1u(4)", "~1sy(6)" }, TASKS, 1 },
 	{ "tasks-passed-on", { "y(1s)y(V)", "~1u(4)", "~1sy(6)" }, TASKS | NARROW, 1 },
+	{ "tasks-behind-thread", { "nanby(1s)~5AB", "~1[)", "~1y(5)" }, TASKS, 1 },
 	{ "tasks-one-ends", { "y(1~2~3~4)", "~1y()2", "~1x()3", "~1z()4" }, TASKS, 1 },
 	{ "tasks-narrow", { "y()y()", "z()", "y()" }, TASKS | NARROW, 2 },
 	{ "tasks-narrow-4", { "y()", "x()", "l()", "y()" }, TASKS | NARROW, 1 },
@@ -1061,6 +1264,20 @@ const struct il_program il_programs[] = {
 	{ "shared-served", { "(1~4)", "~1y(2~3s)", "~1y(3~4)", "~2~3()4" }, TASKS, 1 },
 	{ "shared-soon", { "(1~2)", "(~1~2)", "~1[)2", "~1y()" }, TASKS, 1 },
 	{ "shared-hand", { "(1~2)", "~1y()2", "~1l()", "~1()()" }, HANDED | NARROW, 1 },
+	{ "why", { "(#aA)", "@@" }, CONTEXTS(4), 2 },
+	{ "why-next", { "(#aA)(#b1~2B)", "@2" }, CONTEXTS(4), 2 },
+	{ "why-no-label", { "(#aA)(bB)(a@A)", "@" }, CONTEXTS(1), 2 },
+	{ "why-alone", { "(#aA)", "naA(#a@A)", "@" }, CONTEXTS(4), 1 },
+	{ "why-slow", { "(#a@gbAB)", "(#bga@BA)" }, CONTEXTS(4), 2 },
+	{ "why-slow-die", { "(#a@gbAB)", "(#bga@BA)" }, CONTEXTS(4) | WAIT_DIE, 2 },
+	{ "why-waits", { "(#m1w@M)", "~1(#mM)", "~1@" }, CONTEXTS(4), 2 },
+	{ "why-ring", { "(#agbAB)", "(#bgmBM)", "(#mgaMA)" }, CONTEXTS(4), 1 },
+	{ "why-soon", { "(#a1~2@A)3", "~1(#gtaA)2(#mM)", "(#m~3M)" }, CONTEXTS(4), 2 },
+	{ "why-chain", { "~1(#gtaA)", "(#a1mMA)", "(#m~1M)" }, CONTEXTS(4), 2 },
+	{ "why-own", { "(#a@A)(#aA)", "(#aA)", "@" }, CONTEXTS(1) | OWN, 1 },
+	{ "why-number", { "(#a@gbAB)", "(#bgaBA)" }, CONTEXTS(4) | NUMBERED, 2 },
+	{ "why-suspend", { "(#aAS1", "~1Ra@A)", "@" }, CONTEXTS(4), 2 },
+	{ "why-poll", { "(#yaA)", "(#aA)", "@" }, CONTEXTS(4), 1 },
 	{ "numbers", { ".TG.TG", ".TG.TG" }, CONTEXTS(4), WHOLE },
 	{ "numbers-two", { "TTGG", "TTGG" }, CONTEXTS(4), WHOLE },
 	{ "numbers-4", { "TG", "TG", "TG", "TG" }, CONTEXTS(4), 1 },
@@ -1076,6 +1293,22 @@ const struct il_program il_programs[] = {
 	{ "number-look-3", { "(mM)", "q", "q" }, CONTEXTS(4) | NUMBERED, 3 },
 	{ "number-look-late", { "(~1!taA2)q", "na1~2A(mM)" }, CONTEXTS(4) | NUMBERED, WHOLE },
 	{ "number-deadline", { "(aA)(aA)", "(taA)" }, CONTEXTS(4) | NUMBERED, WHOLE },
+	{ "made", { "(aA)", "(aA)" }, CONTEXTS(4) | MAKES, WHOLE },
+	{ "made-3", { "(1~2)", "~1()", "~1()2" }, CONTEXTS(4) | MAKES, 2 },
+	{ "made-few", { "()", "()", "()" }, CONTEXTS(2) | MAKES, 2 },
+	{ "made-alone", { "naA", "(aA)", "?nbB" }, CONTEXTS(2) | MAKES, 2 },
+	{ "made-own", { "()()", "()()" }, CONTEXTS(1) | OWN | MAKES, WHOLE },
+	{ "made-own-on", { "(>1()()", "~1<)" }, CONTEXTS(1) | OWN | MAKES, WHOLE },
+	{ "made-own-end", { "()", "()", "()()" }, CONTEXTS(1) | OWN | MAKES, 2 },
+	{ "made-cancel", { "na1~2A", "~1(!iaA2)", "~1C" }, CONTEXTS(1) | OWN | MAKES, 2 },
+	{ "made-cancel-seek", { "(1~2)", "~1i()2", "~1C" }, CONTEXTS(2) | MAKES, 2 },
+	{ "made-poll", { "y()", "()", "y()" }, CONTEXTS(2) | MAKES, 2 },
+	{ "made-tasks", { "y()", "y()", "y()" }, TASKS | MAKES, 2 },
+	{ "made-within", { "y()", "oy()", "y()" }, TASKS | NARROW | MAKES, 1 },
+	{ "made-wider", { "y(1sW)", "~1y()", "~1y()" }, TASKS | NARROW | MAKES, 1 },
+	{ "made-soon", { "(m1wWM)", "~1y(ymM~2)", "~1y()2" }, TASKS | NARROW | MAKES, 1 },
+	{ "made-shared", { "(1)", "(~1)", "y()", "()" }, TASKS | MAKES, 1 },
+	{ "made-free", { "(8)", "(9)", "_8_9F()" }, CONTEXTS(2) | MAKES, 1 },
 	{ "free", { "(8)", "(9)", "_8_9F()" }, CONTEXTS(2), WHOLE },
 	{ "free-one", { "(8)", "(9)", "_8_9F()" }, CONTEXTS(1), WHOLE },
 	{ "free-seeker", { "(1~2)", "~1()", "~1s2F()" }, CONTEXTS(1), WHOLE },

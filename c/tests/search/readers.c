@@ -17,7 +17,7 @@
  *	a call says that it writes	begins_to_write
  *
  * A look by which nothing more is known is no move.  A context may give up a try to read (reads_no_more), but who reads goes on until
- * it leaves its slot.  What holds of all reached halls is asked again where a call ends, so that this file isn't taken at its word.
+ * it leaves its slot, or the program ends that read alone.  What holds of all reached halls is asked again where a call ends, so that this file isn't taken at its word.
  */
 #include "inside.h"
 #include "../../lock/context.h"
@@ -395,6 +395,15 @@ void il_reads(unsigned k, const struct ww_acquire_ctx *x)
 	reads_as_owner(m, seat);
 	ASK(m->progress[seat] == READS, "seat %u reads mutex %c, and %s", seat, name_of(m), lacks[m->progress[seat]]);
 	excludes(m, seat, false);
+}
+
+void il_reads_no_more(unsigned k, const struct ww_acquire_ctx *x)
+{
+	unsigned seat = (unsigned)(x->own - x->own->pool->seats);
+
+	is_hall(NULL);
+	if (mutexes[k].progress[seat] == READS)
+		mutexes[k].progress[seat] = HAS_MARK;
 }
 
 void il_writes(unsigned k, const struct ww_acquire_ctx *x)

@@ -14,7 +14,7 @@
 static GHOST uint64_t class_id; /* of the class that was open last; and of which run it was */
 static GHOST uint32_t run;
 static GHOST struct known {
-	unsigned user;	    /* a thread, from 1 */
+	unsigned user;	    /* a thread, from 1; 0: nobody, or a value by which its context is suspended */
 	uint32_t read[ALL]; /* what each thread read last */
 } known[SEATS];
 
@@ -64,10 +64,12 @@ static bool goes(struct known *s)
 
 /*
  * uses_own, by a thread that read it free (finds_own_free); returns_own.  Whose own a seat is, is no part of its word:
- * takes_own and leaves_own are ww_take_own and end_thread.
+ * takes_own and leaves_own are ww_take_own and end_thread.  Before that the seat is made, which is no step: nobody looks there.
  */
 static bool is_store(struct known *s, uint32_t was, uint32_t is)
 {
+	if (!was && is == IS_OWN)
+		return !s->user;
 	return was == IS_OWN && is == (IS_OWN | BUSY) ? read_last(s) == IS_OWN && comes(s) :
 							was == (IS_OWN | BUSY) && is == IS_OWN && goes(s);
 }
@@ -78,6 +80,12 @@ static bool is_exchange(struct known *s, uint32_t was, uint32_t is)
 	return !was && is == BUSY ? comes(s) : was == BUSY && !is && goes(s);
 }
 
+/* suspends; takes. Of copies of a value one is the first. */
+static bool is_of_ticket(struct known *s, enum il_how how, uint64_t was, uint64_t is)
+{
+	return how == IL_STORES ? !was && is && goes(s) : how != IL_CHANGES || (was && !is && comes(s));
+}
+
 void il_access(enum il_how how, const volatile void *at, uint64_t was, uint64_t is, const void *pc)
 {
 	const struct ww_pool *p = open_class();
@@ -85,6 +93,8 @@ void il_access(enum il_how how, const volatile void *at, uint64_t was, uint64_t 
 	struct known *s = &known[k];
 	bool fits = true;
 
+	if (p && k < seats_of(p) && offset % sizeof *p->seats == offsetof(ww_seat, ticket) && !is_of_ticket(s, how, was, is))
+		il_fail("from %u to %u is no step of the ticket of seat %zu", (uint32_t)was, (uint32_t)is, k);
 	if (!p || k >= seats_of(p) || offset % sizeof *p->seats != offsetof(ww_seat, busy))
 		return;
 	il.from = pc;

@@ -10,10 +10,12 @@
  *		x: it ends the wait, and where it has none, the rest of the transaction is left out; l: whenever it is called it polls late,
  *		once all other threads wait, and until then a downgrade leaves what is written
  *	> <	behind a transaction: what it writes it only reads from here on; that has its mutex asked for by a second context first
- *	-	what it reads ends		w	waits until somebody waits for a
+ *	-	what it reads ends; e: of that a alone		w	waits until somebody waits for a
  *	d	destroys a, and makes it anew, where nobody has it; D: somebody has, or waits for it
  *	p	destroys a, unless somebody has it or waits for it; q: takes the number again, where it is gone, and has it until 3 has happened
  *	v	in the first try of a loop by a number: writes b, and backs off at a; then 2 has happened
+ *	V	by hand, by a number: writes b, backs off at a, which 2 says, and goes on from a value
+ *	u	lists who reads and writes each: nobody but who asked for it, and what the context has itself
  *	1-9 ~1	something has happened; waits for that, which orders	_1	waits for it, which doesn't
  *	These stand in a transaction, too, where that has what comes before; and what happens, behind > as well, which comes then before
  *	its reads end.
@@ -23,9 +25,11 @@
  * What is read or written is a plain access, so whoever isn't ordered behind who came before is told as a race.
  */
 #define _GNU_SOURCE
-#include "interleave.h"
+#include "made.h"
 #include "../../lock/context.h"
+#include "ww_retry.h"
 #include "ww_shared.h"
+#include "ww_why.h"
 #include <ctype.h>
 #include <string.h>
 
@@ -46,6 +50,8 @@ static long writes[BOTH];
 static uint32_t happened[10];
 static struct timespec soon;
 static bool is_late; /* a task is */
+static bool are_listed;
+static uint32_t may_use[BOTH]; /* a bit for each context that asked for it, by its label */
 static bool numbered, moving;
 /* Where each thread's context is; and where the one was that moved last. */
 static struct ww_acquire_ctx places[IL_THREADS + 2], *mine[IL_THREADS + 1], *empty;
@@ -83,6 +89,7 @@ void il_setup(const struct il_program *p)
 {
 	ww_class_init(&c, !!(p->flags & WAIT_DIE), "c");
 	MUST(!ww_class_crowd(&c, WW_NO_CROWD) && !ww_class_limit(&c, 8, p->flags >> 4 & 15) && !ww_class_open(&c));
+	make_seats(c.pool);
 	its = il_new(BOTH * sizeof *its);
 	numbered = p->flags & NUMBERED;
 	moving = (p->flags & MOVES) == MOVES;
@@ -94,7 +101,7 @@ void il_setup(const struct il_program *p)
 		if (strchr(p->threads[k], 't'))
 			soon = il_in(1000000);
 	for (unsigned k = 0; k < IL_THREADS && p->threads[k]; k++)
-		is_late |= !!strchr(p->threads[k], 'l');
+		is_late |= !!strchr(p->threads[k], 'l'), are_listed |= !!strchr(p->threads[k], 'u');
 	for (unsigned k = 0; k <= IL_THREADS; k++)
 		mine[k] = &places[k];
 	empty = &places[IL_THREADS + 1];
@@ -111,7 +118,7 @@ struct user {
 	bool reads[BOTH], writes[BOTH];
 	long was[BOTH];
 	char got[MOST + 1];
-	unsigned tries;
+	unsigned tries, label;
 };
 
 static struct it *it_of(char letter) { return &its[tolower(letter) - 'a']; }
@@ -254,6 +261,17 @@ static void end_reads(struct user *u)
 	ww_acquire_end_reads(u->x);
 }
 
+/* Others may write it, whatever else the context reads. */
+static void end_read(struct user *u)
+{
+	char *at = strchr(u->got, 'a');
+
+	memmove(at, at + 1, strlen(at));
+	u->reads[0] = false;
+	il_reads_no_more(0, u->x);
+	MUST(!ww_shared_mutex_end_read(its[0].at, u->x) && !is_read(u, 0));
+}
+
 /* What it wrote may be read by now. */
 static int unlock_write(const struct it *it, struct ww_acquire_ctx *x)
 {
@@ -321,6 +339,52 @@ static int backs_off(struct user *u)
 	return -EDEADLK;
 }
 
+/* The same; what it collided with may be another's by then, so that it doesn't wait. */
+static void goes_on_from_a_value(struct user *u)
+{
+	struct ww_retry value = { 0 };
+
+	(void)backs_off(u);
+	MUST(!ww_number_unlock(its[1].number, u->x) && !ww_acquire_suspend(u->x, &value) && !ww_acquire_resume(u->x, &c, &value, NULL));
+}
+
+/* ---- ww_why.h ---- */
+
+/* What these do is no access of a thread. */
+#define COUNTS __attribute__((no_sanitize("thread"), noinline))
+COUNTS static void asks_for(const struct user *u, unsigned k) { may_use[k] |= 1u << u->label; }
+COUNTS static void is_user(const struct ww_user *it, unsigned k) { MUST(it->label < 8 * sizeof *may_use && may_use[k] >> it->label & 1); }
+
+static bool lists(unsigned k, unsigned label, enum ww_part part)
+{
+	struct ww_user all[8];
+	size_t count = ww_mutex_users(&its[k].at->mutex_, all, 8);
+	bool is = false;
+
+	MUST(count <= 8);
+	for (size_t i = 0; i < count; i++) {
+		is_user(&all[i], k);
+		is |= all[i].label == label && all[i].part == part;
+	}
+	return is;
+}
+
+static void lists_users(struct user *u)
+{
+	for (unsigned k = 0; k < BOTH; k++)
+		if (!lists(k, u->label, u->writes[k] ? WW_HOLDS : WW_READS))
+			MUST(!u->writes[k] && !u->reads[k]);
+}
+
+/* Each has a label of its own. */
+static void label(struct user *u)
+{
+	static unsigned labels[IL_THREADS + 1];
+
+	u->label = (il_me() - 1) * 8 + ++labels[il_me()];
+	MUST(labels[il_me()] < 8 && !ww_acquire_label(u->x, u->label));
+}
+
 /* All locks of the text up to its end. */
 static int lock_each(struct user *u, const char *at, bool is_loop)
 {
@@ -335,8 +399,8 @@ static int lock_each(struct user *u, const char *at, bool is_loop)
 			how = *at;
 			continue;
 		}
-		if (*at == '-') {
-			end_reads(u);
+		if (*at == '-' || *at == 'e') {
+			(*at == 'e' ? end_read : end_reads)(u);
 			continue;
 		}
 		if (*at == 'v') {
@@ -348,6 +412,11 @@ static int lock_each(struct user *u, const char *at, bool is_loop)
 			comes_anew(*at == 'D');
 			continue;
 		}
+		if (*at == 'u' || *at == 'V') {
+			(*at == 'u' ? lists_users : goes_on_from_a_value)(u);
+			continue;
+		}
+		asks_for(u, (unsigned)(it_of(*at) - its));
 		r = lock(u, *at, how);
 		moves(u);
 		MUST(!r || r == -EDEADLK || (how == '?' && r == -EBUSY) || (how && strchr("tx", how) && r == -ETIMEDOUT));
@@ -436,6 +505,8 @@ static const char *transaction(const char *text)
 
 	ww_acquire_init(u.x, &c);
 	moves(&u);
+	if (are_listed)
+		label(&u);
 	if (is_loop)
 		in_loop(&u, text + 1);
 	else
@@ -508,6 +579,11 @@ void il_check(const struct il_program *p)
 const struct il_program il_programs[] = {
 	{ "read-write", { "(a)", "(A)" }, CONTEXTS(4), WHOLE },
 	{ "read-write-die", { "(a)", "(A)" }, CONTEXTS(4) | WAIT_DIE, WHOLE },
+	{ "read-ends", { "(bae1~2)", "~1(A)2" }, CONTEXTS(4), WHOLE },
+	{ "read-ends-first", { "(abe1~2)", "~1(A)2" }, CONTEXTS(4) | ONE_BIT, WHOLE },
+	{ "read-ends-beside", { "(bae)", "(A)(bB)" }, CONTEXTS(4), 2 },
+	{ "read-ends-again", { "(abeaA)", "(A)" }, CONTEXTS(4), 2 },
+	{ "read-ends-number", { "[abe1~2]", "~1[A]2" }, CONTEXTS(4) | NUMBERED, WHOLE },
 	{ "read-read", { "(a)(a)", "(a)(a)" }, CONTEXTS(4), 2 },
 	{ "write-write", { "(A)", "(A)" }, CONTEXTS(4), WHOLE_INSIDE },
 	{ "again", { "(a)(a)", "(A)" }, CONTEXTS(4), 3 },
@@ -558,6 +634,7 @@ const struct il_program il_programs[] = {
 	{ "destroys", { "(a1~2~3)", "~1D2", "~1D3" }, CONTEXTS(4), 1 },
 	{ "destroy-downgrade", { "(A1)>~2", "~1D2" }, CONTEXTS(4), WHOLE_INSIDE },
 	{ "destroy-upgrade", { "(a1A-~2)", "~1D2" }, CONTEXTS(4), WHOLE_INSIDE },
+	{ "destroy-up-and-down", { "(a1A-)>~2", "~1D2" }, CONTEXTS(4), WHOLE },
 	{ "destroy-read-on", { "[ba-]1(b)", "_1d" }, CONTEXTS(4), WHOLE_INSIDE },
 	{ "poll-read", { "[ya]", "(A)" }, CONTEXTS(4), WHOLE },
 	{ "poll-read-die", { "[ya]", "(A)" }, CONTEXTS(4) | WAIT_DIE, WHOLE },
@@ -590,9 +667,15 @@ const struct il_program il_programs[] = {
 	{ "number-destroy-waiter", { "(A1~2)", "(~1a~3)", "~1w2D3" }, CONTEXTS(4) | NUMBERED, 1 },
 	{ "number-vanishes", { "(A1~2)p", "~1(vBb)" }, CONTEXTS(4) | NUMBERED | WAIT_DIE, WHOLE },
 	{ "number-stranger", { "(A1~2)pq", "~1(vBb)3" }, CONTEXTS(4) | NUMBERED | WAIT_DIE, 2 },
+	{ "number-value", { "(A1~2)pq", "~1[V]3" }, CONTEXTS(4) | NUMBERED | WAIT_DIE, 2 },
 	{ "number-vanishes-read", { "(A1~2)p(b)", "~1(vb)" }, CONTEXTS(4) | NUMBERED | WAIT_DIE, 2 },
 	{ "number-again", { "[a-bd]1[a]", "~1[A]" }, CONTEXTS(4) | NUMBERED, WHOLE },
 	{ "number-again-stale", { "(a)1(b)~2(a)", "~1d2(A)" }, CONTEXTS(4) | NUMBERED, WHOLE },
+	{ "why", { "(au)", "(Au)", "(u)" }, CONTEXTS(4), 1 },
+	{ "why-next", { "(a)(b1~2)", "(u)2" }, CONTEXTS(4), 2 },
+	{ "why-first", { "(a)(A)", "(u)(u)" }, CONTEXTS(4), 2 },
+	{ "why-two", { "(abu)", "(Bu)" }, CONTEXTS(4) | ONE_BIT, 2 },
+	{ "why-number", { "[au-]", "[Au]" }, CONTEXTS(4) | NUMBERED, 2 },
 	{ "moves", { "[ya]", "[zA]" }, CONTEXTS(4) | MOVES, 2 },
 	{ "moves-reads", { "[ab]", "[A]" }, CONTEXTS(4) | MOVES, 2 },
 	{ "moves-upgrade", { "[ayA]", "[a]" }, CONTEXTS(4) | MOVES, 2 },

@@ -174,6 +174,33 @@ static void empty_handles(ww_handle *h)
 	MUST(turn(h) == -EINVAL && ww_cancel_(h, 0) == -EINVAL && ww_next_wake_(h) == -EINVAL && !ww_idle_(h) && !ww_close_(h));
 }
 
+/* A world opens with any numbers that it may have, and each of its seats once, while it is there; its seats outlast it. */
+static void opens_seats(uint32_t kind)
+{
+	ww_handle one = { 0 }, other = { 0 };
+	ww_world world = { 0 };
+
+	MUST(ww_open_world_(2, 8, 9, 4, &world) == -EINVAL && ww_open_world_(kind, 0, 9, 4, &world) == -EINVAL);
+	MUST(ww_open_world_(kind, WW_MAX_LOCKS + 1, 9, 4, &world) == -EINVAL && ww_open_world_(kind, 8, 9, 0, &world) == -EINVAL);
+	MUST(ww_open_world_(kind, 8, 9, 4096, &world) == -EINVAL && ww_open_world_(kind, 8, (uint64_t)1 << 52, 4, &world) == -EINVAL);
+	MUST(ww_open_seat_(&world, 0, &one) == -EINVAL);
+	ww_close_world_(&world);
+	MUST(!ww_open_world_(kind, 8, 9, 4, &world) && ww_open_world_(kind, 8, 9, 4, &world) == -EINVAL);
+	MUST(ww_open_seat_(&world, 4, &one) == -EINVAL && ww_open_seat_(&world, UINT16_MAX, &one) == -EINVAL);
+	empty_handles(&one);
+	MUST(!ww_open_seat_(&world, 3, &one) && ww_open_seat_(&world, 2, &one) == -EINVAL && ww_open_seat_(&world, 3, &other) == -EALREADY);
+	empty_handles(&other);
+	MUST(!ww_begin_(&one) && !ww_lock_(&one, 7, false) && !ww_open_seat_(&world, 0, &other) && ww_try_(&other, 7) == -EBUSY);
+	MUST(ww_look_(&other, 7) == 3 + 1 && ww_cancel_(&other, 2) == 0 && ww_cancel_(&other, 2) == -EALREADY);
+	MUST(ww_next_wake_(&other) == 2 && ww_next_wake_(&other) == -EINVAL);
+	MUST(!ww_close_(&other) && ww_open_seat_(&world, 0, &other) == -EALREADY);
+	ww_close_world_(&world);
+	MUST(ww_open_seat_(&world, 1, &other) == -EINVAL && ww_close_(&one) == -EBUSY);
+	MUST(!ww_unlock_(&one, 7) && !ww_end_(&one) && !ww_close_(&one));
+	MUST(!ww_open_world_(kind, 8, 9, 4, &world));
+	ww_close_world_(&world);
+}
+
 int main(int count, char **words)
 {
 	if (count > 1)
@@ -182,11 +209,8 @@ int main(int count, char **words)
 		ww_handle one = { 0 }, other = { 0 };
 
 		empty_handles(&one);
-		MUST(ww_open_(2, 8, 9, handles, 4) == -EINVAL && ww_open_(kind, 0, 9, handles, 4) == -EINVAL);
-		MUST(ww_open_(kind, WW_MAX_LOCKS + 1, 9, handles, 4) == -EINVAL && ww_open_(kind, 8, 9, handles, 0) == -EINVAL);
-		MUST(ww_open_(kind, 8, 9, handles, 4096) == -EINVAL);
-		MUST(ww_open_(kind, 8, (uint64_t)1 << 52, handles, 4) == -EINVAL);
-		MUST(!ww_open_(kind, 1, 1, &one, 1) && !ww_begin_(&one) && ww_close_(&one) == -EBUSY);
+		opens_seats(kind);
+		MUST(!open_all(kind, 1, 1, &one, 1) && !ww_begin_(&one) && ww_close_(&one) == -EBUSY);
 		MUST(ww_try_(&one, NONE) == -EINVAL && !ww_try_(&one, NONE - 1) && !ww_unlock_(&one, NONE - 1) && !ww_end_(&one));
 		MUST(ww_begin_(&one) == -ENOSPC && !ww_lock_(&one, 0, false));
 		ww_swap_(&one, &other);
@@ -197,7 +221,7 @@ int main(int count, char **words)
 		MUST(ww_idle_(&one) == -EBUSY && ww_close_(&one) == -EBUSY);
 		MUST(!ww_unlock_(&one, 0) && !ww_idle_(&one) && !ww_close_(&one) && !ww_close_(&one));
 		empty_handles(&one);
-		MUST(!ww_open_(kind, LOCKS, UINT32_MAX, handles, THREADS));
+		MUST(!open_all(kind, LOCKS, UINT32_MAX, handles, THREADS));
 		in_threads(THREADS, work);
 		for (unsigned n = 0; n < LOCKS; n++) {
 			unsigned long all = 0;

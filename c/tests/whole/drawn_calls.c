@@ -9,8 +9,9 @@
  * Whoever reads holds a mutex more, its seat's slot, from its first read to the last one's end.  A writer may wait for slots of which
  * nothing is known here, so what a call has to return is told exactly as long as no task reads or writes by a poll.
  *
- * Before a context ends, the test draws which leases are over: those of the context's seat, and of the call of a task for that seat.  So
- * what a call has to do doesn't depend on how busy the machine is.  How long a lease lasts is looked at where it begins.
+ * The test draws which leases are over: that of a context's seat, before the context ends, and before that and before other calls that of
+ * the task that was called first.  So what a call has to do doesn't depend on how busy the machine is.  How long a lease lasts is looked at
+ * where it begins.
  */
 #include "../mutex_test.h"
 #include "../../lock/lock.h"
@@ -58,7 +59,7 @@ static struct world {
 	int contexts;	   /* how many it has, those of tasks where these have their own */
 	bool is_limited;   /* the class said how many */
 	struct task tasks[TASKS];
-	int queue[TASKS], queued; /* who waits for a context, in this order */
+	int queue[TASKS], queued; /* who waits for a context, in this order; and behind these those that were called */
 	struct ww_acquire_ctx places[TASKS + 1], *empty; /* where one was that moved, or ended */
 	bool is_cancelled;
 	uint32_t spares[SPARES], spare;
@@ -92,7 +93,8 @@ static void says_result(unsigned long of, long r)
 
 /*
  * All that tells a context what comes next, and others who has a mutex.  Not what is the library's own: whether a mutex was read by
- * a slot, whether the proved library was made to forget an -EDEADLK, and by hand a list that says nothing.
+ * a slot, and by hand a list that says nothing.  That the proved library was made to forget an -EDEADLK (WAS_TOLD) is seen only of
+ * a trylock, which makes no step in vain where no other thread comes between its look and that step.
  */
 struct seen {
 	struct {
@@ -122,10 +124,10 @@ static bool is_refusal(const char *call, long r)
 		(r) = (call);                                                                          \
 		says_result(of_, (long)(r));                                                           \
 		if (is_refusal(#call, (long)(r)))                                                      \
-			is_as(&before_);                                                               \
+			is_as(&before_, strstr(#call, "trylock") ? 0 : WAS_TOLD);                      \
 	} while (0)
 
-static void is_as(const struct seen *before);
+static void is_as(const struct seen *before, unsigned int hidden);
 static void tells(const char *file, int line, const char *what)
 {
 	fflush(stdout);
@@ -182,7 +184,7 @@ static struct seen looks(void)
 		now.contexts[j].contending_lock = x->state & (TRIES | IS_TOLD) ? x->contending_lock : NULL;
 		now.contexts[j].prelocked = x->state & (IS_PRELOCKED | IS_POLLED) ? x->prelocked : NULL;
 		now.contexts[j].acquired = x->acquired;
-		now.contexts[j].state = x->state & ~(unsigned)WAS_TOLD;
+		now.contexts[j].state = x->state;
 		now.contexts[j].cancelled = x->cancelled;
 	}
 	for (int k = 0; k < LOCKS; k++) {
@@ -197,10 +199,12 @@ static struct seen looks(void)
 	return now;
 }
 
-static void is_as(const struct seen *before)
+static void is_as(const struct seen *before, unsigned int hidden)
 {
 	struct seen now = looks();
 
+	for (int j = 0; j < TASKS; j++)
+		now.contexts[j].state ^= (now.contexts[j].state ^ before->contexts[j].state) & hidden;
 	IS(!memcmp(before->contexts, now.contexts, sizeof now.contexts));
 	IS(!memcmp(before->mutexes, now.mutexes, sizeof now.mutexes));
 }
@@ -315,8 +319,7 @@ static void no_wait_for_what_is_free(int k)
 	IS(w->holder[k] != NO_TASK || !lent || others);
 }
 
-/* The first in the queue, or NULL; and the first of those that weren't called. */
-static struct task *first(void) { return w->queued ? &w->tasks[w->queue[0]] : NULL; }
+/* Of those that wait the first one that wasn't called, or NULL. */
 static struct task *first_uncalled(void)
 {
 	for (int j = 0; j < w->queued; j++)
@@ -325,7 +328,7 @@ static struct task *first_uncalled(void)
 	return NULL;
 }
 
-/* Who was called for this seat, or for any if that is NULL, and hasn't polled since; or NULL. */
+/* Who was called for this seat, or first for any if that is NULL, and hasn't polled since; or NULL. */
 static struct task *called_for(const ww_seat *s)
 {
 	for (int j = 0; j < w->queued; j++)
@@ -351,16 +354,17 @@ static int users(const ww_seat *s)
 static void queue_is_so(void)
 {
 	const struct ww_seats *of = of_tasks(w->c.pool);
-	const struct ww_seek *it = of->first;
+	const struct ww_seek *it = of->lines[WAITS].first;
 	int calls = 0;
 
 	for (int j = 0; j < w->queued; j++, it = it->next_) {
 		const struct task *t = &w->tasks[w->queue[j]];
 
+		it = it ? it : of->lines[CALLED].first;
 		IS(it == &t->seek && it->served_ == t->place && (t->place != CALLED || it->seat_ == t->seat));
 		calls += t->place == CALLED;
 	}
-	IS(!it && of->seekers == (uint32_t)w->queued && of->calls == (uint32_t)calls);
+	IS(!it && of->lines[WAITS].seekers == (uint32_t)(w->queued - calls) && of->lines[CALLED].seekers == (uint32_t)calls);
 }
 
 /*
@@ -380,7 +384,7 @@ static void no_wait_for_a_free_context(void)
 		IS(t->place == WAITS || t->is_roused);
 		IS(!w->is_cancelled || t->place != WAITS);
 	}
-	IS(!w->is_limited || used() == w->contexts || !first());
+	IS(!w->is_limited || used() == w->contexts || !w->queued);
 	IS(w->is_limited || (int)p->tasks.open == w->contexts);
 	for (int k = 0; k < (int)p->tasks.open; k++) {
 		const ww_seat *s = &p->tasks.seats[k];
@@ -1176,6 +1180,26 @@ static void leaves_queue(const struct task *t)
 	w->queued = left;
 }
 
+/* It waits, at this place among those that do. */
+static void waits_at(struct task *t, int place)
+{
+	leaves_queue(t);
+	for (int j = w->queued++; j > place; j--)
+		w->queue[j] = w->queue[j - 1];
+	w->queue[place] = id(t);
+	t->place = WAITS;
+}
+
+/* How many wait that weren't called. */
+static int uncalled(void)
+{
+	int count = 0;
+
+	while (count < w->queued && w->tasks[w->queue[count]].place != CALLED)
+		count++;
+	return count;
+}
+
 /* Where the library notes until when the task that was called for this seat may come. */
 static uint64_t *lease_of_call(const ww_seat *s) { return &w->c.pool->called[s - w->c.pool->tasks.seats]; }
 
@@ -1186,13 +1210,28 @@ static void is_to_look(const ww_seat *s)
 
 	if (!t)
 		return;
+	leaves_queue(t);
+	w->queue[w->queued++] = id(t);
 	t->place = CALLED;
 	t->is_roused = true;
 	t->seat = s;
+	if (!*lease_of_call(s))
+		return; /* it has looked by the same call */
 	IS(*lease_of_call(s) >= said_at + LEASE && *lease_of_call(s) <= ww_now() + LEASE);
+	*lease_of_call(s) = UINT64_MAX;
 }
 
-/* It leaves the queue with this seat; if it was called for one, the next one is. */
+/* Draws whether the task that was called first is late. */
+static bool draw_late(void)
+{
+	bool is_late = called_for(NULL) && draw(2);
+
+	if (called_for(NULL))
+		*lease_of_call(called_for(NULL)->seat) = is_late ? 1 : UINT64_MAX;
+	return is_late;
+}
+
+/* It leaves the queue with this seat; if it was called for another one, the next task is. */
 static void has_got(struct task *t, const ww_seat *seat)
 {
 	const ww_seat *was_for = t->place == CALLED ? t->seat : NULL;
@@ -1202,43 +1241,50 @@ static void has_got(struct task *t, const ww_seat *seat)
 	t->was_ended = false;
 	t->seat = seat;
 	leaves_queue(t);
-	if (was_for)
+	if (was_for && was_for != seat)
 		is_to_look(was_for);
 }
 
-/* The task that was called for the seat hasn't come for a lease.  If another one waits, that is called, and this waits behind all. */
-static void is_passed_on(struct task *t, const ww_seat *seat)
+/* The task that was called first hasn't come for a lease.  If another one waits, that is called, and the first waits behind all. */
+static void is_passed_on(void)
 {
+	struct task *t = called_for(NULL);
+
 	if (!first_uncalled())
 		return;
 	leaves_queue(t);
-	t->place = WAITS;
-	is_to_look(seat);
-	w->queue[w->queued++] = id(t);
+	is_to_look(t->seat);
+	waits_at(t, uncalled());
 }
 
 /*
- * A context ended.  In a limited class, or if its seat isn't lent, the first one is handed the seat.  Else one is called for the seat,
- * unless one was called already and isn't late.
+ * A context ended.  In a limited class, or if its seat isn't lent, the one that was called first, or else the first one that waits, is
+ * handed the seat.  Else one is called for the seat; if one was called already, and first, and is late, that is passed on.
  */
 static void is_given(const ww_seat *seat, bool is_lent, bool is_late)
 {
-	if (first() && !is_lent)
-		has_got(first(), seat);
+	if (w->queued && !is_lent)
+		has_got(called_for(NULL) ? called_for(NULL) : first_uncalled(), seat);
 	else if (!called_for(seat))
 		is_to_look(seat);
-	else if (is_late)
-		is_passed_on(called_for(seat), seat);
+	else if (is_late && called_for(seat) == called_for(NULL))
+		is_passed_on();
+}
+
+/* Whether a task that comes gets a context: the one that this thread gave last, or any while no task waits that wasn't called. */
+static bool is_one_for_a_task(void)
+{
+	const ww_seat *last = ww_mine.last.id == w->c.pool->tasks.id ? ww_mine.last.seat : NULL;
+
+	return used() < w->contexts && (w->is_limited || !first_uncalled() || (last && !users(last)));
 }
 
 /* A first call to begin one; r is what it returns if there is none. */
-static void may_begin(struct task *t, int r, int otherwise, bool of_tasks)
+static void may_begin(struct task *t, int r, int otherwise, bool of_tasks, bool is_one)
 {
-	int none = w->contexts - used();
-
 	IS(r == 0 || r == otherwise);
 	if (w->is_limited || of_tasks)
-		IS((r == 0) == (none > 0));
+		IS((r == 0) == is_one);
 	else
 		IS(r == 0); /* threads have many */
 	t->is_ended |= r != -EINPROGRESS;
@@ -1248,6 +1294,7 @@ static void may_begin(struct task *t, int r, int otherwise, bool of_tasks)
 
 static void begin(struct task *t)
 {
+	bool is_one = is_one_for_a_task(), is_late = draw_late();
 	unsigned way = draw(8);
 	struct ww_waker waker;
 	int r;
@@ -1261,54 +1308,60 @@ static void begin(struct task *t)
 	}
 	if (way == 0) {
 		CALL(r, t, 0, ww_acquire_init_checked(t->x, &w->c));
-		may_begin(t, r, -EAGAIN, false);
+		may_begin(t, r, -EAGAIN, false, is_one);
 	} else if (way == 1) {
 		CALL(r, t, 0, ww_acquire_init_until(t->x, &w->c, &past));
-		may_begin(t, r, w->is_cancelled ? -EINTR : -ETIMEDOUT, false);
+		may_begin(t, r, w->is_cancelled ? -EINTR : -ETIMEDOUT, false, is_one);
 	} else if (way == 2 && (!w->is_limited || used() < w->contexts)) {
 		says("ww_acquire_init", t, 0);
 		ww_acquire_init(t->x, &w->c);
-		may_begin(t, 0, 0, false);
+		may_begin(t, 0, 0, false, is_one);
 	} else if (way == 3) {
 		CALL(r, t, 0, ww_acquire_init_poll(t->x, &w->c, NULL, NULL));
-		may_begin(t, r, -ETIMEDOUT, true);
+		may_begin(t, r, -ETIMEDOUT, true, is_one);
 	} else {
 		t->seek = (struct ww_seek){ 0 };
 		waker = lends(t);
 		CALL(r, t, 0, ww_acquire_init_poll(t->x, &w->c, &t->seek, &waker));
+		if (!is_one && is_late && w->queued - uncalled() == w->contexts)
+			is_passed_on();
 		if (r == -EINPROGRESS) {
 			t->phase = SEEKS;
-			t->place = WAITS;
 			t->is_roused = false;
-			w->queue[w->queued++] = id(t);
+			waits_at(t, uncalled());
 		}
-		may_begin(t, r, w->is_cancelled ? -EINTR : -EINPROGRESS, true);
+		may_begin(t, r, w->is_cancelled ? -EINTR : -EINPROGRESS, true, is_one);
 	}
 }
 
 /*
- * A task polls.  If it was called, it isn't any more, and it looks at the seat for which it was; at others only if all that wait were
- * called.  While any task is called, each that polls and wasn't called looks for a seat, too.  In vain, a task waits on where it stood.
- * Returns whether it finds one.
+ * A task polls.  If it wasn't called, a late call is passed on, maybe to this task.  If it was called, it waits before all that do, and
+ * looks at the seat for which it was called; at others only if all that waited were called.  Returns whether it finds one.
  */
-static bool finds_one(struct task *t)
+static bool finds_one(struct task *t, bool is_late)
 {
-	const ww_seat *was_for = t->place == CALLED ? t->seat : NULL;
-	bool looks = t->place != SERVED && called_for(NULL), at_others = !was_for || !first_uncalled();
+	const ww_seat *was_for;
+	bool at_others;
 
-	if (t->place == CALLED)
-		t->place = WAITS;
-	if (looks && was_for && !users(was_for))
+	if (t->place == WAITS && is_late)
+		is_passed_on();
+	if (t->place != CALLED)
+		return t->place == SERVED;
+	was_for = t->seat;
+	at_others = !first_uncalled();
+	waits_at(t, 0);
+	if (!users(was_for))
 		has_got(t, was_for);
-	else if (looks && at_others && used() < w->contexts)
+	else if (at_others && used() < w->contexts)
 		has_got(t, NULL);
+	t->is_roused = false;
 	return t->place == SERVED;
 }
 
 /* Another poll for a context. */
 static void seek_on(struct task *t)
 {
-	bool lent = !rarely(5);
+	bool lent = !rarely(5), is_late = draw_late();
 	const ww_seat *leaves = !lent && t->place == CALLED ? t->seat : NULL, *gets;
 	struct ww_waker waker = { 0 };
 	int r;
@@ -1322,7 +1375,7 @@ static void seek_on(struct task *t)
 	if (t->place == SERVED && t->was_ended)
 		IS(r == -EINTR);
 	else
-		IS(r == ((lent ? finds_one(t) : t->place == SERVED) ? 0 : !lent ? -ETIMEDOUT : w->is_cancelled ? -EINTR : -EINPROGRESS));
+		IS(r == ((lent ? finds_one(t, is_late) : t->place == SERVED) ? 0 : !lent ? -ETIMEDOUT : w->is_cancelled ? -EINTR : -EINPROGRESS));
 	if (r == -EINPROGRESS)
 		return;
 	leaves_queue(t);
@@ -1341,15 +1394,13 @@ static void seek_on(struct task *t)
 static void end_context(struct task *t)
 {
 	ww_seat *seat = t->x->own;
-	bool is_lent = t->of_tasks && draw(2), is_late = draw(2);
+	bool is_lent = t->of_tasks && draw(2), is_late = draw_late();
 	int r;
 
 	if (t->polled != NO_TASK && t->count)
 		return; /* nothing lists what it holds */
 	if (t->of_tasks)
 		seat->lease = is_lent ? UINT64_MAX : 0;
-	if (t->of_tasks && called_for(seat))
-		*lease_of_call(seat) = is_late ? 1 : UINT64_MAX;
 	if (t->polled != NO_TASK || ((t->loop || !t->count) && rarely(3))) {
 		CALL(r, t, 0, ww_acquire_end(t->x));
 		IS(!r && ww_acquire_end(t->x) == -EINVAL);
@@ -1770,7 +1821,9 @@ static void open_world(void)
 	if (w->is_limited)
 		w->contexts = 1 + (int)draw(4);
 	/* There is room for the slots, too. */
-	IS(!ww_class_limit(&w->c, LOCKS + SPARES + 80 + draw(64), w->is_limited ? (uint32_t)w->contexts : 0) && !ww_class_open(&w->c));
+	/* No crowd: when one begins goes by the clock. */
+	IS(!ww_class_limit(&w->c, LOCKS + SPARES + 80 + draw(64), w->is_limited ? (uint32_t)w->contexts : 0));
+	IS(!ww_class_crowd(&w->c, WW_NO_CROWD) && !ww_class_open(&w->c));
 	for (w->spare = 0; w->spare < SPARES && !rarely(SPARES); w->spare++)
 		IS(!ww_number_take(&w->spares[w->spare], &w->c));
 	for (int k = 0; k < LOCKS; k++) {

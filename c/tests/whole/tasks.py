@@ -128,7 +128,7 @@ asyncio.run(begins_anew())
     environment = {**os.environ, "WW_DEBUG": "1", "PYTHONPATH": os.path.dirname(os.path.dirname(ww.__file__))}
     told = subprocess.run([sys.executable, "-c", program, sys.argv[1]], env=environment, stderr=subprocess.PIPE, text=True, check=True).stderr
     (line,) = told.splitlines()
-    assert line.startswith('<string>:10: ww_acquire_init: class "its": the last 3 contexts that the thread began here ended after -EDEADLK: '), told
+    assert line.startswith('<string>:12: ww_acquire_fini: class "its": the context loses its age: '), told
 
 
 async def refuses_other_tasks(kind):

@@ -38,6 +38,20 @@ async def task() -> int:
     return await accounts.run_async(body)
 asyncio.run(task())
 version: str = ww.__version__
+table = ww.Table(accounts, keys=100)
+def moves(it: ww.Transaction) -> bool:
+    it.read(b"1", timeout=1)
+    it.lock("1", "2")
+    mark: int = it.mark()
+    it.unlock_to(mark)
+    return it.try_lock("3")
+moved: bool = table.run(moves, owner=7)
+with table.transaction(owner=7) as transaction:
+    age: ww.Suspended = transaction.suspend()
+with accounts.context(resumes=age) as context:
+    place = context.why().at
+    label: int = place.label if place and place.is_at(one) else 0
+owners = [user.owner for user in table.users("1")]
 """
 # Each is one line, and wrong.
 WRONG = """context.lokc(one)
@@ -51,6 +65,12 @@ ww.report_to(3)
 context.cancel(1)
 one.aquire()
 accounts.conext()
+table.transaction(resumes=context)
+transaction.lock(5)
+transaction.lock(one)
+context.why().at.label
+table.users("1")[0].who
+age.age
 """
 
 
@@ -70,7 +90,7 @@ def main():
             file.write(RIGHT + WRONG)
         told = mypy(folder, "-p", "ww")
         assert not told, told
-        for it in (f"{C}/examples/objects.py", f"{C}/examples/trips.py", right):
+        for it in (f"{C}/examples/objects.py", f"{C}/examples/trips.py", f"{C}/examples/retries.py", right):
             told = mypy(folder, it)
             assert not told, told
         told = mypy(folder, wrong)

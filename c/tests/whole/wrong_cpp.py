@@ -7,7 +7,7 @@ import subprocess
 import sys
 
 C = os.path.dirname(os.path.dirname(os.path.dirname(os.path.abspath(__file__))))
-HEAD = """#include "ww_mutex.hpp"
+HEAD = """#include "ww_table.hpp"
 #include <memory>
 #include <vector>
 using namespace std::chrono_literals;
@@ -17,6 +17,9 @@ struct account {
 	long money WW_GUARDED_BY(lock) = 0;
 } a, b;
 void waits();
+ww::lock_table table(boxes);
+inline constexpr auto shared = ww::table_mode::shared;
+struct padded { char first; int second; };
 """
 # What is wrong; the words of the error, or of the warning of the analysis; the wrong lines, and the right ones.
 LIST = "auto r = ww::lock_all(boxes, { &a.lock, &b.lock }, "
@@ -37,6 +40,15 @@ PROGRAMS = [
     ("a reference that outlives its locks", "without the locks", LIST + "[]() -> long & { a.lock.assert_held(); return a.money; }); (void)r;",
      LIST + "[] { a.lock.assert_held(); return a.money; }); (void)r;"),
     ("an answer that nobody looks at", "ignoring return", LIST[9:] + "[] {});", "(void)" + LIST[9:] + "[] {});"),
+    ("a table's result as a condition", "to 'bool'", "ww::transaction t(table, 1); if (t.lock(\"k\", shared)) waits();",
+     "ww::transaction t(table, 1); if (is_locked(t.lock(\"k\", shared))) waits();"),
+    ("a table's result that nobody looks at", "ignoring return", "ww::transaction t(table, 1); t.lock(\"k\", shared);",
+     "ww::transaction t(table, 1); (void)t.lock(\"k\", shared);"),
+    ("a number for a mode", "no matching ", "ww::transaction t(table, 1); (void)t.lock(\"k\", 1);", "ww::transaction t(table, 1); (void)t.lock(\"k\", shared, 1s);"),
+    ("a key with padding", "no padding", "ww::transaction t(table, 1); (void)t.lock(std::vector<padded>(1), shared);",
+     "ww::transaction t(table, 1); (void)t.lock(std::vector<int>(1), shared);"),
+    ("two of one age", "deleted", "ww::suspended age; ww::suspended other(age);", "ww::suspended age; ww::suspended other(std::move(age));"),
+    ("an age that is lost", "ignoring return", "ww::transaction t(table, 1); t.suspend();", "ww::transaction t(table, 1); auto age = t.suspend();"),
     ("money without its lock", "requires holding", "ww::context x(boxes); a.money++;",
      "ww::context x(boxes); if (x.lock(a.lock)) return; a.money++;"),
     ("money of another", "requires holding", "ww::context x(boxes); if (x.lock(a.lock)) return; b.money++;",

@@ -73,7 +73,7 @@ void witness_counts_for(void) { w_locks(NO_CALL, 1); /*@ check never: \false; */
 void witness_count_waiter(void) { w_locks(NO_CALL, 1); /*@ check never: \false; */ count_waiter(&w_mutex, &w_how, 1); }
 void witness_begin_wait(void) { w_locks(NO_CALL, 0); /*@ check never: \false; */ begin_wait(&w_mutex, &w_context, &w_seat, &w_how); }
 void witness_end_wait(void) { w_locks(NO_CALL, 0); /*@ check never: \false; */ end_wait(&w_mutex, &w_context, &w_seat, &w_wait, 0); }
-void witness_lock_ends(void) { w_locks(NO_CALL, 1); /*@ check never: \false; */ lock_ends(&w_mutex, &w_context, &w_seat, 0, false); }
+void witness_lock_ends(void) { w_locks(NO_CALL, 1); /*@ check never: \false; */ lock_ends(&w_mutex, &w_context, &w_seat, 0, &w_how); }
 void witness_wait_on(void) { w_locks(LOCKS, 0); /*@ check never: \false; */ wait_on(&w_mutex, &w_context, &w_seat, WW_AGAIN, &w_wait); }
 void witness_lock_on(void) { w_locks(LOCKS, 0); /*@ check never: \false; */ ww_lock_on(&w_mutex, &w_context, &w_seat, WW_AGAIN, &w_how); }
 void witness_lock_by(void) { w_locks(NO_CALL, 0); /*@ check never: \false; */ ww_lock_by(&w_mutex, &w_context, &w_how); }

@@ -1,3 +1,3 @@
 pub mod AsBox
-pub mod Filling
+pub mod AsOfficeBox
 pub mod Modes

@@ -2,6 +2,8 @@
 use Rattle.std.specs.Prelude.{ℕ, ◌+◌, ℤ, pos, negsuc, Bool, true, false, Result, Ok, Err}
 use Rattle.ww_seat.specs.declared.waits.Waits.{Waits}
 use Rattle.ww_seat.specs.declared.waits.Waits.TheVariants.{ToTheEnd, UntilCancelled}
+use Rattle.ww_steps.specs.declared.opening.NoDesk.{NoDesk}
+use Rattle.ww_steps.specs.declared.opening.NoDesk.TheVariants.{NoSeat, MadeBefore, NoRoom}
 use Rattle.ww_steps.specs.declared.outlook.Age.{Age}
 use Rattle.ww_steps.specs.declared.outlook.Age.TheVariants.{Unknown, Older, Younger}
 use Rattle.ww_steps.specs.declared.outlook.Outlook.{Outlook}
@@ -23,6 +25,12 @@ code_of Already = negsuc 113
 code_of NoSpace = negsuc 27
 code_of (Deadlk k) = negsuc 34
 code_of (Interrupted by) = negsuc 3
+
+-- why no desk was made
+abbrev pub no_desk_code : NoDesk → ℤ
+no_desk_code NoSeat = negsuc 21
+no_desk_code MadeBefore = negsuc 113
+no_desk_code NoRoom = negsuc 11
 
 -- whose a lock is: one more than the number of the owner's seat, and one bit for the age of its context
 abbrev pub age_bit : Age → ℕ

@@ -1,17 +1,16 @@
 -- What a call by a handle of C's comes to.
-use Rattle.std.specs.Prelude.{ℕ, zero, suc, ◌≡◌, ◌≤◌, ◌⊎◌, ℤ, pos, negsuc, Bool, List, length, map, Option, Some, None, Result, Box}
-use Rattle.std.specs.Global.{Global}
+use Rattle.std.specs.Prelude.{ℕ, zero, suc, ◌≡◌, ◌≢◌, ◌≤◌, ◌⊎◌, ℤ, pos, negsuc, Bool, List, length, Option, Some, None, Result}
 use Rattle.ww_steps.specs.declared.turn.Answer.{Answer}
 use Rattle.ww_steps.specs.declared.outlook.Outlook.{Outlook}
 use Rattle.ww_steps.specs.declared.outlook.NoOutlook.{NoOutlook}
 use Rattle.ww_steps.specs.Situations.{Situation}
 use Rattle.ww_steps.specs.Answers.{BooksWakes, CountsNaps, HasSomeHeld, IsEachAnswer, IsNextAnswer, IsCancelAnswer, IsWakeAnswer, HasNothing}
-use Rattle.ww_steps.specs.Opened.{IsWorldSize, IsOpened}
+use Rattle.ww_steps.specs.declared.opening.NoDesk.{NoDesk}
+use Rattle.ww_steps.specs.Opened.{HasMadeDesk, IsNoDesk, IsWorldSize, IsOpened, Premises}
 use Rattle.ww_steps.specs.Outlooks.{IsOutlookAnswer, IsWoundedAnswer}
 use Rattle.ww_queue.specs.declared.kind.Kind.{Kind}
 use Rattle.ww_queue.specs.declared.kind.Kind.TheVariants.{WoundWait, WaitDie}
-use Rattle.ww_c.specs.declared.slot.Handle.{Handle}
-use Rattle.ww_c.specs.Codes.{code_of, outlook_code, wounded_code}
+use Rattle.ww_c.specs.Codes.{code_of, no_desk_code, outlook_code, wounded_code}
 
 -- The desk behind the handle answers by this relation, and the code is that of its answer; an empty handle is told EINVAL.
 abbrev pub IsCall : (Situation → Answer → Situation → Type 0) → Option Situation → ℤ → Option Situation → Type 0
@@ -75,23 +74,24 @@ abbrev pub kind_of : ℕ → Kind
 kind_of zero = WoundWait
 kind_of (suc k) = WaitDie
 
--- which desks these handles have
-abbrev pub desks_in : List Handle → List (Option Situation)
-desks_in handles = map (λ h. h.slot.desk) handles
-
--- which desks these boxes have
-abbrev pub desks_of : List (Box Situation Global) → List Situation
-desks_of boxes = map (λ b. b.value) boxes
-
--- each handle has the desk of its number, of one new world
-pub record IsOpen (kind locks left seats : ℕ) (after : List (Option Situation)) : Type 0 where
+-- the handle has a new world, of whose desks none was made
+pub record IsOpen (kind locks left seats : ℕ) (after : Option Premises) : Type 0 where
   pub kinds : kind ≤ 1
-  pub all : List Situation
-  pub opened : IsOpened (kind_of kind) locks seats left all
-  pub filled : after ≡ map Some all
+  pub office : Premises
+  pub opened : IsOpened (kind_of kind) locks seats left office
+  pub filled : after ≡ Some office
 
--- a world; ENOMEM, or EINVAL for any other sizes, and then the handles have what they had
-abbrev pub IsOpenCall : ℕ → ℕ → ℕ → ℕ → List (Option Situation) → ℤ → List (Option Situation) → Type 0
-IsOpenCall kind locks left seats before code after = ((code ≡ pos 0) × IsOpen kind locks left seats after)
-    ⊎ (((code ≡ negsuc 11) × IsWorldAsked kind locks left seats × (after ≡ before))
-    ⊎ ((code ≡ negsuc 21) × (¬ IsWorldAsked kind locks left seats) × (after ≡ before)))
+-- a world; ENOMEM; or EINVAL for any other sizes, or where the handle had a world; and then it has what it had
+abbrev pub IsOpenCall : ℕ → ℕ → ℕ → ℕ → Option Premises → ℤ → Option Premises → Type 0
+IsOpenCall kind locks left seats before code after = ((code ≡ pos 0) × (before ≡ None) × IsOpen kind locks left seats after)
+    ⊎ (((code ≡ negsuc 11) × (before ≡ None) × IsWorldAsked kind locks left seats × (after ≡ before))
+    ⊎ ((code ≡ negsuc 21) × ((¬ IsWorldAsked kind locks left seats) ⊎ (before ≢ None)) × (after ≡ before)))
+
+-- The desk of this number comes into an empty handle of a seat, if it wasn't made before; else both handles have what they had.
+-- A handle without a world, and one with a desk, are told EINVAL.
+abbrev pub IsSeatCall : ℕ → Option Premises → Option Situation → ℤ → Option Premises → Option Situation → Type 0
+IsSeatCall k None seat code after seat' = (code ≡ negsuc 21) × (after ≡ None) × (seat' ≡ seat)
+IsSeatCall k (Some h) (Some s) code after seat' = (code ≡ negsuc 21) × (after ≡ Some h) × (seat' ≡ Some s)
+IsSeatCall k (Some h) None code after seat' = ((code ≡ pos 0) × ((d : Situation) × (h' : Premises)
+    × HasMadeDesk h k d h' × (after ≡ Some h') × (seat' ≡ Some d)))
+    ⊎ ((why : NoDesk) × IsNoDesk h k why × (code ≡ no_desk_code why) × (after ≡ Some h) × (seat' ≡ None))

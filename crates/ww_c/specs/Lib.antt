@@ -1,4 +1,5 @@
 pub mod Slots
+pub mod Offices
 pub mod Lending
 pub mod Codes
 pub mod Exports

@@ -1,16 +1,18 @@
 //! The numbers of answers for C, and how its lock calls wait.
 
 ghost use Rattle.std.specs.Prelude.{◌≡◌};
-ghost use Rattle.ww_c.specs.Codes.{code_of, outlook_code, waits_of, wounded_code};
+ghost use Rattle.ww_c.specs.Codes.{code_of, no_desk_code, outlook_code, waits_of, wounded_code};
 
 use ww_seat::Waits;
-use ww_steps::{Age, Answer, NoOutlook, Outlook};
+use ww_steps::{Age, Answer, NoDesk, NoOutlook, Outlook};
 
 pub(crate) const EBUSY: i32 = -16;
 
 pub(crate) const EINVAL: i32 = -22;
 
 pub(crate) const ENOMEM: i32 = -12;
+
+pub(crate) const EALREADY: i32 = -114;
 
 /// The context of a lock's owner is older, or younger, than that of the seat that looks.
 pub(crate) const OLDER: i32 = 8192;
@@ -32,10 +34,21 @@ pub(crate) fn code(answer: Answer) -> i32
         Answer::Awaits => 5,
         Answer::Busy => EBUSY,
         Answer::Invalid => EINVAL,
-        Answer::Already => -114,
+        Answer::Already => EALREADY,
         Answer::NoSpace => -28,
         Answer::Deadlk(_) => -35,
         Answer::Interrupted(_) => -4,
+    }
+}
+
+/// The number for C of why no desk was made.
+pub(crate) fn no_desk(why: NoDesk) -> i32
+    ensures { result ≡ no_desk_code why }
+{
+    match why {
+        NoDesk::NoSeat => EINVAL,
+        NoDesk::MadeBefore => EALREADY,
+        NoDesk::NoRoom => ENOMEM,
     }
 }
 

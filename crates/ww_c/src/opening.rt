@@ -1,39 +1,40 @@
-//! A world is opened for C: all memory is had first, and then the desks go into the caller's handles.
+//! A world is opened for C, and its desks are made into the caller's handles.
 
-ghost use Rattle.std.specs.Prelude.{◌≡◌, length, map, Some, IfOk};
-ghost use Rattle.ww_c.specs.Exports.{desks_in, desks_of, IsOpenCall};
+ghost use Rattle.std.specs.Prelude.{◌≡◌, None};
+ghost use Rattle.ww_c.specs.Exports.{IsOpenCall, IsSeatCall};
 
-use crate::codes::{EINVAL, ENOMEM};
+use crate::codes::{EINVAL, ENOMEM, no_desk};
 use crate::slot::Handle;
-use std::alloc::{AllocError, Global};
+use crate::slot::world::OfficeHandle;
+use std::alloc::Global;
 use ww_queue::Kind;
-use ww_steps::{Desk, OpenFault, open};
-use ww_word::wide::MANY_SEATS;
+use ww_steps::{Office, OpenFault};
 
-/// Opens a world with this many locks of a kind (0 Wound-Wait, 1 Wait-Die), with a seat for each of the handles, which
-/// are empty before.
+/// Opens a world with this many locks of a kind (0 Wound-Wait, 1 Wait-Die), and with so many seats, none of which has a desk
+/// yet.
 #[unsafe(no_mangle)]
-pub extern "C" fn ww_open_(
+pub extern "C" fn ww_open_world_(
     alloc: Global,
     kind: u32,
     locks: u32,
     left: u64,
-    seats: &mut [Handle],
+    seats: u16,
+    world: &mut OfficeHandle,
 ) -> i32
-    ensures { IsOpenCall kind locks left (length seats.old) (desks_in seats.old) result (desks_in seats.new) }
+    ensures { IsOpenCall kind locks left seats world.old.slot.office result world.new.slot.office }
 {
     let kind = match kind {
         0 => Kind::WoundWait,
         1 => Kind::WaitDie,
         _ => return EINVAL,
     };
-    if seats.len() > usize::from(MANY_SEATS) {
+    if !world.is_empty() {
         return EINVAL;
     }
-    match open(alloc, kind, locks, seats.len() as u16, left) {
-        Ok(desks) => match boxed(alloc, desks) {
-            Ok(boxes) => {
-                fill(boxes, seats);
+    match Office::open(alloc, kind, locks, seats, left) {
+        Ok(office) => match Box::new(alloc, office) {
+            Ok(office) => {
+                world.put(office);
                 0
             }
             Err(_) => ENOMEM,
@@ -43,25 +44,37 @@ pub extern "C" fn ww_open_(
     }
 }
 
-/// Each desk in a box of its own: so no handle is written before all memory is there.
-fn boxed(alloc: Global, desks: Vec<Desk>) -> Result<Vec<Box<Desk, Global>>, AllocError>
-    ensures { IfOk result (λ boxes. desks_of boxes.items ≡ desks.items) }
+/// Makes the desk of the seat with this number, and puts it into an empty handle.
+#[unsafe(no_mangle)]
+pub extern "C" fn ww_open_seat_(
+    alloc: Global,
+    world: &mut OfficeHandle,
+    number: u16,
+    seat: &mut Handle,
+) -> i32
+    ensures { IsSeatCall number world.old.slot.office seat.old.slot.desk result world.new.slot.office seat.new.slot.desk }
 {
-    let mut boxes = Vec::with_capacity(alloc, desks.len())?;
-    for desk in desks {
-        let desk = Box::new(alloc, desk)?;
-        boxes.push(desk)?;
+    if !seat.is_empty() {
+        return EINVAL;
     }
-    Ok(boxes)
+    let Some(mut office) = world.take(alloc) else {
+        return EINVAL;
+    };
+    let made = office.desk(alloc, number);
+    world.put(office);
+    match made {
+        Ok(desk) => {
+            seat.put(desk);
+            0
+        }
+        Err(why) => no_desk(why),
+    }
 }
 
-/// Puts each desk into the handle of its number, the last one first.
-fn fill(mut boxes: Vec<Box<Desk, Global>>, seats: &mut [Handle])
-    requires count { length boxes.items ≡ length seats.old }
-    ensures { desks_in seats.new ≡ map Some (desks_of boxes.items) }
+/// No more desks are made of it. The world goes with the last of those that were made.
+#[unsafe(no_mangle)]
+pub extern "C" fn ww_close_world_(alloc: Global, world: &mut OfficeHandle)
+    ensures { world.new.slot.office ≡ None }
 {
-    while let Some(desk) = boxes.pop() {
-        let at = boxes.len();
-        seats[at].put(desk);
-    }
+    let _office = world.take(alloc);
 }

@@ -1,4 +1,4 @@
-//! What C keeps of a seat.
+//! What C keeps of a seat, and of a world.
 ghost use Rattle.std.specs.Prelude.{◌≡◌, ◌<◌, ◌==◌, Option, Some, None, IfSome, IfNone, true, not};
 ghost use Rattle.std.proofs.Props.{props};
 ghost use Rattle.ww_steps.specs.Situations.{IsReady, IsPlain, HasReleasedAll};
@@ -7,6 +7,7 @@ ghost use Rattle.ww_c.specs.Modes.{knows, is_ready, is_plain, is_bare, is_alone,
 ghost use Rattle.ww_c.specs.Slots.{slot_owns, slot_coded, is_full};
 
 mod parts;
+pub(crate) mod world;
 
 use parts::Parts;
 use std::alloc::Global;

@@ -1,5 +1,5 @@
 -- The account of wakes: each step marks whom it comes to owe a wake.
-use Rattle.std.proofs.Common.{◌≡◌, ◌≢◌, ℕ, ◌+◌, ◌<◌, ◌≤◌, Bool, true, false, true≢false, cond, not, eqb, List, [], ◌∷◌, ◌==◌, Option, Some, None, inl, inr, ⊎_elim, ◌⊎◌, refl, sym, ap, ◌∙◌, subst, arith}
+use Rattle.std.proofs.Common.{◌≡◌, ◌≢◌, ℕ, ◌+◌, Bool, true, false, true≢false, cond, eqb, List, [], ◌∷◌, Option, Some, None, inl, inr, ⊎_elim, ◌⊎◌, refl, sym, ap, ◌∙◌, subst, arith}
 use Rattle.std.proofs.lemmas.Bool.{cases_lt}
 use Rattle.ww_queue.specs.Queue.{Has}
 use Rattle.ww_plain.proofs.Members.{true_or_false, same_from_eqb, eqb_same}

@@ -1,15 +1,19 @@
 -- What opening a world gives.
-use Rattle.std.specs.Prelude.{ℕ, max, ◌≡◌, ◌<◌, ◌≤◌, ◌+◌, ◌/◌, ◌^◌, ◌⊎◌, [], List, false, replicate, length, slice_index_or, None}
+use Rattle.std.specs.Prelude.{ℕ, max, ◌≡◌, ◌<◌, ◌≤◌, ◌+◌, ◌/◌, ◌^◌, ◌⊎◌, [], List, Bool, true, false, replicate, length, map, slice_index_or, slice_set, Option, Some, None, is_none}
 use Rattle.atomic_table.specs.Seated.{TableId}
 use Rattle.ww_word.specs.declared.wide.TheConstants.{MANY_SEATS}
 use Rattle.ww_queue.specs.declared.kind.Kind.{Kind}
 use Rattle.ww_view.specs.View.{first_view}
 use Rattle.ww_invariant.specs.Rule.{first_graph, places_for}
 use Rattle.ww_table.specs.declared.board.Board.{Board}
+use Rattle.ww_table.specs.declared.make.Ticket.{Ticket}
+use Rattle.ww_table.specs.Made.{IsTicket}
 use Rattle.ww_steps.specs.declared.turn.Turn.TheVariants.{Rests}
 use Rattle.ww_steps.specs.declared.opening.TheConstants.{MAX_LOCKS}
 use Rattle.ww_steps.specs.declared.opening.OpenFault.{OpenFault}
 use Rattle.ww_steps.specs.declared.opening.OpenFault.TheVariants.{BadLocks, BadSeats, BadContexts, NoMemory}
+use Rattle.ww_steps.specs.declared.opening.NoDesk.{NoDesk}
+use Rattle.ww_steps.specs.declared.opening.NoDesk.TheVariants.{NoSeat, MadeBefore, NoRoom}
 use Rattle.ww_steps.specs.Situations.{Situation}
 
 -- the desk of this number, which has done nothing yet
@@ -37,11 +41,6 @@ fresh home size seats kind left caller = record {
   view = first_view kind size (places_for seats) caller;
 }
 
--- so many desks of one world of so many seats, each with its number, that have done nothing yet
-pub record AreFresh (all : List Situation) (home : TableId) (size seats : ℕ) (kind : Kind) (left count : ℕ) : Type 0 where
-  pub long : length all ≡ count
-  pub each : (i : ℕ) (d : Situation) → i < length all → slice_index_or all i d ≡ fresh home size seats kind left i
-
 -- there are some, and no more than these
 pub record IsCount (n most : ℕ) : Type 0 where
   pub some : 1 ≤ n
@@ -66,12 +65,60 @@ pub record IsBareTable (b : Board) (locks seats : ℕ) : Type 0 where
 abbrev pub locks_for : ℕ → ℕ
 locks_for locks = max locks 65
 
-pub record IsOpened (kind : Kind) (locks seats left : ℕ) (all : List Situation) : Type 0 where
-  pub sizes : IsWorldSize locks seats left
+-- What a contract sees of an office: its table, how many locks that has and of which kind, how many contexts each desk may begin,
+-- and of each seat whether its desk was made.
+pub record Premises : Type 0 where
   pub home : TableId
   pub size : ℕ
-  pub size_is : size ≡ locks_for locks
-  pub fresh : AreFresh all home size seats kind left seats
+  pub kind : Kind
+  pub left : ℕ
+  pub made : List Bool
+
+abbrev pub premises_of : Board → ℕ → ℕ → List (Option Ticket) → Premises
+premises_of b locks left tickets = record {
+  home = b.table.shared.table_id;
+  size = locks;
+  kind = b.table.shared.key.kind;
+  left = left;
+  made = map is_none tickets;
+}
+
+-- a ticket that is still there is one of this board, and stands at its number
+abbrev pub AreLeft : Board → List (Option Ticket) → Type 0
+AreLeft b tickets = (k : ℕ) (t : Ticket) → slice_index_or tickets k None ≡ Some t
+    → IsTicket b.table.shared.table_id b.table.shared.key t × (t.who ≡ k)
+
+-- what is true of an office, whichever desks were made
+pub record IsOffice (b : Board) (kind : Kind) (locks left : ℕ) (tickets : List (Option Ticket)) : Type 0 where
+  pub table : IsBareTable b locks (length tickets)
+  pub kind_is : kind ≡ b.table.shared.key.kind
+  pub few_contexts : left < 2 ^ 52
+  pub tickets_are : AreLeft b tickets
+
+-- no desk of this new world was made
+pub record IsOpened (kind : Kind) (locks seats left : ℕ) (h : Premises) : Type 0 where
+  pub sizes : IsWorldSize locks seats left
+  pub size_is : h.size ≡ locks_for locks
+  pub kind_is : h.kind ≡ kind
+  pub left_is : h.left ≡ left
+  pub none_made : h.made ≡ replicate seats false
+
+-- the office with this desk made
+abbrev pub with_made : Premises → ℕ → Premises
+with_made h k = record h { made = slice_set h.made k true }
+
+-- The desk of this number is made, which was not made before, and has done nothing yet. Nothing else of the office has changed.
+pub record HasMadeDesk (h : Premises) (k : ℕ) (d : Situation) (h' : Premises) : Type 0 where
+  pub there : k < length h.made
+  pub unmade : slice_index_or h.made k true ≡ false
+  pub desk : d ≡ fresh h.home h.size (length h.made) h.kind h.left k
+  pub after : h' ≡ with_made h k
+
+-- why there is no desk of this number: whether it was made is told only of a seat that there is
+abbrev pub IsNoDesk : Premises → ℕ → NoDesk → Type 0
+IsNoDesk h k NoSeat = length h.made ≤ k
+IsNoDesk h k MadeBefore = (k < length h.made) × (slice_index_or h.made k false ≡ true)
+IsNoDesk h k NoRoom = (k < length h.made) × (slice_index_or h.made k true ≡ false)
 
 -- which number is out of range, the first one; or none is
 abbrev pub IsOpenFault : ℕ → ℕ → ℕ → OpenFault → Type 0

@@ -1,5 +1,5 @@
 -- What a desk sees of a lock and of its own sign from outside the guards, also while a call is on its way.
-use Rattle.std.specs.Prelude.{ℕ, ◌≡◌, ◌≢◌, ◌<◌, ◌≤◌, ◌==◌, ◌⊎◌, [], nat_lt, if◌then◌else◌, Bool, true, false, Option, Some, None, Result, Ok, Err}
+use Rattle.std.specs.Prelude.{ℕ, ◌≡◌, ◌≢◌, ◌<◌, ◌≤◌, ◌==◌, ◌⊎◌, [], nat_lt, if◌then◌else◌, Bool, true, false, Some, None, Result, Ok, Err}
 use Rattle.ww_word.specs.declared.owner.Owner.{Owner}
 use Rattle.ww_word.specs.AnySeats.{IsValid, packed}
 use Rattle.ww_view.specs.Made.{has_read, found_none}

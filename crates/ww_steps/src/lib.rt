@@ -17,6 +17,6 @@ mod taking;
 mod turn;
 
 pub use desk::Desk;
-pub use opening::{MAX_CONTEXTS, MAX_LOCKS, OpenFault, open};
+pub use opening::{MAX_CONTEXTS, MAX_LOCKS, NoDesk, Office, OpenFault};
 pub use outlook::{Age, NoOutlook, Outlook};
 pub use turn::{Answer, Turn};

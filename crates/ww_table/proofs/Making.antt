@@ -23,42 +23,67 @@ use Rattle.ww_invariant.specs.Steps.{sight_of, first_seat, rest_of, without_firs
 use Rattle.ww_table.specs.Seat.{IsNew}
 use Rattle.ww_invariant.specs.Out.{numbers_of}
 use Rattle.ww_invariant.specs.Homes.{AreSlots}
-use Rattle.ww_table.specs.Made.{AreNew, HasDoneNothing, MayCut, less}
+use Rattle.ww_table.specs.declared.make.Ticket.{Ticket}
+use Rattle.ww_table.specs.Made.{AreNew, AreTickets, HasDoneNothing, IsTicket, less}
 use Rattle.ww_table.specs.Closed.{HasCome, HaveAllCome}
 use Rattle.ww_queue.specs.Queue.{Has}
 use Rattle.ww_model.specs.State.{start}
 use Rattle.ww_view.specs.View.{IsBare}
 use Rattle.ww_invariant.proofs.Seats.{opens, opens_start, splits, at_end, bare_first}
 
-pub new_seat : {table : TableId} {key : Start} {kind : Kind} {locks places seats : ℕ} {first token : Seat Cell Sight} (k : ℕ) (s : Stepper)
-    → MayCut table key kind locks places seats first → HasDoneNothing token kind k locks places s → token.table_id ≡ table
-    → token.me ≡ (sight_of (length (first_graph key)) (first_part key.kind key.locks key.places k), []) → k < places → IsNew table key k s
-new_seat {table} k s cut is home here few = let me = ap (λ (t : Seat Cell Sight). t.me) is.seat_is ∙ here in record {
-  seated = record {
-    home = ap (λ (t : Seat Cell Sight). t.table_id) is.seat_is ∙ home;
-    seated = ap (λ (m : Sat). m.0.seated) me;
-    kind = is.kind_is ∙ cut.kind_is ∙ sym (ap (λ (m : Sat). m.0.part.core.kind) me);
-    who = ap (λ (m : Sat). m.0.part.core.who) me ∙ sym is.who_is;
-    few = subst (λ (x : ℕ × ℕ). x.0 < x.1) (λ i. (sym is.who_is i, sym is.seats i)) few;
-    room = ap (λ (m : Sat). m.0.part.core.room) me ∙ sym (is.room ∙ cut.sizes.0);
-    seats = ap (λ (m : Sat). m.0.part.core.seats) me ∙ sym (is.seats ∙ cut.sizes.1);
-    size = subst IsSize (sym is.seats) cut.sizes.2;
-    most = is.most;
-    sign = is.sign;
-    sized = subst (λ (x : ℕ × ℕ). IsSized x.0 x.1 table) (λ i. (sym (is.room ∙ cut.sizes.0) i, sym (is.seats ∙ cut.sizes.1) i)) cut.sized;
-    stamp = ap (λ (m : Sat). m.0.part.core.stamp) me ∙ sym is.stamp;
-    fits = inr (⊎_elim (λ size. omega (arith, is.who_is, few, size)) (λ size. omega (arith, is.who_is, few, size.1)) cut.sizes.2, omega (arith, is.stamp));
-    base = is.base;
-    step = is.step;
-    own = is.own;
-    order = is.order ∙ sym (ap (λ (m : Sat). numbers_of m.1) me);
-    records = is.records ∙ sym (ap (λ (m : Sat). m.0.part.own) me);
-    alone = ap (λ (m : Sat). m.0.idle) me;
-    places = subst (AllByRecursion (λ (p : ℕ × Record). p.0 < 2 ^ 44)) (sym is.records) tt;
-    page = λ _. is.page;
-  };
-  number = is.who_is;
-  me = me;
+pub new_seat : {table : TableId} {key : Start} {kind : Kind} {locks places : ℕ} (t : Ticket) (s : Stepper)
+    → IsTicket table key t → kind ≡ key.kind → locks ≡ key.locks → places ≡ key.places
+    → HasDoneNothing t.seat kind t.who locks places s → IsNew table key t.who s
+new_seat {table} t s ticket same locks_are places_are is = let me = ap (λ (q : Seat Cell Sight). q.me) is.seat_is ∙ ticket.me in
+    let there = ticket.there in record {
+      seated = record {
+        home = ap (λ (q : Seat Cell Sight). q.table_id) is.seat_is ∙ ticket.home;
+        seated = ap (λ (m : Sat). m.0.seated) me;
+        kind = is.kind_is ∙ same ∙ sym (ap (λ (m : Sat). m.0.part.core.kind) me);
+        who = ap (λ (m : Sat). m.0.part.core.who) me ∙ sym is.who_is;
+        few = subst (λ (x : ℕ × ℕ). x.0 < x.1) (λ i. (sym is.who_is i, sym (is.seats ∙ places_are) i)) there;
+        room = ap (λ (m : Sat). m.0.part.core.room) me ∙ sym (is.room ∙ locks_are);
+        seats = ap (λ (m : Sat). m.0.part.core.seats) me ∙ sym (is.seats ∙ places_are);
+        size = subst IsSize (sym (is.seats ∙ places_are)) ticket.size;
+        most = is.most;
+        sign = is.sign;
+        sized = subst (λ (x : ℕ × ℕ). IsSized x.0 x.1 table) (λ i. (sym (is.room ∙ locks_are) i, sym (is.seats ∙ places_are) i)) ticket.sized;
+        stamp = ap (λ (m : Sat). m.0.part.core.stamp) me ∙ sym is.stamp;
+        fits = inr (⊎_elim (λ size. omega (arith, is.who_is, there, size)) (λ size. omega (arith, is.who_is, there, size.1)) ticket.size, omega (arith, is.stamp));
+        base = is.base;
+        step = is.step;
+        own = is.own;
+        order = is.order ∙ sym (ap (λ (m : Sat). numbers_of m.1) me);
+        records = is.records ∙ sym (ap (λ (m : Sat). m.0.part.own) me);
+        alone = ap (λ (m : Sat). m.0.idle) me;
+        places = subst (AllByRecursion (λ (p : ℕ × Record). p.0 < 2 ^ 44)) (sym is.records) tt;
+        page = λ _. is.page;
+      };
+      number = is.who_is;
+      me = me;
+    }
+
+elem_mid : {A : Type 0} (xs ys : List A) (y : A) → get_elem? (xs ++ y ∷ ys) (length xs) ≡ some y
+elem_mid [] ys y = refl
+elem_mid (x ∷ xs) ys y = elem_mid xs ys y
+
+-- the next of the tickets has the number of those before it
+pub next_is : {table : TableId} {key : Start} {count : ℕ} {tickets : List Ticket} (yielded rest more : List Ticket) (t : Ticket)
+    → AreTickets table key count tickets → yielded ++ rest ≡ tickets → rest ≡ t ∷ more
+    → IsTicket table key t × (t.who ≡ length yielded) × (yielded ++ t ∷ more ≡ tickets)
+next_is yielded rest more t are whole step =
+    let here = ap (λ (l : List Ticket). yielded ++ l) (sym step) ∙ whole in
+    let is = are.each (length yielded) t
+    (subst (λ (l : List Ticket). get_elem? l (length yielded) ≡ some t) here (elem_mid yielded more t)) in (is.0, is.1, here)
+
+pub tickets_more : (table : TableId) (key : Start) (n : ℕ) (tickets : List Ticket) (t : Ticket)
+    → AreTickets table key n tickets → IsTicket table key t → t.who ≡ n → AreTickets table key (n + 1) (tickets ++ t ∷ [])
+tickets_more table key n tickets t are new number = record {
+  many = let l = length-append tickets (t ∷ []) in let m = are.many in omega arith;
+  each = λ k q there. ⊎_elim (λ was. are.each k q was)
+      (λ now. subst (λ (x : ℕ × Ticket). IsTicket table key x.1 × (x.1.who ≡ x.0))
+      (λ i. (sym (now.0 ∙ are.many) i, now.1 i)) (new, number))
+      (at_end tickets t q k there);
 }
 
 pub news_more : (table : TableId) (key : Start) (n : ℕ) (seats : List Stepper) (s : Stepper)

@@ -16,4 +16,5 @@ mod waiting;
 
 pub use board::Board;
 pub use close::Rooms;
+pub use make::Ticket;
 pub use seat::{Found, Giving, Seat16, Stepper, Taking, Tried};

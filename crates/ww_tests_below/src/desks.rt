@@ -4,16 +4,26 @@ use std::process::Abort;
 use std::test::Fail;
 use ww_queue::Kind;
 use ww_seat::Waits::{ToTheEnd, UntilCancelled};
-use ww_steps::{Age, Answer, Desk, NoOutlook, Outlook, open};
+use ww_steps::{Age, Answer, Desk, NoOutlook, Office, Outlook};
 
-/// Two desks of a world of two locks, each of which may begin two contexts.
+/// An office of so many locks and seats, each of which may begin two contexts.
+fn opened(alloc: Global, kind: Kind, locks: u32, seats: u16) -> Result<Office, AllocError> {
+    match Office::open(alloc, kind, locks, seats, 2) {
+        Ok(office) => Ok(office),
+        Err(_) => Err(AllocError),
+    }
+}
+
+/// Two desks of a world of two locks.
 fn two(alloc: Global, kind: Kind) -> Result<(Desk, Desk), AllocError> {
-    let Ok(mut desks) = open(alloc, kind, 2, 2, 2) else {
+    let mut office = opened(alloc, kind, 2, 2)?;
+    let Ok(one) = office.desk(alloc, 1) else {
         return Err(AllocError);
     };
-    let one = desks.pop().ok_or(AllocError)?;
-    let zero = desks.pop().ok_or(AllocError)?;
-    Ok((zero, one))
+    let Ok(zero) = office.desk(alloc, 0) else {
+        return Err(AllocError);
+    };
+    Ok((Box::into_inner(zero), Box::into_inner(one)))
 }
 
 /// The steps of a call until it ends, or sleeps, or has made many.
@@ -161,9 +171,14 @@ fn a_desk_sees_whose_a_lock_is(rt: HostRuntime) -> Result<(), Fail> {
     Ok(())
 }
 
+/// Each desk of a world is made, the last one first.
 #[test]
 fn a_world_has_its_size(rt: HostRuntime) -> Result<(), Fail> {
     let alloc = rt.alloc();
-    assert!(rt; matches!(open(alloc, Kind::WaitDie, 65, 16, 1), Ok(desks) if desks.len() == 16));
+    let mut office = opened(alloc, Kind::WaitDie, 65, 16)?;
+    for left in 0..16u16 {
+        let number = 15 - left;
+        assert!(rt; matches!(office.desk(alloc, number), Ok(desk) if desk.number() == number));
+    }
     Ok(())
 }

@@ -42,6 +42,8 @@ pub(super) struct Rare {
     pub(super) is_over: bool,
     /// What comes first from then on: the mutex at which that was; or, where it was a shared one, who the library knows.
     pub(super) contended: Option<Asked>,
+    /// Until then no other mutex gets its number.
+    pub(super) keeps: Option<ffi::Contended>,
     /// It came first, and nobody has asked for it yet.
     pub(super) prelocked: Option<Number>,
     pub(super) call: Call,
@@ -58,12 +60,6 @@ impl Rare {
     /// Hands out what the context has from its back-off, if that is it.
     fn takes_first(&mut self, number: Number) -> bool {
         self.prelocked.take_if(|first| *first == number).is_some()
-    }
-
-    /// From now on this comes first.
-    fn comes_first(&mut self, contended: Asked) {
-        self.is_over = true;
-        self.contended = Some(contended);
     }
 }
 
@@ -234,13 +230,22 @@ impl Inside {
         self.rare.as_ref().is_some_and(|rare| rare.is_over)
     }
 
+    /// The last call got `Deadlock`: from now on this comes first.
+    fn comes_first(&mut self, contended: Asked) {
+        // SAFETY: the last call of the context returned that; classes are static, and never freed.
+        let keeps = unsafe { ffi::Contended::of(self.raw()) };
+        let rare = self.rare();
+        rare.is_over = true;
+        (rare.contended, rare.keeps) = (Some(contended), Some(keeps));
+    }
+
     /// What an answer of the library comes to.
     pub(super) fn told(&mut self, asked: Asked, answer: c_int) -> Result<(), Error> {
         match -answer {
             0 => Ok(()),
             ffi::EALREADY => Err(Error::Duplicate),
             ffi::EDEADLK => {
-                self.rare().comes_first(if matches!(asked, Asked::Lock(_)) { asked } else { Asked::Await });
+                self.comes_first(if matches!(asked, Asked::Lock(_)) { asked } else { Asked::Await });
                 Err(Error::Deadlock)
             }
             _ => Err(error::of_making(answer)),
@@ -262,7 +267,7 @@ impl Inside {
         let back = lent.and_then(|lent| self.take_back(lent));
         // SAFETY: the context has begun.
         if unsafe { ffi::ww_acquire_end_wait(self.raw()) } == -ffi::EDEADLK {
-            self.rare().comes_first(Asked::Await);
+            self.comes_first(Asked::Await);
         }
         back
     }
@@ -309,15 +314,7 @@ impl Inside {
             }
         }
         // SAFETY: the number is one of the context's class, and no call is on its way.
-        let answer = unsafe { asked.poll_once(class, self.raw()) };
-        let first = self.rare.as_mut().filter(|_| answer == -ffi::EALREADY).and_then(|rare| rare.prelocked.take());
-        // As for threads: its number may be that of a shared mutex by now, or of what the library reads by.
-        let Some(first) = first else { return answer };
-        // SAFETY: the context holds it, without a guard; and as above.
-        unsafe {
-            ffi::unlock(first.index(), self.raw());
-            asked.poll_once(class, self.raw())
-        }
+        unsafe { asked.poll_once(class, self.raw()) }
     }
 
     /// The lock call goes on, whose future this is, or begins.
@@ -342,17 +339,8 @@ impl Inside {
         }
         // If the clone panics, the call is as it was, but for its waker.
         let lent = lent.unwrap_or_else(|| Lent::lend(waker.clone()));
-        let answer = later.wakers.collect(|| {
-            // SAFETY: the context has begun; what is on its way is this call, or nothing.
-            let answer = unsafe { asked.poll(class, self.raw(), &raw const lent.0) };
-            let is_shared = !matches!(asked, Asked::Lock(_));
-            let first = self.rare().prelocked.take_if(|_| is_shared && answer == -ffi::EALREADY);
-            // SAFETY: as in `poll_once`; the call has ended.
-            first.map_or(answer, |first| unsafe {
-                ffi::unlock(first.index(), self.raw());
-                asked.poll(class, self.raw(), &raw const lent.0)
-            })
-        });
+        // SAFETY: the context has begun; what is on its way is this call, or nothing.
+        let answer = later.wakers.collect(|| unsafe { asked.poll(class, self.raw(), &raw const lent.0) });
         if answer == -ffi::EINPROGRESS {
             self.rare().call = Call::Waits(Some(lent));
             return Poll::Pending;

@@ -1,7 +1,9 @@
-use Rattle.std.proofs.Common.{arith, ℕ, ◌≡◌, ◌<◌, ◌+◌, ◌-◌, [], ap, subst, sym, ◌∙◌}
-use Rattle.ww_invariant.specs.Rule.{Sat}
-use Rattle.ww_table.specs.Made.{AreNew, HasDoneNothing}
-use Rattle.ww_table.proofs.Making.{new_seat, news_more, next_splits, next_left, next_cut, last_left}
+use Rattle.std.proofs.Common.{arith, ℕ, ◌≡◌, ◌<◌, ◌+◌, ◌-◌, length, [], ap, subst, sym, ◌∙◌, refl}
+use Rattle.ww_invariant.specs.Rule.{Sat, first_graph, first_part}
+use Rattle.ww_invariant.specs.Steps.{sight_of}
+use Rattle.ww_table.specs.declared.make.Ticket.{Ticket}
+use Rattle.ww_table.specs.Made.{AreTickets}
+use Rattle.ww_table.proofs.Making.{tickets_more, next_splits, next_left, next_cut, last_left}
 use Rattle.ww_table.proofs.make.cut.Goals as goal
 
 pub split_seat-seat-requires : goal.split_seat-seat-requires
@@ -11,12 +13,18 @@ split_seat-seat-requires c = let i = c.loop-who.invariant in let e = c.requires.
 pub loop-who-preserved : goal.loop-who-preserved
 loop-who-preserved c = let i = c.loop-who.invariant in let may = c.requires.may in let e = may.seats_are in let t = c.loop-who-test.true in
     let is = ap (λ (m : Sat). m.0) i.1 in let key = c.args.shared.now.key in
-    let more : c.loop-who.who < key.seats - 1 = omega arith in let s = c.split_seat-seat.ensures in let p = c.push_reserved.ensures in (
+    let more : c.loop-who.who < key.seats - 1 = omega arith in let s = c.split_seat-seat.ensures in let p = c.push_reserved.ensures in
+    let ticket : Ticket = record { seat = c.split_seat-seat.result; who = c.loop-who.who } in (
       s.0 ∙ i.0,
       s.2 ∙ (λ j. (next_left key c.loop-who.who _ is more j, ap (λ (m : Sat). m.1) i.1 j)),
-      subst (AreNew c.args.shared.now.table_id key _) (sym p.items) (news_more _ key c.loop-who.who _ c.seated.result i.2
-          (new_seat c.loop-who.who c.seated.result may c.seated.ensures (s.3 ∙ i.0)
-          (s.4 ∙ (λ j. (next_cut key c.loop-who.who _ is more j, []))) (let few = may.sizes.3 in omega arith))),
+      subst (AreTickets c.args.shared.now.table_id key _) (sym p.items) (tickets_more _ key c.loop-who.who _ ticket i.2
+          (record {
+            there = let few = may.few in omega arith;
+            size = may.size;
+            sized = may.sized;
+            home = s.3 ∙ i.0;
+            me = s.4 ∙ (λ j. (next_cut key c.loop-who.who _ is more j, []));
+          }) refl),
       (let l = p.len in let m = i.3 in omega arith),
       (let l = p.capacity in let m = i.4 in omega arith),
     )
@@ -26,10 +34,16 @@ returns c = let i = c.loop-who.invariant in let may = c.requires.may in let e = 
     let a = c.loop-who.auto.who-end in let key = c.args.shared.now.key in
     let ended : c.loop-who.who ≡ key.seats - 1 = omega arith in
     let all : c.loop-who.who + 1 ≡ c.args.seats = omega arith in let p = c.push_reserved-2.ensures in
-    let fresh = subst (λ (k : ℕ). HasDoneNothing c.loop-who.first c.args.kind k c.args.sizes.0 c.args.sizes.1 c.seated-2.result)
-    (let z : c.args.seats - 1 ≡ c.loop-who.who = omega arith in z) c.seated-2.ensures in
-    subst (λ n. AreNew c.args.shared.now.table_id key n c.push_reserved-2.new.self.items) all
-    (subst (AreNew c.args.shared.now.table_id key _) (sym p.items)
-    (news_more _ key c.loop-who.who _ c.seated-2.result i.2
-    (new_seat c.loop-who.who c.seated-2.result may fresh i.0
-    (i.1 ∙ (λ j. (last_left key c.loop-who.who ended j, []))) (let few = may.sizes.3 in omega arith))))
+    let last : c.loop-who.who ≡ c.args.seats - 1 = omega arith in
+    let ticket : Ticket = record { seat = c.loop-who.first; who = c.args.seats - 1 } in
+    subst (λ n. AreTickets c.args.shared.now.table_id key n c.push_reserved-2.new.self.items) all
+    (subst (AreTickets c.args.shared.now.table_id key _) (sym p.items)
+    (tickets_more _ key c.loop-who.who _ ticket i.2
+    (record {
+      there = let few = may.few in omega arith;
+      size = may.size;
+      sized = may.sized;
+      home = i.0;
+      me = subst (λ (k : ℕ). c.loop-who.first.me ≡ (sight_of (length (first_graph key)) (first_part key.kind key.locks key.places k), []))
+          last (i.1 ∙ (λ j. (last_left key c.loop-who.who ended j, [])));
+    }) (sym last)))

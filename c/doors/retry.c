@@ -1,0 +1,202 @@
+/*
+ * retry.c - contexts that are suspended. A suspended context hasn't ended: its seat stays BUSY, with the context's age, and no
+ * thread uses the seat. A value has the number of the seat, the number, plus 1, of the mutex at which the context got -EDEADLK
+ * (`awaits_`), and names the context by the seat's `ticket`, a number that no other value has, of any class:
+ *
+ *	ticket		its next state, and which step makes it
+ *	0		T: the seat's user suspends the context, by a store, and nobody uses the seat any more
+ *	T		0: a thread that has the value takes the ticket, to resume or to drop the context, by an exchange that finds T; that
+ *			thread uses the seat from then on
+ *
+ * So of the copies of a value at most one finds its ticket. The store of T releases what the former user wrote in the seat.
+ */
+#define _GNU_SOURCE
+#define WW_NO_INLINE /* ww_mutex.h compiles none of its calls into this file */
+#include "../lock/loop.h"
+#include "../lock/mutex.h"
+#include "ww_retry.h"
+
+/* ---- tickets ---- */
+
+static uint64_t last_ticket;
+
+/* A number that no other value has. Copies of the library count from different numbers. */
+static uint64_t new_ticket(void) { return ww_this_copy + __atomic_add_fetch(&last_ticket, 1, __ATOMIC_RELAXED); }
+
+/* The seat of the class whose context the value names, which the caller uses from now on; or NULL. */
+static ww_seat *take_ticket(struct ww_pool *p, const struct ww_retry *retry)
+{
+	ww_seat *s = retry->ticket_ && retry->seat_ < seats_of(p) ? &p->seats[retry->seat_] : NULL;
+	uint64_t ticket = retry->ticket_;
+
+	return s && is_suspended(s) && __atomic_compare_exchange_n(&s->ticket, &ticket, 0, false, __ATOMIC_ACQ_REL, __ATOMIC_RELAXED) ? s : NULL;
+}
+
+/* ---- how many are suspended ---- */
+
+/*
+ * Counts one more suspended context, which has this seat; false if as many are suspended as may be. A suspended context of a task
+ * doesn't count among those that may run at a time.
+ */
+static bool count_in(const ww_seat *s)
+{
+	struct ww_pool *p = s->pool;
+
+	if (__atomic_fetch_add(&p->suspended, 1, __ATOMIC_RELAXED) >= seats_of(p) / 2) {
+		__atomic_fetch_sub(&p->suspended, 1, __ATOMIC_RELAXED);
+		return false;
+	}
+	if (s->of == &p->tasks)
+		ww_note_suspended(s->of, 1);
+	return true;
+}
+
+static void count_out(const ww_seat *s)
+{
+	__atomic_fetch_sub(&s->pool->suspended, 1, __ATOMIC_RELAXED);
+	if (s->of == &s->pool->tasks)
+		ww_note_suspended(s->of, UINT32_MAX);
+}
+
+/* ---- suspending and dropping ---- */
+
+/* Suspends the context into the value. Once the ticket is stored, another thread may resume the context. */
+static void leave(struct ww_acquire_ctx *x, struct ww_retry *retry, uint32_t awaits)
+{
+	ww_seat *s = x->own;
+
+	NOTE(CONTEXT_SUSPENDED, .context = x);
+	note_meeting(s); /* no later context of the seat shares this age */
+	*retry = (struct ww_retry){ .ticket_ = new_ticket(), .seat_ = place_among(s) - 1, .awaits_ = awaits };
+	no_more(x);
+	__atomic_store_n(&s->ticket, retry->ticket_, __ATOMIC_RELEASE);
+}
+
+/*
+ * Ends the suspended context that the value names. No class is freed while the list of classes is locked; after that the context's
+ * seat is in use, so its class isn't freed either.
+ */
+static int drop(struct ww_retry *retry)
+{
+	struct ww_acquire_ctx x = { 0 };
+	ww_seat *s = NULL;
+
+	if (!retry->ticket_)
+		return 0;
+	pthread_mutex_lock(&ww_opening);
+	for (struct ww_open *open = ww_all_open; open && !s; open = open->next)
+		s = take_ticket((struct ww_pool *)open, retry);
+	pthread_mutex_unlock(&ww_opening);
+	if (!s)
+		return -EINVAL;
+	*retry = (struct ww_retry){ 0 };
+	of_seat(&x, s->pool, s);
+	NOTE(CONTEXT_RESUMED, .context = &x);
+	NOTE(CONTEXT_ENDS, .context = &x);
+	count_out(s);
+	leave_age(s);
+	give_seat(s);
+	return 0;
+}
+
+static const char used_before[] = "the value is of another class, or it was resumed or dropped before, or a copy of it";
+
+int ww_retry_drop(struct ww_retry *retry)
+{
+	int r = drop(retry);
+
+	if (r)
+		NOTE_MISUSE(NULL, "ww_retry_drop", used_before);
+	return r;
+}
+
+int ww_acquire_suspend(struct ww_acquire_ctx *x, struct ww_retry *retry)
+{
+	ww_seat *s = ww_debug_has_ended(x) ? NULL : x->own;
+	const char *why = !s ? "the context has ended" : is_polled(x) ? WAITS_BY_POLL :
+		x->acquired ? "the context still holds a mutex" : NULL;
+
+	if (why) {
+		NOTE_MISUSE(s ? s->pool->class_ : NULL, "ww_acquire_suspend", why);
+		return s && is_polled(x) ? -EBUSY : -EINVAL;
+	}
+	if (!count_in(s))
+		return -EAGAIN;
+	draw_age_by_hand(x);
+	s->puts = x->puts;
+	(void)drop(retry);
+	leave(x, retry, x->state & IS_TOLD ? s->told + 1 : 0);
+	return 0;
+}
+
+/* ---- resuming ---- */
+
+/*
+ * The mutex at which the context got -EDEADLK, found by its number alone, which counts the caller as a waiter from now on; NULL if
+ * the mutex is gone. A thread that destroys the mutex holds the same lock (ww_end_mutex). The memory of a mutex by number stays.
+ */
+static struct ww_mutex *count_at_contended(const ww_seat *s, uint32_t number)
+{
+	struct ww_numbers *n = &s->pool->numbers;
+	struct ww_mutex *m;
+
+	pthread_mutex_lock(&n->lock);
+	m = puts_of(n, number) == s->puts ? mutex_with(n, number) : NULL;
+	if (m)
+		__atomic_fetch_add(&m->waiters, 1, __ATOMIC_SEQ_CST);
+	pthread_mutex_unlock(&n->lock);
+	if (m && ww_is_gone(s->pool, m, s->puts)) {
+		__atomic_fetch_sub(&m->waiters, 1, __ATOMIC_SEQ_CST);
+		m = NULL;
+	}
+	return m;
+}
+
+/*
+ * Waits until the contended mutex is free, and releases it at once. There is nothing to wait for if the mutex is gone, or if the
+ * proved library refuses the wait (-EINVAL), since the context has already waited for the mutex.
+ */
+static int await_told(struct ww_acquire_ctx *x, uint32_t number, const struct timespec *until)
+{
+	const struct ww_how how = { .visits = true, .is_interruptible = true, .until = until };
+	struct ww_mutex *m = count_at_contended(x->own, number);
+	int r = m ? ww_lock_slow_(&x->own->handle, number, false) : -EINVAL;
+
+	if (r != -EINVAL) {
+		r = ww_lock_on(m, x, x->own, r, &how);
+		if (!r)
+			(void)unlock_by(m, x->own);
+	} else {
+		r = 0;
+	}
+	if (m)
+		__atomic_fetch_sub(&m->waiters, 1, __ATOMIC_SEQ_CST);
+	return r;
+}
+
+int ww_acquire_resume(struct ww_acquire_ctx *x, struct ww_class *c, struct ww_retry *retry, const struct timespec *until)
+{
+	struct ww_pool *p = __atomic_load_n(&c->pool, __ATOMIC_ACQUIRE);
+	uint32_t awaits = retry->awaits_;
+	ww_seat *s;
+	int r;
+
+	if (!retry->ticket_)
+		return ww_acquire_init_until(x, c, until);
+	of_this_copy_alone(p);
+	s = is_time(until) && p && !p->gone ? take_ticket(p, retry) : NULL;
+	if (!s) {
+		NOTE_MISUSE(c, "ww_acquire_resume", is_time(until) ? used_before : "the time is none");
+		return ww_begin_by(x, NULL, -EINVAL);
+	}
+	of_seat(x, p, s);
+	NOTE(CONTEXT_RESUMED, .context = x);
+	r = awaits ? await_told(x, awaits - 1, until) : 0;
+	if (r) {
+		leave(x, retry, awaits);
+		return r;
+	}
+	count_out(s);
+	*retry = (struct ww_retry){ 0 };
+	return 0;
+}

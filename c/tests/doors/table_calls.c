@@ -1,0 +1,396 @@
+/*
+ * What each call of ww_table.h returns, in one thread; each memory that it asks for is refused in turn.
+ *
+ * By Wait-Die, where a younger context that would wait for an older one is told so at once.
+ */
+#include "../mutex_test.h"
+#include "ww_retry.h"
+#include "ww_table.h"
+#include <sys/mman.h>
+
+static DEFINE_WD_CLASS(rows);
+static DEFINE_WW_CLASS(others);
+static DEFINE_WD_CLASS(ending);
+static struct ww_class four = { .name = "four", .mutexes = 4, .contexts = 4 };
+static struct ww_table *t;
+static struct ww_acquire_ctx a, b;
+
+/* So many allocations succeed from now on; -1: all do. And so many weren't freed yet. */
+static long refuses = -1, allocated;
+static bool is_refused(void)
+{
+	bool is = refuses == 0 || (refuses > 0 && refuses-- == 0);
+
+	allocated += !is;
+	return is;
+}
+void __real_free(void *at);
+void __wrap_free(void *at)
+{
+	allocated -= at != NULL;
+	__real_free(at);
+}
+void *__real_malloc(size_t size);
+void *__real_calloc(size_t count, size_t size);
+void *__wrap_malloc(size_t size) { return is_refused() ? NULL : __real_malloc(size); }
+void *__wrap_calloc(size_t count, size_t size) { return is_refused() ? NULL : __real_calloc(count, size); }
+void *__real_mmap(void *at, size_t size, int may, int how, int file, off_t from);
+void *__wrap_mmap(void *at, size_t size, int may, int how, int file, off_t from)
+{
+	return is_refused() ? MAP_FAILED : __real_mmap(at, size, may, how, file, from);
+}
+int __real_munmap(void *at, size_t size);
+int __wrap_munmap(void *at, size_t size)
+{
+	allocated--;
+	return __real_munmap(at, size);
+}
+
+static const struct timespec past;
+static const struct ww_table_how try_it = { .by = WW_TABLE_TRIES }, until_past = { .until = &past };
+
+static int lock(struct ww_acquire_ctx *x, const char *key, enum ww_table_mode mode, const struct ww_table_how *how)
+{
+	return ww_table_lock(t, x, key, strlen(key), mode, how);
+}
+static int unlock(struct ww_acquire_ctx *x, const char *key) { return ww_table_unlock(t, x, key, strlen(key)); }
+static int reads(struct ww_acquire_ctx *x, const char *key) { return lock(x, key, WW_TABLE_SHARED, &try_it); }
+static int writes(struct ww_acquire_ctx *x, const char *key) { return lock(x, key, WW_TABLE_EXCLUSIVE, &try_it); }
+
+static void begins(void)
+{
+	ww_acquire_init(&a, &rows);
+	ww_acquire_init(&b, &rows);
+}
+
+static void ends(void)
+{
+	ww_table_unlock_to(t, &a, 0);
+	ww_table_unlock_to(t, &b, 0);
+	ww_acquire_fini(&a);
+	ww_acquire_fini(&b);
+}
+
+/* Each row: what a has, in which mode b asks, what it gets, and whether a may raise its own. */
+static void modes(void)
+{
+	static const struct { enum ww_table_mode has, asks; int gets, raises; } table[] = {
+		{ WW_TABLE_SHARED, WW_TABLE_SHARED, 0, -EBUSY },
+		{ WW_TABLE_SHARED, WW_TABLE_EXCLUSIVE, -EBUSY, 0 },
+		{ WW_TABLE_EXCLUSIVE, WW_TABLE_SHARED, -EBUSY, -EALREADY },
+		{ WW_TABLE_EXCLUSIVE, WW_TABLE_EXCLUSIVE, -EBUSY, -EALREADY },
+	};
+
+	for (size_t k = 0; k < sizeof table / sizeof *table; k++) {
+		begins();
+		MUST(!lock(&a, "k", table[k].has, NULL) && lock(&a, "k", table[k].has, NULL) == -EALREADY);
+		MUST(lock(&b, "k", table[k].asks, &try_it) == table[k].gets);
+		MUST(table[k].gets == 0 || lock(&b, "k", table[k].asks, &until_past) == -ETIMEDOUT);
+		MUST(writes(&a, "k") == table[k].raises);
+		MUST(!writes(&b, "another") && !writes(&b, "") && unlock(&b, "none") == -EINVAL);
+		ends();
+	}
+}
+
+/* An unlock ends both. */
+static void raised(void)
+{
+	begins();
+	MUST(!reads(&a, "k") && !writes(&a, "k") && reads(&b, "k") == -EBUSY && writes(&a, "k") == -EALREADY && reads(&a, "k") == -EALREADY);
+	MUST(!unlock(&a, "k") && unlock(&a, "k") == -EINVAL && !writes(&b, "k") && ww_table_mark(t, &a) == 0);
+	ends();
+}
+
+/* What was shared and is no more, another context may have, whatever else is still shared. */
+static void shared_no_more(void)
+{
+	begins();
+	MUST(!reads(&a, "1") && !reads(&a, "2") && !reads(&a, "3") && !unlock(&a, "2") && !writes(&b, "2") && writes(&b, "3") == -EBUSY);
+	ww_table_unlock_to(t, &a, 1);
+	MUST(!writes(&b, "3") && writes(&b, "1") == -EBUSY);
+	ends();
+}
+
+static void marks(void)
+{
+	begins();
+	MUST(!writes(&a, "1") && !reads(&a, "2") && ww_table_mark(t, &a) == 2 && !writes(&a, "3") && !writes(&a, "2"));
+	ww_table_unlock_to(t, &a, 1);
+	MUST(ww_table_mark(t, &a) == 1 && !writes(&b, "2") && !writes(&b, "3") && writes(&b, "1") == -EBUSY);
+	ww_table_unlock_to(t, &a, 1);
+	MUST(ww_table_close(t) == -EBUSY);
+	ends();
+	MUST(ww_table_mark(t, &a) == 0);
+}
+
+static void refused_arguments(void)
+{
+	struct ww_acquire_ctx x;
+
+	begins();
+	ends();
+	MUST(writes(&a, "k") == -EINVAL && unlock(&a, "k") == -EINVAL);
+	ww_acquire_init(&x, &others);
+	MUST(writes(&x, "k") == -EINVAL && ww_table_mark(t, &x) == 0);
+	ww_acquire_fini(&x);
+	ww_acquire_init(&x, &rows);
+	ww_until_all_locked(&x)
+		MUST(writes(&x, "k") == -EINVAL);
+	ww_acquire_fini(&x);
+}
+
+/* A younger context would wait for an older one; with nothing held it waits. */
+static void told(void)
+{
+	begins();
+	MUST(!writes(&a, "1") && !writes(&b, "2") && lock(&b, "1", WW_TABLE_SHARED, NULL) == -EDEADLK);
+	MUST(lock(&b, "3", WW_TABLE_SHARED, NULL) == -EDEADLK && writes(&b, "3") == -EDEADLK && ww_table_mark(t, &b) == 1);
+	ww_table_unlock_to(t, &b, 0);
+	MUST(lock(&b, "1", WW_TABLE_SHARED, &until_past) == -ETIMEDOUT && !lock(&b, "3", WW_TABLE_EXCLUSIVE, &until_past));
+	MUST(lock(&b, "1", WW_TABLE_SHARED, NULL) == -EDEADLK && !unlock(&b, "3"));
+	MUST(!writes(&b, "5") && !lock(&b, "6", WW_TABLE_EXCLUSIVE, &until_past)); /* a try waits for nothing first, and then any may come */
+	ww_table_unlock_to(t, &b, 0);
+	MUST(!writes(&b, "3") && lock(&b, "1", WW_TABLE_SHARED, NULL) == -EDEADLK && !unlock(&b, "3"));
+	MUST(!lock(&b, "4", WW_TABLE_EXCLUSIVE, &until_past)); /* in vain it waits for the first one, and then may lock any */
+	ends();
+	/* the older one waits */
+	begins();
+	MUST(!writes(&b, "2") && lock(&a, "2", WW_TABLE_SHARED, &until_past) == -ETIMEDOUT && !writes(&a, "1"));
+	ends();
+}
+
+/* ---- who is in the way ---- */
+
+static struct seen {
+	unsigned count, waits;
+	struct ww_table_user last;
+	bool agrees;
+	int r;
+} seen;
+
+static bool meets(void *data, const struct ww_table_user *user)
+{
+	MUST(data == &seen && user->length == 1 && !memcmp(user->key, "k", 1) && !user->waits);
+	seen.count++;
+	seen.last = *user;
+	return seen.agrees;
+}
+
+static int waits(void *data, struct ww_table_how *how)
+{
+	MUST(data == &seen);
+	how->until = &past;
+	return ++seen.waits == 1 ? 0 : seen.r;
+}
+
+static void sees(void *data, const struct ww_table_user *user)
+{
+	seen.count++;
+	seen.waits += user->waits;
+	MUST(!data && user->owner);
+}
+
+/* Holders are shown, and may be disowned; if there is none nobody is asked. */
+static void expires(void)
+{
+	struct ww_table_how one = { .owner = 1 }, two = { .owner = 2, .meets = meets, .waits = waits, .data = &seen };
+
+	begins();
+	MUST(!lock(&a, "k", WW_TABLE_EXCLUSIVE, &one));
+	seen = (struct seen){ .r = -ECANCELED };
+	MUST(lock(&b, "k", WW_TABLE_SHARED, &two) == -ECANCELED && seen.count == 2 && seen.waits == 2 && seen.last.owner == 1 &&
+	     seen.last.mode == WW_TABLE_EXCLUSIVE);
+	seen = (struct seen){ .agrees = true };
+	MUST(!lock(&b, "k", WW_TABLE_SHARED, &two) && seen.count == 1 && seen.waits == 0);
+	seen = (struct seen){ .agrees = true };
+	MUST(!lock(&b, "k", WW_TABLE_EXCLUSIVE, &two) && seen.count == 0);
+	MUST(ww_table_see(t, "k", 1, sees, NULL) == 1 && ww_table_see(t, NULL, 0, sees, NULL) == 1);
+	MUST(lock(&a, "k", WW_TABLE_SHARED, &try_it) == -EBUSY && ww_table_mark(t, &a) == 1 && !unlock(&a, "k"));
+	MUST(unlock(&a, "k") == -EINVAL && ww_table_mark(t, &b) == 1);
+	/* who raises its own doesn't ask others to give theirs up */
+	two.by = WW_TABLE_TRIES;
+	MUST(!unlock(&b, "k") && !lock(&b, "k", WW_TABLE_SHARED, &two) && !lock(&a, "k", WW_TABLE_SHARED, &one));
+	MUST(lock(&b, "k", WW_TABLE_EXCLUSIVE, &two) == -EBUSY);
+	ends();
+}
+
+/* ---- polls ---- */
+
+static void wakes(void *loop, void *task)
+{
+	(void)loop;
+	++*(unsigned *)task;
+}
+
+static void polls(void)
+{
+	unsigned woken = 0;
+	struct ww_waker waker = { wakes, NULL, &woken };
+	const struct ww_table_how nobody = { .by = WW_TABLE_TRIES, .meets = meets, .data = &seen };
+	struct ww_table_how one = { .owner = 1 }, poll = { .owner = 2, .by = WW_TABLE_POLLS, .waker = &waker };
+
+	begins();
+	MUST(!lock(&a, "k", WW_TABLE_EXCLUSIVE, &one) && lock(&b, "k", WW_TABLE_SHARED, &poll) == -EINPROGRESS && !woken);
+	MUST(lock(&b, "k", WW_TABLE_EXCLUSIVE, &poll) == -EBUSY && lock(&b, "other", WW_TABLE_SHARED, &poll) == -EBUSY);
+	MUST(writes(&b, "other") == -EBUSY && unlock(&b, "k") == -EBUSY);
+	seen = (struct seen){ 0 };
+	MUST(ww_table_see(t, "k", 1, sees, NULL) == 2 && seen.count == 2 && seen.waits == 1 && ww_table_close(t) == -EBUSY);
+	/* nobody has it then, but b waits: so nobody is asked, and it isn't taken from anybody */
+	seen = (struct seen){ .agrees = true };
+	MUST(!unlock(&a, "k") && woken == 1 && lock(&a, "k", WW_TABLE_SHARED, &nobody) == -EBUSY && seen.count == 0);
+	MUST(ww_table_close(t) == -EBUSY);
+	MUST(!lock(&b, "k", WW_TABLE_SHARED, &poll) && ww_table_mark(t, &b) == 1);
+	/* it ends without a waker, or otherwise; what was had before still is */
+	MUST(!lock(&a, "k", WW_TABLE_SHARED, &one) && lock(&a, "k", WW_TABLE_EXCLUSIVE, &poll) == -EINPROGRESS);
+	seen = (struct seen){ 0 };
+	MUST(ww_table_see(t, "k", 1, sees, NULL) == 3 && seen.waits == 1);
+	poll.waker = NULL;
+	MUST(lock(&a, "k", WW_TABLE_EXCLUSIVE, &poll) == -ETIMEDOUT && ww_table_see(t, "k", 1, sees, NULL) == 2);
+	poll.waker = &waker;
+	MUST(lock(&a, "k", WW_TABLE_EXCLUSIVE, &poll) == -EINPROGRESS && !ww_acquire_end_wait(&a) && !writes(&a, "other"));
+	MUST(ww_table_mark(t, &a) == 2 && ww_table_see(t, "k", 1, sees, NULL) == 2);
+	/* after -EDEADLK the wait for what was contended is a poll, too; once it is given up, any key may be locked */
+	ww_table_unlock_to(t, &b, 0);
+	MUST(!writes(&b, "1") && lock(&b, "other", WW_TABLE_SHARED, &poll) == -EDEADLK && !unlock(&b, "1"));
+	MUST(lock(&b, "2", WW_TABLE_EXCLUSIVE, &poll) == -EINPROGRESS && lock(&b, "2", WW_TABLE_EXCLUSIVE, NULL) == -EBUSY);
+	woken = 0;
+	MUST(!unlock(&a, "other") && woken == 1 && !lock(&b, "2", WW_TABLE_EXCLUSIVE, &poll));
+	ends();
+}
+
+/* A wait that the program ended, and not the table, leaves nothing once the context releases what it has. */
+static void ended_otherwise(void)
+{
+	unsigned woken = 0;
+	struct ww_waker waker = { wakes, NULL, &woken };
+	const struct ww_table_how one = { .owner = 1 }, poll = { .owner = 2, .by = WW_TABLE_POLLS, .waker = &waker };
+
+	begins();
+	MUST(!lock(&b, "k", WW_TABLE_EXCLUSIVE, &one) && lock(&a, "k", WW_TABLE_EXCLUSIVE, &poll) == -EINPROGRESS);
+	ww_table_unlock_to(t, &a, 0);
+	MUST(ww_table_see(t, "k", 1, sees, NULL) == 2 && !ww_acquire_end_wait(&a));
+	ww_table_unlock_to(t, &a, 0);
+	MUST(ww_table_see(t, "k", 1, sees, NULL) == 1 && ww_table_see(t, NULL, 0, sees, NULL) == 1);
+	ends();
+}
+
+/* ---- owners ---- */
+
+static void owners(void)
+{
+	unsigned woken = 0;
+	struct ww_waker waker = { wakes, NULL, &woken };
+	const struct ww_table_how poll = { .by = WW_TABLE_POLLS, .waker = &waker };
+	struct ww_acquire_ctx *x, *y;
+	struct ww_mutex besides;
+
+	ww_mutex_init(&besides, &rows);
+	MUST(ww_table_leave(t, 7, true) == -EINVAL && ww_table_leave(t, 7, false) == -EINVAL);
+	MUST(!ww_table_join(t, 7, 7, NULL, &x) && !ww_table_join(t, 8, 8, NULL, &y) && x != y);
+	MUST(!writes(x, "1") && !ww_table_join(t, 7, 9, NULL, &x) && ww_table_mark(t, x) == 1);
+	/* 8 is the younger one, and after its retry as another owner it is so still, but older than 9 */
+	MUST(!writes(y, "2") && lock(y, "1", WW_TABLE_EXCLUSIVE, NULL) == -EDEADLK && !ww_table_leave(t, 8, true) && !ww_table_leave(t, 8, true));
+	MUST(!ww_table_join(t, 9, 9, &past, &x) && !ww_table_join(t, 10, 8, &past, &y) && !writes(x, "9"));
+	MUST(ww_table_leave(t, 8, true) == -EINVAL && !ww_table_mark(t, y) && !writes(y, "2"));
+	MUST(lock(y, "9", WW_TABLE_EXCLUSIVE, &until_past) == -ETIMEDOUT && lock(x, "2", WW_TABLE_EXCLUSIVE, NULL) == -EDEADLK);
+	MUST(!ww_table_leave(t, 7, false) && !ww_table_leave(t, 9, true) && !ww_table_leave(t, 9, false) && !ww_table_leave(t, 10, true));
+	/* it stays while its context holds anything besides, or waits */
+	MUST(!ww_table_join(t, 7, 7, NULL, &x) && !ww_table_join(t, 8, 8, NULL, &y) && !ww_mutex_lock(&besides, x));
+	MUST(ww_table_leave(t, 7, false) == -EBUSY && !writes(y, "8"));
+	ww_mutex_unlock(&besides);
+	MUST(lock(x, "8", WW_TABLE_EXCLUSIVE, &poll) == -EINPROGRESS && ww_table_leave(t, 7, true) == -EBUSY && !ww_acquire_end_wait(x));
+	MUST(!ww_table_leave(t, 7, false) && !ww_table_leave(t, 8, false) && !ww_mutex_destroy(&besides));
+	/* whoever is left at the end is ended */
+	MUST(!ww_table_join(t, 11, 11, NULL, &x) && !writes(x, "1") && ww_table_close(t) == -EBUSY && !unlock(x, "1"));
+}
+
+/* An owner whose wait for what it collided with was ended is there still. */
+static void an_owner_stays(void)
+{
+	struct ww_acquire_ctx *x, *y;
+
+	MUST(!ww_table_open(&t, &ending, 0) && !ww_table_join(t, 1, 1, NULL, &x) && !ww_table_join(t, 2, 2, NULL, &y));
+	MUST(!writes(x, "1") && !writes(y, "2") && lock(y, "1", WW_TABLE_EXCLUSIVE, NULL) == -EDEADLK && !ww_table_leave(t, 2, true));
+	MUST(!ww_class_cancel(&ending) && ww_table_join(t, 3, 2, NULL, &y) == -EINTR && ww_table_join(t, 3, 3, NULL, &y) == -EINTR);
+	MUST(!unlock(x, "1") && !ww_table_join(t, 3, 3, NULL, &y) && !ww_table_leave(t, 3, false) && !ww_table_leave(t, 1, false));
+	MUST(!ww_table_close(t) && !ww_class_free(&ending));
+}
+
+/* ---- what is refused ---- */
+
+/* Where the class has no number any more a key leaves nothing. */
+static void numbers(void)
+{
+	struct ww_mutex many[3];
+	struct ww_acquire_ctx x;
+	long before;
+
+	for (unsigned k = 0; k < 3; k++)
+		ww_mutex_init(&many[k], &four);
+	MUST(!ww_table_open(&t, &four, 0));
+	ww_acquire_init(&x, &four);
+	MUST(!writes(&x, "1") && writes(&x, "2") == -ENOSPC);
+	before = allocated;
+	MUST(writes(&x, "2") == -ENOSPC && allocated == before && !unlock(&x, "1") && ww_table_mark(t, &x) == 0 && !writes(&x, "2"));
+	MUST(!unlock(&x, "2"));
+	ww_acquire_fini(&x);
+	MUST(!ww_table_close(t));
+	for (unsigned k = 0; k < 3; k++)
+		MUST(!ww_mutex_destroy(&many[k]));
+	MUST(!ww_class_free(&four));
+}
+
+static void limit(void)
+{
+	MUST(!ww_table_open(&t, &rows, 3));
+	begins();
+	MUST(!writes(&a, "1") && !writes(&a, "2") && !writes(&b, "3") && writes(&b, "4") == -ENOSPC && reads(&a, "4") == -ENOSPC);
+	MUST(writes(&b, "1") == -EBUSY && !unlock(&a, "1") && !writes(&b, "4") && ww_table_mark(t, &b) == 2);
+	ends();
+	MUST(!ww_table_close(t));
+}
+
+/* As many keys as that need one allocation more each: after a refused one all is as it was. */
+static void memory(void)
+{
+	char key[] = "a key of more than forty bytes, so that it needs memory of its own: ?";
+	long refused = 0;
+
+	MUST(!ww_class_open(&rows));
+	for (refuses = 0; ww_table_open(&t, &rows, 0) == -ENOMEM; refuses = ++refused)
+		;
+	refuses = -1;
+	MUST(refused == 1);
+	begins();
+	for (size_t n = 0; n < 8; n++) {
+		key[sizeof key - 2] = (char)('0' + n);
+		for (refuses = refused = 0; writes(&a, key) == -ENOMEM; refuses = ++refused)
+			MUST(ww_table_mark(t, &a) == n && ww_table_see(t, key, strlen(key), sees, NULL) == 0);
+		refuses = -1;
+		MUST(refused >= 2 && ww_table_mark(t, &a) == n + 1); /* a use, and an entry */
+	}
+	ends();
+	MUST(!ww_table_close(t));
+}
+
+int main(void)
+{
+	memory();
+	limit();
+	numbers();
+	an_owner_stays();
+	MUST(!ww_table_open(&t, &rows, 0));
+	modes();
+	raised();
+	shared_no_more();
+	marks();
+	refused_arguments();
+	told();
+	expires();
+	polls();
+	ended_otherwise();
+	owners();
+	MUST(!ww_table_close(t) && !ww_class_free(&rows) && !ww_class_free(&others));
+	puts("table_calls: as ww_table.h says");
+	return 0;
+}

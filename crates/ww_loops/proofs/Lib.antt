@@ -1,0 +1,9 @@
+pub mod Ending
+pub mod Desks
+pub mod Locking
+pub mod Looping
+pub mod Rounds
+pub mod Two
+pub mod Wanting
+pub mod Idling
+pub mod Claiming

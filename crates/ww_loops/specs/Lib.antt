@@ -1,0 +1,5 @@
+pub mod Contexts
+pub mod Calls
+pub mod Loops
+pub mod Witness
+pub mod Wanting

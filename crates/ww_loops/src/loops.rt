@@ -1,0 +1,13 @@
+//! Retry loops end.
+ghost use Rattle.ww_loops.specs.Loops.{LoopsBackOff, LoopsEnd};
+
+/// Desks whose drivers lock in loops release all that they have after EDEADLK, and take the contended lock first.
+pub fn loops_back_off()
+    ensures { LoopsBackOff }
+{}
+
+/// In Wait-Die each loop ends, and its context owns exactly what its last round asked for, and what it owes: if drivers are
+/// scheduled, programs go on, and no round asks for endlessly many locks.
+pub fn loops_end()
+    ensures { LoopsEnd }
+{}
