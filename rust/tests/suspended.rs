@@ -23,11 +23,11 @@ fn it_keeps_its_age_in_any_thread() {
     assert!(!age.is_none() && Boxes::counts().contexts == 1);
     let mut between = Context::begin().unwrap();
     let Ok((_, held)) = between.start().lock(&BOXES[0]) else { panic!() };
-    // What its body got; on a busy machine its time may be over before that is called.
-    let told = |age: &mut Suspended<Boxes>| loop {
+    // What its body got; on a busy machine a short time may be over before that is called.
+    let told = |age: &mut Suspended<Boxes>, options: Options<'static, Boxes>| loop {
         let mut told = None;
         age.at_once();
-        let by_run = age.run(soon(), |tx| {
+        let by_run = age.run(options, |tx| {
             let _other = tx.lock(&BOXES[1])?;
             told = Some(tx.lock(&BOXES[0]).map(|_| ()));
             told.unwrap()
@@ -40,12 +40,12 @@ fn it_keeps_its_age_in_any_thread() {
     };
     for _ in 0..3 {
         thread::scope(|scope| {
-            let waits = scope.spawn(|| (0..TRIES).any(|_| told(&mut age) == Err(Error::TimedOut)));
+            let waits = scope.spawn(|| (0..TRIES).any(|_| told(&mut age, soon()) == Err(Error::TimedOut)));
             assert!(waits.join().unwrap());
         });
         // One that is younger.
         let mut fresh = Suspended::new();
-        assert_eq!(told(&mut fresh), Err(Error::Deadlock));
+        assert_eq!(told(&mut fresh, Boxes::options()), Err(Error::Deadlock));
         let mut is_called = false;
         let waits = fresh.run(soon(), |_| {
             is_called = true;
@@ -54,7 +54,7 @@ fn it_keeps_its_age_in_any_thread() {
         // The debug library may have made it up at a mutex that is free.
         assert!(cfg!(feature = "debug-library") || waits == Err(Error::TimedOut) && !is_called && !fresh.is_none());
         fresh.at_once();
-        assert_eq!(fresh.run(soon(), |_| Ok(7)), Ok(7));
+        assert_eq!(fresh.run(Boxes::options(), |_| Ok(7)), Ok(7));
         assert!(fresh.is_none());
     }
     drop(held);

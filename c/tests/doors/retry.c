@@ -216,6 +216,35 @@ static void shares_no_age(void)
 	}
 }
 
+/*
+ * Once a context was suspended, the next one of its thread has an age of its own: so it is younger than what began in between, which
+ * in Wait-Die waits for it and gets no -EDEADLK.
+ */
+static void leaves_no_age(void)
+{
+	const struct ww_waker waker = { is_woken, NULL, &b };
+	struct ww_acquire_ctx first, between, last;
+	struct ww_retry retry = none;
+	const ww_seat *own;
+
+	ww_acquire_init(&first, &c);
+	ww_acquire_begin_tries(&first);
+	MUST(!ww_mutex_lock(&a, &first) && !ww_acquire_end_try(&first));
+	own = first.own;
+	MUST(!ww_acquire_suspend(&first, &retry));
+	ww_acquire_init(&between, &c);
+	MUST(!ww_mutex_lock(&a, &between) && !ww_acquire_resume(&first, &c, &retry, NULL));
+	ww_acquire_fini(&first);
+	ww_acquire_init(&last, &c);
+	ww_acquire_begin_tries(&last);
+	MUST(last.own == own && !ww_mutex_lock(&b, &last));
+	MUST(ww_mutex_lock_poll(&b, &between, &waker) == -EINPROGRESS && !ww_acquire_end_wait(&between));
+	ww_mutex_unlock(&a);
+	ww_acquire_fini(&between);
+	MUST(!ww_acquire_end_try(&last));
+	ww_acquire_fini(&last);
+}
+
 /* Half may be suspended. Then others begin as before; and what is suspended in place of another value drops that. */
 static void has_a_bound(void)
 {
@@ -354,6 +383,8 @@ static void of_class(uint32_t contexts, bool is_wait_die)
 	}
 	outlives_threads();
 	shares_no_age();
+	if (is_wait_die)
+		leaves_no_age();
 	has_a_bound();
 	if (!contexts)
 		is_not_admitted();
