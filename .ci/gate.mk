@@ -70,8 +70,8 @@ aarch64_program: | generated_ww_run; $(call check,60) checks/check_aarch64 --pro
 growths_of_tests: | prove       ; $(call check,60) checks/refuse_library_growths
 
 made_library:                   ; $(call made,30) bash -c '$(MAKE) -s -C c OUT=out/gate all && mkdir -p $(dir $(ARCHIVE)) && ar rcsD $(ARCHIVE) $(OF_MAKE)/core.o'
-c_tests:                        ; $(call made,60) $(MAKE) -s -k -C c OUT=out/gate check
-c_threads:                      ; $(call made,60) $(MAKE) -s -k -C c OUT=out/gate check-thread
+c_tests:                        ; $(call made,120) $(MAKE) -s -k -C c OUT=out/gate check
+c_threads:                      ; $(call made,120) $(MAKE) -s -k -C c OUT=out/gate check-thread
 c_compilers c_pages:            ; $(call check,60) checks/check_$@
 c_installed:                    ; $(call check,60) checks/check_$@
 gdb:                            ; $(call check,30) checks/check_$@ $(OF_MAKE)

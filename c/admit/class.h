@@ -38,7 +38,7 @@
  *	open due limiter	seats	who gives a seat while tasks wait, or looks at a crowd, under `queue`	tasks-wider
  *	made		seats		who makes a seat, likewise				made
  *	waiting first end	crowd	who waits for a permit, under `queue`				class-cancel-permit
- *	calls next	turn		who waits, and who calls it, likewise				class-cancel-permit
+ *	is_called next	turn		who waits, and who calls it, likewise				class-cancel-permit
  *	served_ seat_ waker_	seek	likewise						poll-contexts-end
  *	begun		crowd		who begins contexts					crowd-checked
  *	quiet_until	crowd		who looks at it, under `queue`; others read it		crowd-ends
@@ -165,7 +165,7 @@ struct ww_permit {
 /* Of a thread that waits for a permit. */
 struct ww_turn {
 	struct ww_turn *next;
-	uint32_t calls; /* how often it was called: the word on which it sleeps */
+	uint32_t is_called; /* since it last fell asleep; the word on which it sleeps */
 };
 struct ww_crowd {
 	uint64_t begun __attribute__((aligned(64))); /* contexts, in this crowd */

@@ -69,18 +69,21 @@ static uint64_t nanoseconds(const struct timespec *at)
 /* ---- whether there is one ---- */
 
 /*
- * Of the threads that sleep the one that has waited longest comes first, also if it has looked since: threads that were called as they
- * fell asleep would pass a thread that looked in vain, lease for lease.  A thread that doesn't sleep has been woken by its time or a
- * call; it may have no processor for long, so the next one is called too.  Relaxed: a thread that is about to sleep on its word sees
- * the new value.  The queue is locked.
+ * Of the threads that sleep, the one that has waited longest comes first, also if it has looked since: threads that were called as they
+ * fell asleep would pass a thread that looked in vain, lease for lease.  A thread that doesn't sleep has been woken by its time or by a
+ * call. It may have no processor for long, so the next thread is called too; but a thread that was called isn't called again before it
+ * has looked, since each call is a system call under the lock.  Relaxed: a thread that is about to sleep on its word sees the new value.
+ * The queue is locked.
  */
 void ww_call_waiting(struct ww_pool *p, bool all)
 {
 	bool is_woken = false;
 
 	for (struct ww_turn *it = p->crowd.first; it && (all || !is_woken); it = it->next) {
-		__atomic_store_n(&it->calls, it->calls + 1, __ATOMIC_RELAXED);
-		is_woken = ww_futex_wake(&it->calls);
+		if (it->is_called)
+			continue;
+		__atomic_store_n(&it->is_called, 1, __ATOMIC_RELAXED);
+		is_woken = ww_futex_wake(&it->is_called);
 	}
 }
 
@@ -321,15 +324,15 @@ static void wait_for_permit(struct ww_pool *p, uint64_t now, uint64_t until, boo
 	count(&crowd->sought);
 	DTRACE_PROBE1(ww, permit_wait, p->class_);
 	do {
-		uint32_t calls = me.calls;
 		int64_t place = (int64_t)(before + waiting_threads(p) - crowd->sought);
 		uint64_t turn = turn_of(p, now, place > 0 ? (uint64_t)place : 0);
 		const struct timespec then = timespec_of(turn < until ? turn : until);
 
 		if (heeds && ww_ends_waits(p))
 			break;
+		me.is_called = 0;
 		pthread_mutex_unlock(&p->queue);
-		ww_futex_wait(&me.calls, calls, &then);
+		ww_futex_wait(&me.is_called, 0, &then);
 		pthread_mutex_lock(&p->queue);
 		now = ww_now();
 	} while (is_crowded(p) && now < until && !take_permit(p, now));

@@ -415,7 +415,7 @@ TABLE = {
     # How many wait for a permit, changed under the lock of the queue but by who has entered; whoever frees the class sees who does.
     "waiting": {"wait_for_permit": "fetch_add sc", "stop_waiting": "fetch_sub sc", "waiting_threads": "load sc"},
     # The seat that is handed over, and all that goes with it.
-    "calls": {"ww_call_waiting": "store rlx"},
+    "is_called": {"ww_call_waiting": "store rlx"},
     "served_": {"put_into": "store rlx", "ww_leave_queue": "store rlx", "hand_to": "store rel", "ww_seek_seat": "load acq", "ww_poll_seat": "load acq"},
     # Counts, which order nothing; and glances of the debug library. What a waiter in its list did before is ordered by its lock.
     "sought": {"open_seats_of": "store rlx", "ww_reset_crowd": "store rlx", "ww_class_stats": "load rlx, load rlx, load rlx"},
@@ -504,8 +504,8 @@ PLAIN = {
     "crowd->quiet": "queue: ww_reset_crowd",
     "crowd->first": "queue: ww_reset_crowd",
     "crowd->end": "queue: ww_reset_crowd",
-    "it->calls": "queue: ",
-    "me->calls": "queue: ",
+    "it->is_called": "queue: ",
+    "me->is_called": "queue: ",
     "me->next": "queue: ",
     "crowd->since": "queue: ",
     "crowd->sought": "queue: ",

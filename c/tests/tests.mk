@@ -306,7 +306,7 @@ check-mutants:
 	python3 tests/search/kills
 
 # Each search goes in parts, which make may run side by side. Of its time that of the processor is counted. What the debug library
-# tells of right calls is of no interest here.
+# tells of right calls is of no interest here; its programs are searched at a bound below their own, and at bound 1 with WHOLE.
 PARTS = 1 2 3 4
 searches = $(foreach it,$(1),$(PARTS:%=$(SEARCH)/$(it).%.ran))
 ALL_SEARCHES = $(call searches,interleave interleave_shared interleave_table interleave_debug)
@@ -316,7 +316,7 @@ $(ALL_SEARCHES): $$(basename $$(basename $$@))
 	@tail -n 1 $(LOG)
 check-interleave: $(if $(SEARCHES),$(call searches,interleave interleave_shared interleave_table))
 	@$(if $(SEARCHES)$(CROSS),true,$(call pass_over,the search of schedules,it takes gcc on x86_64))
-check-interleave-debug: BOUND = -b 1
+check-interleave-debug: BOUND = $(if $(WHOLE),-b 1,-u)
 check-interleave-debug: STRAY = 2>/dev/null
 check-interleave-debug: $(if $(SEARCHES),$(call searches,interleave_debug))
 # Whether some program of the search runs each function that is public or has an atomic access.

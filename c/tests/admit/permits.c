@@ -38,9 +38,9 @@ static bool is_turn(const uint32_t *word)
 {
 	const struct ww_turn *it = c.pool->crowd.first;
 
-	if (word >= &others->calls && word < (const uint32_t *)last_of_others)
+	if (word >= &others->is_called && word < (const uint32_t *)last_of_others)
 		return true;
-	while (it && &it->calls != word)
+	while (it && &it->is_called != word)
 		it = it == others ? last_of_others[-1].next : it->next; /* others stand behind one another */
 	return it;
 }
@@ -264,7 +264,7 @@ static void looks_in_turn(void)
 			ends_at(1, first);
 			ends_at(2, before + FAR);
 			come(place);
-			sleeps_on = &others->calls;
+			sleeps_on = &others->is_called;
 			asleep = all_end;
 			looked = sleeps();
 			sleeps_on = NULL;
@@ -537,14 +537,50 @@ static void the_first_is_called(void)
 		ends_at(0, ww_now() + FAR);
 		come(3);
 		asleep = it_gives_back;
-		sleeps_on = &others[k].calls;
+		sleeps_on = &others[k].is_called;
 		MUST(sleeps() == 1 && is_called == sleeps_on && !was_called);
 		for (unsigned each = 0; each < 3; each++)
-			MUST(others[each].calls == (each <= k));
+			MUST(others[each].is_called == (each <= k));
 		go(3);
 		MUST(!ww_class_free(&c));
 	}
 	sleeps_on = NULL;
+}
+
+/* Who was called and hasn't looked since isn't called again, though it is awake: the next one is, by one call. */
+static void none_is_called_twice(void)
+{
+	opens(&c, 1);
+	come(3);
+	for (unsigned k = 1; k < 3; k++) {
+		unsigned before = calls_in_all;
+
+		sleeps_on = &others[k].is_called;
+		ww_call_waiting(c.pool, false);
+		MUST(is_called == sleeps_on && calls_in_all - before == 3 - k);
+	}
+	sleeps_on = NULL;
+	go(3);
+	MUST(!ww_class_free(&c));
+}
+
+/* Who was called and looks in vain falls asleep as one that wasn't called. */
+static void is_no_more_called(void)
+{
+	MUST(!c.pool->crowd.first->is_called);
+	all_end();
+}
+static void is_called_in_vain(void)
+{
+	ww_call_waiting(c.pool, false);
+	asleep = is_no_more_called;
+}
+static void sleeps_again(void)
+{
+	opens(&c, 1);
+	ends_at(0, ww_now() + FAR);
+	asleep = is_called_in_vain;
+	MUST(sleeps() == 2 && has(0) && !ww_class_free(&c));
 }
 
 /* Who got one calls the next, if another is over. */
@@ -970,7 +1006,7 @@ static void ends_for_all(void)
 	opens(&c, 1);
 	ends_at(0, ww_now() + FAR);
 	come(2);
-	sleeps_on = &others->calls;
+	sleeps_on = &others->is_called;
 	asleep = it_ends;
 	MUST(sleeps() == 1 && goes_on && !has_one() && waiting_threads(c.pool) == 2);
 	sleeps_on = NULL;
@@ -1095,6 +1131,8 @@ int main(void)
 	by_who_gives_back(true);
 	by_who_gives_back(false);
 	the_first_is_called();
+	none_is_called_twice();
+	sleeps_again();
 	the_next_one();
 	not_for_sleepers();
 	amid_another();

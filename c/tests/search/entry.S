@@ -1,18 +1,21 @@
 /*
  * entry.S - how the library comes into the runtime, and out again.  The registers of the call are noted; and behind it
- * nothing of the runtime's own is left, in registers or on the stack.  So what a thread goes on from is all in its entry
- * and on the stack above.  tests.mk writes a stub for each call, which hands over its function in r11.
+ * nothing of the runtime's own is left, in registers or, where il_clears says so, on the stack.  So what a thread goes on from is all in
+ * its entry and on the stack above.  tests.mk writes a stub for each call, which hands over its function in r11.
  */
 	.text
 	.globl	il_enter, il_enter_plain, il_inside_
 
 	.macro	clear bytes
+	cmpb	$0, il_clears(%rip)
+	je	1f
 	pxor	%xmm0, %xmm0
 	.set	at, \bytes
 	.rept	\bytes / 16
 	movups	%xmm0, -at(%rsp)
 	.set	at, at - 16
 	.endr
+1:
 	.endm
 
 	.macro	forget
@@ -102,10 +105,13 @@ il_inside_:
 	call	il_inside
 	fxrstor	(%rsp)
 	movq	%rbp, %rsp
+	cmpb	$0, il_clears(%rip)
+	je	1f
 	leaq	-2048(%rsp), %rdi
 	movl	$256, %ecx
 	xorl	%eax, %eax
 	rep stosq
+1:
 	addq	$48, %rsp
 	popq	%r15
 	popq	%r14

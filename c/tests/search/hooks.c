@@ -21,10 +21,10 @@ static const char core, clock_object; /* what all steps of the proved library, a
 enum access { READS, WRITES, READS_ATOMICALLY, WRITES_ATOMICALLY, ACCESSES };
 static struct cell {
 	uint32_t run;
-	bool gone;
 	uint8_t by, how; /* which threads did, and how, in any run */
-	uint16_t last[ACCESSES][ALL];
+	uint16_t last[ACCESSES][WIDE];
 } cells[sizeof il.memory + DATA];
+static uint64_t gone[sizeof cells / sizeof *cells / 64]; /* of each byte whether it is gone */
 
 /* ---- what depends on what: hashes for runs that are alike, clocks for races ---- */
 
@@ -97,11 +97,18 @@ static void release(struct object *o, int order, bool goes_on)
 	}
 }
 
-static struct cell *cell_of(uintptr_t at)
+/* As an earlier run may have left it; NULL for what is neither in the arena nor data. */
+static struct cell *cell_at(uintptr_t at)
 {
 	uintptr_t k = at - (uintptr_t)il.memory, data = at - (uintptr_t)__start_il_data;
-	struct cell *c = k < sizeof il.memory ? &cells[k] :
-			 data < (uintptr_t)(__stop_il_data - __start_il_data) ? &cells[sizeof il.memory + data] : NULL;
+
+	return k < sizeof il.memory ? &cells[k] :
+	       data < (uintptr_t)(__stop_il_data - __start_il_data) ? &cells[sizeof il.memory + data] : NULL;
+}
+
+static struct cell *cell_of(uintptr_t at)
+{
+	struct cell *c = cell_at(at);
 
 	if (c && c->run != il.run)
 		*c = (struct cell){ .run = il.run, .by = c->by, .how = c->how };
@@ -134,20 +141,45 @@ static void is_met(struct cell *c, enum access access)
 		il_grows();
 }
 
+static bool is_gone(const struct cell *c)
+{
+	size_t k = (size_t)(c - cells);
+
+	return gone[k / 64] >> k % 64 & 1;
+}
+
+/* Whether one of these clocks is ahead of what is known of its thread. */
+static bool is_ahead(const uint16_t *clocks, const uint16_t *known)
+{
+	uint16_t ahead = 0;
+
+	for (unsigned t = 0; t < WIDE; t++)
+		ahead |= clocks[t] > known[t];
+	return ahead;
+}
+
+__attribute__((noreturn, cold)) static void race(const uint16_t *last, const uint16_t *known)
+{
+	unsigned t = 1;
+
+	while (last[t] <= known[t])
+		t++;
+	il_fail("a race with what thread %u did", t);
+}
+
 static void check_one(struct cell *c, enum access access, const void *pc)
 {
 	const struct clocks *mine = &me()->clocks;
 
 	il.from = pc;
-	if (c->gone)
+	if (is_gone(c))
 		il_fail("memory is touched that is gone");
 	is_met(c, access);
 	if (c->last[access][il.current] == mine->of[il.current])
 		return; /* Whatever came since then met this. */
-	for (unsigned t = 1; t <= il.count; t++)
-		for (enum access k = READS; k < ACCESSES; k++)
-			if (ordered[access] >> k & 1 && c->last[k][t] > mine->of[t])
-				il_fail("a race with what thread %u did", t);
+	for (enum access k = READS; k < ACCESSES; k++)
+		if (ordered[access] >> k & 1 && is_ahead(c->last[k], mine->of))
+			race(c->last[k], mine->of);
 	il_keep(&c->last[access][il.current]);
 	c->last[access][il.current] = mine->of[il.current];
 }
@@ -176,10 +208,10 @@ static struct cell *met[1 << 15];
 static struct object *ordering[OBJECTS];
 static size_t met_count, ordering_count;
 static struct ranks {
-	uint16_t least; /* of which all others have heard */
 	uint64_t heard[CLOCKS / 64];
 	uint16_t before[CLOCKS / 64];
-} ranks;
+} ranks[ALL];
+static uint16_t least[WIDE]; /* of which all others have heard */
 
 void il_forget_cells(void) { memset(cells, 0, sizeof cells); }
 
@@ -195,19 +227,19 @@ bool il_begin_clocks(void)
 	return met_count < sizeof met / sizeof *met;
 }
 
-static void hears(uint16_t clock)
+static void hears(unsigned t, uint16_t clock)
 {
 	if (clock >= CLOCKS)
 		il_fail("CLOCKS is too small");
-	if (clock > ranks.least)
-		ranks.heard[clock / 64] |= (uint64_t)1 << clock % 64;
+	if (clock > least[t])
+		ranks[t].heard[clock / 64] |= (uint64_t)1 << clock % 64;
 }
 
-static uint16_t rank_of(uint16_t clock)
+static uint16_t rank_of(unsigned t, uint16_t clock)
 {
-	uint64_t below = ranks.heard[clock / 64] & (((uint64_t)1 << clock % 64) - 1);
+	uint64_t below = ranks[t].heard[clock / 64] & (((uint64_t)1 << clock % 64) - 1);
 
-	return clock <= ranks.least ? 0 : (uint16_t)(1 + ranks.before[clock / 64] + __builtin_popcountll(below));
+	return clock <= least[t] ? 0 : (uint16_t)(1 + ranks[t].before[clock / 64] + __builtin_popcountll(below));
 }
 
 static bool is_other(unsigned u, unsigned t) { return u != t && il.threads[u].state != ENDED; }
@@ -217,38 +249,49 @@ static void rank(unsigned t)
 {
 	uint16_t sum = 0;
 
-	ranks.least = UINT16_MAX;
-	memset(ranks.heard, 0, sizeof ranks.heard);
+	memset(ranks[t].heard, 0, sizeof ranks[t].heard);
 	for (unsigned u = 1; u <= il.count; u++)
-		if (is_other(u, t) && il.threads[u].clocks.of[t] < ranks.least)
-			ranks.least = il.threads[u].clocks.of[t];
+		if (is_other(u, t) && il.threads[u].clocks.of[t] < least[t])
+			least[t] = il.threads[u].clocks.of[t];
 	for (unsigned u = 1; u <= il.count; u++)
 		if (is_other(u, t))
-			hears(il.threads[u].clocks.of[t]);
+			hears(t, il.threads[u].clocks.of[t]);
 	for (size_t k = 0; k < ordering_count; k++)
 		if (ordering[k]->run == il.run)
-			hears(ordering[k]->clocks.of[t]);
+			hears(t, ordering[k]->clocks.of[t]);
 	for (unsigned k = 0; k < CLOCKS / 64; k++) {
-		ranks.before[k] = sum;
-		sum = (uint16_t)(sum + __builtin_popcountll(ranks.heard[k]));
+		ranks[t].before[k] = sum;
+		sum = (uint16_t)(sum + __builtin_popcountll(ranks[t].heard[k]));
 	}
+}
+
+/* Of these clocks the ranks that aren't 0, each with its place among all. */
+static uint64_t *add_ranks(uint64_t *at, uint64_t place, const uint16_t *clocks)
+{
+	if (is_ahead(clocks, least))
+		for (unsigned t = 1; t <= il.count; t++)
+			if (clocks[t] > least[t])
+				*at++ = (place * ALL + t) << 16 | rank_of(t, clocks[t]);
+	return at;
 }
 
 const void *il_clocks(size_t *size)
 {
-	static uint16_t are[IL_THREADS * (sizeof met / sizeof *met * ACCESSES + OBJECTS + ALL)];
-	uint16_t *at = are;
+	static uint64_t are[IL_THREADS * (sizeof met / sizeof *met * ACCESSES + OBJECTS + ALL)];
+	uint64_t *at = are;
 
+	memset(least, 0xff, sizeof least);
 	for (unsigned t = 1; t <= il.count; t++) {
 		rank(t);
 		for (unsigned u = 1; u <= il.count; u++)
-			*at++ = is_other(u, t) ? rank_of(il.threads[u].clocks.of[t]) : 0;
-		for (size_t k = 0; k < ordering_count; k++)
-			*at++ = ordering[k]->run == il.run ? rank_of(ordering[k]->clocks.of[t]) : 0;
-		for (size_t k = 0; k < met_count; k++)
-			for (enum access a = READS; a < ACCESSES; a++)
-				*at++ = met[k]->run == il.run ? rank_of(met[k]->last[a][t]) : 0;
+			*at++ = is_other(u, t) ? rank_of(t, il.threads[u].clocks.of[t]) : 0;
 	}
+	for (size_t k = 0; k < ordering_count; k++)
+		if (ordering[k]->run == il.run)
+			at = add_ranks(at, k, ordering[k]->clocks.of);
+	for (size_t k = 0; k < met_count; k++)
+		for (enum access a = READS; met[k]->run == il.run && a < ACCESSES; a++)
+			at = add_ranks(at, OBJECTS + k * ACCESSES + a, met[k]->last[a]);
 	*size = (size_t)((char *)at - (char *)are);
 	return are;
 }
@@ -266,17 +309,28 @@ void *il_new(size_t size)
 	return &il.memory[at];
 }
 
+void il_forget_gone(void)
+{
+	if (il.gone)
+		memset(gone, 0, sizeof gone);
+	il.gone = 0;
+}
+
+/* Whoever touches a byte later finds that it is gone; so a byte that nobody touched in any run needs no look. */
 void il_gone(void *at, size_t size)
 {
-	il_commit(me());
-	for (size_t k = 0; k < size && il.running; k++) {
-		struct cell *c = cell_of((uintptr_t)at + k);
+	size_t from = (size_t)(cell_at((uintptr_t)at) - cells);
 
-		check_one(c, WRITES, PC);
-		il_keep(&c->gone);
-		c->gone = true;
-		il.gone += mix((uintptr_t)at + k, 13);
+	il_commit(me());
+	for (size_t k = from; k < from + size && il.running; k++) {
+		if (cells[k].by || is_gone(&cells[k]))
+			check_one(cell_of((uintptr_t)at + k - from), WRITES, PC);
+		if (k == from || k % 64 == 0)
+			il_keep(&gone[k / 64]);
+		gone[k / 64] |= (uint64_t)1 << k % 64;
 	}
+	if (il.running)
+		il.gone += mix(mix((uintptr_t)at, size), 13);
 	memset(at, 0xdb, size);
 }
 

@@ -7,7 +7,7 @@
 #include <setjmp.h>
 #include <string.h>
 
-enum { ALL = IL_THREADS + 1 }; /* thread 0 sets up and checks */
+enum { ALL = IL_THREADS + 1, WIDE = 8 }; /* thread 0 sets up and checks; clocks of so many are compared at once */
 enum { STACK = 1 << 15, ARENA = 1 << 18, DATA = 1 << 16, OWN = 1 << 10, OBJECTS = 1 << 13, DEPTH = 1 << 14 };
 enum { LATES = 8, SEATS = 32, LOCKS = 32 };
 
@@ -15,7 +15,7 @@ enum { LATES = 8, SEATS = 32, LOCKS = 32 };
 #define GHOST __attribute__((section("il_ghost")))
 
 struct clocks {
-	uint16_t of[ALL];
+	uint16_t of[WIDE];
 };
 
 /* Where a thread called the runtime, as entry.S notes it: what goes on from there is in these, and on the stack above. */
@@ -154,6 +154,7 @@ struct object *il_object_of(const volatile void *at);
 void il_grows(void);
 /* Another program comes. */
 void il_forget_cells(void);
+void il_forget_gone(void);
 bool il_begin_clocks(void); /* false where there are too many */
 /* What of the clocks belongs to a state, and of how many bytes. */
 const void *il_clocks(size_t *size);

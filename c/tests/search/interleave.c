@@ -35,6 +35,8 @@ static struct {
 static unsigned long cached;
 static char first_data[DATA], first_own[OWN]; /* as they are at first */
 
+unsigned char il_clears; /* what the runtime leaves below the stack would be part of a state (entry.S) */
+
 unsigned il_me(void) { return il.current; }
 
 /* ---- an end before the end ---- */
@@ -484,7 +486,7 @@ static void reset(void)
 	memcpy(il.own, first_own, il.own_size);
 	il.run++;
 	il.used = il.point = il.steps = il.depth = il.current = 0;
-	il.gone = 0;
+	il_forget_gone();
 	il_entry = &il.threads[0].entry;
 	il.asked = 0;
 	il.now = 1000000000;
@@ -532,6 +534,7 @@ void il_begin_run(void)
 static void run(void)
 {
 	reset();
+	il_clears = il.whole;
 	il.runs++;
 	il_watch();
 	if (!_setjmp(il.explorer)) {
@@ -693,7 +696,7 @@ static void find_own(void)
 }
 
 enum { UNASKED = -3 };
-static const char usage[] = "usage: interleave [-b BOUND | -w: whole] [-l SECONDS: at most, each that is to be whole]\n"
+static const char usage[] = "usage: interleave [-b BOUND | -w: whole | -u: under its own bound, 1 at most] [-l SECONDS: at most, each that is to be whole]\n"
 			    "\t[-f FLAGS] [-s SCHEDULE] [-1: until one fails] [-p PART/PARTS: each PARTSth program] [PROGRAM]\n";
 
 int main(int argc, char **argv)
@@ -704,9 +707,9 @@ int main(int argc, char **argv)
 	unsigned long runs = 0;
 	double seconds = 120;
 	int asked = UNASKED, is;
-	bool stops = false;
+	bool stops = false, is_under = false;
 
-	while ((is = getopt(argc, argv, "b:f:l:p:s:1w")) != -1) {
+	while ((is = getopt(argc, argv, "b:f:l:p:s:1uw")) != -1) {
 		switch (is) {
 		case 'b': asked = atoi(optarg); break;
 		case 'f': flags = (unsigned)atoi(optarg); break;
@@ -717,6 +720,7 @@ int main(int argc, char **argv)
 			break;
 		case 's': schedule = optarg; break;
 		case '1': stops = true; break;
+		case 'u': is_under = true; break;
 		case 'w': asked = WHOLE; break;
 		default: return fputs(usage, stderr), 2;
 		}
@@ -725,7 +729,7 @@ int main(int argc, char **argv)
 	for (unsigned k = 0; k < sizeof signals / sizeof *signals; k++)
 		sigaction(signals[k], &(struct sigaction){ .sa_handler = on_signal, .sa_flags = SA_NODEFER }, NULL);
 	for (const struct il_program *p = il_programs; p->name && !(stops && failed); p++) {
-		int most = asked == UNASKED ? p->most : asked;
+		int most = is_under ? p->most == 1 ? 0 : 1 : asked == UNASKED ? p->most : asked;
 
 		if (at++ % parts != part - 1 || (optind < argc && strcmp(argv[optind], p->name)))
 			continue;
