@@ -534,7 +534,6 @@ void il_begin_run(void)
 static void run(void)
 {
 	reset();
-	il_clears = il.whole;
 	il.runs++;
 	il_watch();
 	if (!_setjmp(il.explorer)) {
@@ -632,6 +631,7 @@ static bool explore(int most, double seconds)
 	struct whole whole = { 0, NULL };
 	int bound = 0;
 
+	il_clears = most < 0;
 	il.flags |= most == WHOLE_INSIDE ? IL_INSIDE : 0;
 	if (most < 0)
 		whole = explore_whole(seconds);
@@ -657,6 +657,7 @@ static bool explore(int most, double seconds)
 static void replay(const char *schedule, bool whole)
 {
 	il.whole = whole;
+	il_clears = whole;
 	il.replay = schedule;
 	il.budget = 1 << 20;
 	run();
