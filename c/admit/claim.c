@@ -1,27 +1,28 @@
 /*
- * claim.c - a thread's own seat, and any that is free: in which order a thread looks, and how seats are made.  Whose a seat is: see
- * seat.c.
+ * claim.c - a thread's own seat, and any seat that is free: in which order a thread looks, and how seats are made. The table of
+ * whose a seat is stands in seat.c.
  *
- * A class opens with three seats: the spare one, one for threads, and one for tasks.  Every other seat is made when it is first needed.  A
- * thread's own seat is made as the thread first asks for it (seat.c).  A seat for anybody is made where a thread or a task comes and finds
- * none free of those that were made.  Seats for anybody are made in an order.  Tasks begin with the first seat of tasks.  Threads begin
- * with the seats that tasks may not have, and then come those of tasks, the last one first.  Where memory is refused, the class has fewer
- * contexts meanwhile, and a caller that finds none waits in the queue.
+ * A class opens with three seats: the spare one, one for threads, and one for tasks. Every other seat is made when it is first
+ * needed. A thread's own seat is made when the thread first asks for it (seat.c). A seat for anybody is made when a thread or a
+ * task finds that no seat that was made is free. Seats for anybody are made in an order: tasks begin with the first seat of tasks;
+ * threads begin with the seats that tasks may not have, and then come those of tasks, the last one first. If memory is refused, the
+ * class has fewer contexts meanwhile, and a caller that finds no seat waits in the queue.
  *
- * Making a seat is no step of the seat's `busy`, since nobody looks at the word before.  A claim looks at a seat for anybody only if it
- * stands among the first `made` of that order; the claim acquires `made`, which the maker released once the seat was ready.  A task that
- * was called for a seat looks at that seat under the lock of the queue, which the maker had, too.  At a thread's own seat only that thread
- * looks: it made the seat itself, or came to the seat's place after the thread that did.  So each user of a seat sees what the maker wrote.
+ * Making a seat is no step of the seat's `busy`, since nobody looks at that word before. A claim looks at a seat for anybody only
+ * if the seat is among the first `made` of that order; the claim acquires `made`, which the maker released once the seat was ready.
+ * A task that was called for a seat looks at it under the lock of the queue, which the maker had, too. Only its thread looks at a
+ * thread's own seat: that thread made the seat itself, or came to the seat's place after the thread that did. So each user of a
+ * seat sees what the maker wrote.
  */
 #define _GNU_SOURCE
 #include "claim.h"
 
 /* ---- seats that are made ---- */
 
-/* How many of these come first for who looks for one: for threads those that tasks don't have. */
+/* How many seats of the array come first in the order of claims: for threads, those that tasks don't have; for tasks, all. */
 static uint32_t near_seats(const struct ww_seats *of) { return of->count - (of == &of->pool->threads ? of->pool->tasks.count : 0); }
 
-/* The one at this place in their order: behind the near ones the others, of which the last one comes first. */
+/* The seat at this place in the order of claims: the near seats, and behind these the others, of which the last one comes first. */
 static ww_seat *seat_at(const struct ww_seats *of, uint32_t place)
 {
 	uint32_t near = near_seats(of);
@@ -30,8 +31,9 @@ static ww_seat *seat_at(const struct ww_seats *of, uint32_t place)
 }
 
 /*
- * Sequentially consistent: who cancels the class says so, and then looks which seats are there; who makes one looks later, amid a wait
- * by it, whether that was said.
+ * The store of `pool` is sequentially consistent. A thread that cancels the class stores `ends_waits`, and then looks which seats
+ * were made. The thread that makes a seat stores `pool`, and looks at `ends_waits` later, when it waits by the seat. So one of the
+ * two sees what the other stored.
  */
 bool ww_make_seat(struct ww_pool *p, ww_seat *s)
 {
@@ -57,7 +59,10 @@ static ww_seat *claim_and_note(const struct ww_seats *of, ww_seat *s)
 	return s;
 }
 
-/* Another may claim one that has just been made, so it goes on to the next. */
+/*
+ * Another thread may claim a seat right after this one made it, so this one goes on to the next. If memory is refused, it tries the
+ * seats that were made out of this order: ww_serve makes the seat for which it calls a task.
+ */
 ww_seat *ww_claim_next(struct ww_seats *of, uint32_t most)
 {
 	uint32_t made = made_seats(of);
@@ -88,8 +93,8 @@ ww_seat *ww_claim_new(struct ww_seats *of, uint32_t most)
 /* ---- seats that are free ---- */
 
 /*
- * From this one on all of these, of the near ones.  A thread with a seat of its own comes back to that, and not to one that it claimed
- * besides.
+ * Looks at all seats of the array that were made and may be claimed: first at the near ones, from the seat `from` on. A thread with
+ * a seat of its own doesn't come back to a seat that it claimed here.
  */
 ww_seat *ww_claim_from(const struct ww_seats *of, uint32_t from)
 {
@@ -102,7 +107,10 @@ ww_seat *ww_claim_from(const struct ww_seats *of, uint32_t from)
 	return s;
 }
 
-/* The search begins at the one that this thread used last, or, where threads have their own, at one where others don't begin. */
+/*
+ * The search begins at the seat that this thread used last. Where threads have seats of their own, it begins at a place by this
+ * thread's number, at which other threads don't begin.
+ */
 ww_seat *ww_claim_any(const struct ww_seats *of)
 {
 	bool is_last = ww_mine.last.id == __atomic_load_n(&of->id, __ATOMIC_RELAXED);

@@ -1,66 +1,71 @@
-/* claim.h - the bits that say whose a seat is, and how a seat is made and claimed: see claim.c.  It isn't installed. */
+/* claim.h - the bits that say whose a seat is, and how a seat is made and claimed: see claim.c. It isn't installed. */
 #ifndef WW_CLAIM_H
 #define WW_CLAIM_H
 #include "class.h"
 
-/* The bits of a seat's `busy`: see seat.c. */
+/* The bits of a seat's `busy`: the table is in seat.c. */
 #define BUSY 1u
 #define IS_OWN 2u
-/* The id of seats to which nobody comes back. */
+/* The id of an array of seats while no thread is to come back to the seat that it used last. */
 #define NO_ID UINT64_MAX
 
 /*
- * Makes a seat, unless it was made before; false if memory is refused.  The queue is locked, or nobody else sees the class yet.
+ * Makes the seat, unless it was made before. It returns false if memory is refused. The queue is locked, or no other thread sees
+ * the class yet.
  */
 COLD WW_HIDDEN bool ww_make_seat(struct ww_pool *p, ww_seat *s);
-/* Whether the seat was made.  Until then it is memory of zeros, in which nobody writes but who makes it. */
+/* Whether the seat was made. Until then it is memory of zeros, which only the thread that makes the seat writes. */
 static inline bool is_made(const ww_seat *s) { return __atomic_load_n(&s->pool, __ATOMIC_SEQ_CST); }
 
-/* Any of these seats that was made and is free, from this one on or from where this thread begins; or NULL. */
+/*
+ * Claims a seat of this array that was made and is free: the search begins at the seat `from`, or at one that suits this thread.
+ * NULL: none is free.
+ */
 WW_HIDDEN ww_seat *ww_claim_from(const struct ww_seats *of, uint32_t from);
 WW_HIDDEN ww_seat *ww_claim_any(const struct ww_seats *of);
 /*
- * If these found none: makes the next of these seats, and claims that, unless `most` of them were made; or NULL.  For the first one the
- * queue is locked.
+ * Makes the next seat of this array and claims it, unless `most` seats of the array were made: callers that found no free seat come
+ * here. NULL: there is none. The first one of these two is called while the queue is locked; the second one locks the queue.
  */
 COLD WW_HIDDEN ww_seat *ww_claim_next(struct ww_seats *of, uint32_t most);
 WW_HIDDEN ww_seat *ww_claim_new(struct ww_seats *of, uint32_t most);
-/* This thread's own seat, or any, unless others wait; or NULL. */
+/* Claims this thread's own seat, or else any free one, unless threads wait in the queue. NULL: there is none. */
 WW_HIDDEN ww_seat *ww_own_or_any(struct ww_pool *p);
-/* Threads find their own seats at hand from now on, or not: then each begin of a context asks further. */
+/* From now on threads find their own seats at hand, or not: a begin of a context that finds no seat at hand asks further (seat.c). */
 WW_HIDDEN void ww_set_at_hand(struct ww_pool *p, bool is);
 
 /* ---- a thread's own seat ---- */
 
 /*
- * This thread uses the seat, one that anybody may use: called by each lock without a context, and by a thread that has waited
- * for a seat.  Others read that only through a mutex that is held by the seat, so later.
+ * Notes that this thread uses the seat, which anybody may use. Each lock without a context calls it, and each thread that has
+ * waited for a seat. Other threads read the note only through a mutex that is held by the seat, so they read it later.
  */
 static inline void note_user(ww_seat *s) { __atomic_store_n(&s->user, this_thread(), __ATOMIC_RELAXED); }
 
-/* This thread's own; if it has none, the seat before all of these, which is nobody's own. */
+/* This thread's own seat; or, if the thread has none, the seat before all own seats, which is nobody's own. */
 static inline ww_seat *own_or_before(const struct ww_pool *p) { return (ww_seat *)((char *)p->before_own + ww_mine.own_at); }
 
-/* This thread's own, or NULL. */
+/* This thread's own seat, or NULL if it has none. */
 static inline ww_seat *own_seat(const struct ww_pool *p)
 {
 	return p->own_seats && p->copy == ww_this_copy && ww_mine.own_at ? own_or_before(p) : NULL;
 }
 
-/* Whether this thread locked by the seat, without a context. */
+/* Whether the seat is this thread's own, or this thread was the last one that locked by it without a context. */
 static inline bool is_used_here(const ww_seat *s)
 {
 	return s == own_seat(s->pool) || __atomic_load_n(&s->user, __ATOMIC_RELAXED) == this_thread();
 }
 
 static inline bool is_in_use(const ww_seat *s) { return s && __atomic_load_n(&s->busy, __ATOMIC_RELAXED) & BUSY; }
-/* Whether a context runs by it: one that is suspended doesn't. */
+/* Whether the seat's context is suspended; and whether a context runs by the seat, which a suspended one doesn't. */
 static inline bool is_suspended(const ww_seat *s) { return __atomic_load_n(&s->ticket, __ATOMIC_RELAXED); }
 static inline bool runs_by(const ww_seat *s) { return is_in_use(s) && !is_suspended(s); }
 
 /*
- * This thread's own seat, or NULL if it is in use: a context that was begun here may go on in another thread, which
- * releases what it wrote in the seat by `busy` (give_seat).  Nobody else sets BUSY, so the store is relaxed.
+ * Begins to use this thread's own seat. NULL: the seat is in use, since a context that was begun here may go on in another thread.
+ * The load acquires what that thread wrote in the seat before it stored `busy` (give_seat). The store is relaxed, since no other
+ * thread sets BUSY in this seat.
  */
 static inline ww_seat *use_own(ww_seat *s)
 {
@@ -75,7 +80,7 @@ static inline ww_seat *use_own(ww_seat *s)
 
 static inline bool has_seekers(const struct ww_seats *of) { return __atomic_load_n(&of->lines[WAITS].seekers, __ATOMIC_SEQ_CST); }
 
-/* If it is neither in use nor a thread's own. */
+/* Begins to use the seat, if it is neither in use nor a thread's own; false if it is. */
 static inline bool claim(ww_seat *s)
 {
 	uint32_t was = 0;
@@ -85,15 +90,15 @@ static inline bool claim(ww_seat *s)
 	       __atomic_compare_exchange_n(&s->busy, &was, BUSY, false, __ATOMIC_SEQ_CST, __ATOMIC_SEQ_CST);
 }
 
-/* Whether one that comes has to wait, even if a seat is free: for threads, which get seats in turn. */
+/* Whether whoever comes now has to wait, even if a seat is free: threads get seats in turn, and a thread waits. */
 static inline bool is_barred(const struct ww_pool *p) { return has_seekers(&p->threads); }
 
-/* How many of the seats may be claimed. */
+/* How many seats of the array may be claimed now. */
 static inline uint32_t open_seats(const struct ww_seats *of) { return __atomic_load_n(&of->open, __ATOMIC_SEQ_CST); }
-/* How many were made, in their order: who sees that one was sees what it has. */
+/* How many seats of the array were made, in the order of claims. The load acquires what the maker wrote in them. */
 static inline uint32_t made_seats(const struct ww_seats *of) { return __atomic_load_n(&of->made, __ATOMIC_ACQUIRE); }
 
-/* This thread used that last, if anybody comes back to these: what has no id may be of any class. */
+/* Notes that this thread used this seat of the array last. Without an id nothing is noted: the id NO_ID would fit any class. */
 static inline void note_last(const struct ww_seats *of, ww_seat *s)
 {
 	uint64_t id = __atomic_load_n(&of->id, __ATOMIC_RELAXED);
@@ -102,7 +107,10 @@ static inline void note_last(const struct ww_seats *of, ww_seat *s)
 		ww_mine.last = (struct ww_known){ .id = id, .seat = s };
 }
 
-/* The seat that this thread used last, if it is one of these, and free. */
+/*
+ * Claims the seat that this thread used last, if it belongs to this array and is free; else NULL. While a thread waits in the queue
+ * nothing is claimed.
+ */
 static inline ww_seat *claim_last(const struct ww_seats *of, const struct ww_pool *p)
 {
 	ww_seat *s = ww_mine.last.seat;

@@ -1,6 +1,6 @@
 /*
- * class.c - classes of mutexes: how they are opened, cancelled and freed, and what they count; and what becomes of them in a
- * child of a fork.  The lock `ww_opening`: see process.c.
+ * class.c - classes of mutexes: how they are opened, cancelled and freed, what they count, and what becomes of them in a child of a
+ * fork. The lock `ww_opening` is explained in process.c.
  */
 #define _GNU_SOURCE
 #include "seat.h"
@@ -8,16 +8,16 @@
 #include <string.h>
 #include <sys/mman.h>
 
-/* A class has one seat more than contexts, which no context uses: see ww_has_users. */
+/* A class has one seat more than contexts. No context uses this spare seat: ww_has_users looks by it who uses a mutex. */
 enum { SPARE = 1 };
 
-static struct ww_pool *freed; /* the memory of classes that were freed */
+static struct ww_pool *freed; /* the pools of classes that were freed, whose memory is used again */
 
 /* ---- as the library is loaded, and forks ---- */
 
 /*
- * The lock of the queue is held for a few instructions at a time, by whoever comes or goes while others wait: who meets it tries
- * again before it sleeps, where the C library has such a lock.
+ * The lock of the queue is held for a few instructions at a time, by a thread that comes or goes while others wait. Where the C
+ * library has adaptive mutexes, a thread that finds the lock taken tries again before it sleeps.
  */
 #ifdef PTHREAD_ADAPTIVE_MUTEX_INITIALIZER_NP
 #define MET_OFTEN PTHREAD_ADAPTIVE_MUTEX_INITIALIZER_NP
@@ -32,8 +32,8 @@ static void make_locks(struct ww_pool *p)
 }
 
 /*
- * Whether nobody uses a seat, but by a suspended context if there may be such, nor waits, which who waits for a permit and then for a
- * seat does throughout.  Opening is locked.
+ * Whether nobody uses a seat of the class, except for suspended contexts if these may be there, and nobody waits. A thread that
+ * waits for a permit and then for a seat counts as one that waits throughout. Opening is locked.
  */
 static bool is_idle(struct ww_pool *p, bool may_be_suspended)
 {
@@ -50,18 +50,21 @@ static bool is_idle(struct ww_pool *p, bool may_be_suspended)
 static bool is_free(pthread_mutex_t *lock) { return !pthread_mutex_trylock(lock) && !pthread_mutex_unlock(lock); }
 
 /*
- * Whether nobody was amid what another can't go on from.  The memory here is that of one moment, at which a seat was BUSY while
- * a step was made by it, as a mutex was locked by a context or without one.  Only these locks cover more: the queue, the spare
- * seat, by which a look is made without a context, and numbers; and `ww_opening`, which the forking thread had, classes and whose
- * own seats are.  Whoever was between these left at most a number that no mutex has, or its count at a mutex that it was about
- * to wait for, which can't be destroyed then.
+ * Whether, at the moment of the fork, no other thread was in the middle of something that the child can't go on from. The child's
+ * memory is that of this moment. A seat was BUSY while a step was made by it, as when a mutex was locked, by a context or without
+ * one. Besides, only these locks cover more than one step: those of the queue, of the spare seat, and of numbers, which is_free
+ * tries here; and `ww_opening`, which the forking thread had. A thread that was between two of these left at most a number that no
+ * mutex has, or its count at a mutex for which it was about to wait; such a mutex can't be destroyed.
  */
 static bool was_idle(struct ww_pool *p)
 {
 	return is_free(&p->queue) && is_free(&p->spare) && is_free(&p->numbers.lock) && is_idle(p, true);
 }
 
-/* Threads that are gone leave no age; but contexts that are suspended go on, here and there. */
+/*
+ * Ends the rest of each seat, since the threads whose contexts would share its age don't exist in the child. A suspended context
+ * keeps its age: it may go on both in the parent and in the child.
+ */
 static void stop_rests(struct ww_pool *p)
 {
 	for (uint32_t k = 0; k < seats_of(p); k++)
@@ -70,10 +73,10 @@ static void stop_rests(struct ww_pool *p)
 }
 
 /*
- * A class that nobody used goes on, as do its mutexes.  Of any other, also in a child of this child, threads were in the middle of
- * their calls, and don't exist here: so no seat and no number of it is given any more, nobody waits in its queues or looks at its
- * limiters, and nobody takes its locks.  The memory of a freed class is used again, though a thread may have been about to leave
- * its last context or mutex.  Opening is locked.
+ * A class that nobody used goes on in the child, as do its mutexes. In any other class, also in a child of this child, threads were
+ * in the middle of their calls, and don't exist here. So no seat and no number of that class is given any more, nobody waits in its
+ * queues or looks at its limiters, and nobody takes its locks. The memory of freed classes is used again, though a thread may have
+ * been about to leave its last context or mutex there: so these get new locks. Opening is locked.
  */
 static void in_child(void)
 {
@@ -99,8 +102,8 @@ static void in_child(void)
 }
 
 /*
- * The next thread whose own these seats are has ages of its own, but for a seat by which a context goes on elsewhere.  Opening
- * is locked.
+ * This thread ends, and gives its own seat in each class, unless a context that was begun by the seat goes on elsewhere. The next
+ * thread that gets the seats has ages of its own, so no seat rests. Opening is locked.
  */
 static void thread_ends(void)
 {
@@ -114,7 +117,7 @@ static void thread_ends(void)
 	}
 }
 
-/* Nobody else uses the library yet.  With this function the linker takes the table for debuggers into each program. */
+/* Nobody else uses the library yet. The empty assembly refers to the table for debuggers, so the linker takes that into each program. */
 __attribute__((constructor(101))) static void load(void)
 {
 	__asm__ volatile("" ::"r"(&ww_layout_));
@@ -123,7 +126,7 @@ __attribute__((constructor(101))) static void load(void)
 
 /* ---- what an open class consists of ---- */
 
-/* The memory of a class that was freed, or new memory. */
+/* The memory of a class that was freed, or new memory; NULL if there is none. */
 static struct ww_pool *memory_of_pool(void)
 {
 	struct ww_pool *p = freed;
@@ -146,7 +149,7 @@ static struct ww_pool *memory_of_pool(void)
 	return p;
 }
 
-/* Of all seats, made or not. */
+/* The bytes of all seats, made or not. */
 static size_t bytes_of_seats(const struct ww_pool *p) { return (seats_of(p) + SPARE) * sizeof *p->seats; }
 
 static void keep_memory(struct ww_pool *p)
@@ -157,7 +160,7 @@ static void keep_memory(struct ww_pool *p)
 	freed = p;
 }
 
-/* The queues of a class that is opened, which nobody uses yet. */
+/* Prepares the queues of a class that is opened, which no other thread sees yet. */
 static void open_seats_of(struct ww_pool *p)
 {
 	struct ww_seats *tasks = &p->tasks;
@@ -185,12 +188,15 @@ static void close_world(struct ww_pool *p)
 		stop_rest(s);
 		NOTE(SEAT_CLOSED, .seat = s);
 		if (ww_close_(&s->handle))
-			abort(); /* nobody has a seat of it */
+			abort(); /* can't be: nobody has a seat */
 	}
 	ww_close_world_(&p->world);
 }
 
-/* Besides the spare seat threads have one that they may come to, and tasks too: so whoever waits in a queue waits for somebody. */
+/*
+ * Makes the spare seat, the first seat that threads come to, and the first that tasks come to. So whoever waits in a queue waits
+ * for somebody who has a seat.
+ */
 static int make_first_seats(struct ww_pool *p)
 {
 	p->threads.seats = p->seats;
@@ -228,7 +234,10 @@ static int make_pool(struct ww_class *c, bool has_own, struct ww_pool **made)
 		return -ENOMEM;
 	p->class_ = c;
 	p->own_seats = has_own ? MANY_OWN : 0;
-	/* Relaxed: a thread that gave a seat of a class that had this memory may read it (ww_serve), and finds nobody in the queue. */
+	/*
+	 * Relaxed: a thread that gave a seat of an earlier class in this memory may read the id (ww_serve), but finds nobody in the
+	 * queue.
+	 */
 	__atomic_store_n(&p->id, ww_new_id(), __ATOMIC_RELAXED);
 	p->tasks.id = ~p->id;
 	open_seats_of(p);
@@ -250,7 +259,7 @@ static int make_pool(struct ww_class *c, bool has_own, struct ww_pool **made)
 
 /* ---- how a class is opened ---- */
 
-/* Opening is locked. */
+/* Opens the class, unless it is open. Opening is locked. */
 static int open_now(struct ww_class *c, bool has_own)
 {
 	struct ww_pool *p = NULL;
@@ -275,10 +284,10 @@ COLD int ww_class_open_with(struct ww_class *c, bool has_own)
 	return r;
 }
 
-/* A class that says how many contexts it has has no more, so no thread has its own. */
+/* A class whose number of contexts the program sets has exactly as many, so no thread has a seat of its own there. */
 int ww_class_open(struct ww_class *c) { return ww_class_open_with(c, !c->contexts); }
 
-/* Each slot of a reader is a mutex of the class. */
+/* Each slot by which a context reads is a mutex of the class, so the class has room for these besides the keys. */
 int ww_class_open_for(struct ww_class *c, uint32_t contexts, uint32_t keys, size_t *bytes)
 {
 	uint32_t slots = contexts ? contexts : MANY_CONTEXTS + MANY_OWN;
@@ -336,7 +345,8 @@ int ww_class_crowd(struct ww_class *c, uint32_t permits)
 /* ---- how a mutex gets its number at its first lock ---- */
 
 /*
- * Other threads may lock it first too. One of them gives it its number; then `alone`, where the class was, is theirs.
+ * Several threads may lock the mutex first at the same time. One of them gives it its number, under the lock `ww_opening`. From
+ * then on `alone`, which shares the memory of `class_`, belongs to the mutex's holders.
  */
 COLD int ww_number_at_first(struct ww_mutex *m)
 {
@@ -362,7 +372,10 @@ COLD int ww_number_at_first(struct ww_mutex *m)
 	return r;
 }
 
-/* The thread that gives the mutex its number holds the lock; once it has one, the class is that of its pool. */
+/*
+ * A thread that gives the mutex its number holds the lock meanwhile. Once the mutex has a number, its class is that of its pool,
+ * since `class_` is overwritten.
+ */
 struct ww_class *ww_find_class_of(const struct ww_mutex *m)
 {
 	struct ww_class *c;
@@ -375,7 +388,10 @@ struct ww_class *ww_find_class_of(const struct ww_mutex *m)
 
 /* ---- how a class is cancelled, and freed ---- */
 
-/* Said before anybody is woken, who looks at it after that; so does the user of a seat that isn't there yet. */
+/*
+ * `ends_waits` is stored before anybody is woken, and whoever is woken looks at it after that. So does the user of a seat that
+ * isn't made yet, when it waits.
+ */
 int ww_class_cancel(struct ww_class *c)
 {
 	struct ww_pool *p;
@@ -395,7 +411,7 @@ int ww_class_cancel(struct ww_class *c)
 	return 0;
 }
 
-/* It stands here, so that a program without shared mutexes links nothing of shared.c. */
+/* Frees the slots of readers. This function stands here, so that a program without shared mutexes links nothing of shared.c. */
 static void free_slots(struct ww_pool *p)
 {
 	for (uint32_t k = 0; k < MANY_BITS; k++)
@@ -403,7 +419,10 @@ static void free_slots(struct ww_pool *p)
 			p->slots[k] = slot->next;
 }
 
-/* A thread that gave a seat may still look for a waiter to serve, but nobody is in the queues. */
+/*
+ * Frees what the class has, except its pool: a thread that gave a seat may still look there for a waiter to serve, but finds nobody
+ * in the queues.
+ */
 static void free_pool(struct ww_pool *p)
 {
 	NOTE(CLASS_FREED, .pool = p);
@@ -432,7 +451,7 @@ int ww_class_free(struct ww_class *c)
 			at = &(*at)->next;
 		*at = p->next;
 		__atomic_store_n(&c->pool, NULL, __ATOMIC_RELEASE);
-		/* In a forked child others may have been in the middle of their calls, so its memory stays as it is. */
+		/* In a child of a fork others may have been in the middle of their calls, so the memory of such a class stays as it is. */
 		if (!p->gone)
 			free_pool(p);
 	}

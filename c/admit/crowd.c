@@ -1,28 +1,28 @@
 /*
- * crowd.c - admission: while threads of a class often wait for its mutexes, which is called a crowd, only a thread
- * with a permit begins contexts of the class.  The others wait for a permit, holding nothing.  The rule:
+ * crowd.c - admission of threads. While threads of a class often wait for its mutexes, which is called a crowd, only a thread with
+ * a permit begins contexts of the class. The other threads wait for a permit, and hold nothing meanwhile. The rule:
  *
- * 1. A crowd begins by a thread that spends an eighth of its time in waits for locks and doesn't sleep elsewhere.  A
- *    thread that does sleep elsewhere needs no permit, since it leaves its processor to others.
- * 2. There is one permit at first, and at most one for each processor, unless the class says how many.  How many are
- *    best is measured (limiter.c).
- * 3. A permit lasts for a lease, in which its thread begins as many contexts as it likes.  Each thread that waits for
- *    one sleeps until its turn should come; the one that has waited longest is called for a permit that is put back.
- * 4. A crowd ends if nobody waits for a permit; if the threads of two leases on end slept elsewhere; or if a limit is of
- *    no use.  Where each thread has a processor, it is of no use if no limit is better, or if contexts are so long that
- *    fewer save no cache lines; elsewhere, if with a permit for each processor threads hardly wait for locks (where
- *    contexts are long: less than half of their time).
- * 5. After a crowd there is none for 16 ms, and each time for twice as long, up to half a second.  That starts anew after a
- *    crowd that lasted longer than that.
+ * 1. A crowd begins when a thread spends an eighth of its time in waits for locks, and doesn't sleep elsewhere, that is, outside
+ * this library. A thread that does sleep elsewhere needs no permit, since it leaves its processor to others.
+ * 2. There is one permit at first, and at most one for each processor, unless the program sets how many. How many are best is
+ * measured (limiter.c).
+ * 3. A permit lasts for a lease, in which its thread begins as many contexts as it likes. Each thread that waits for a permit
+ * sleeps until its turn should come. The thread that has waited longest is called for a permit that is put back.
+ * 4. A crowd ends if nobody waits for a permit, if the threads of two leases on end slept elsewhere, or if a limit is of no use.
+ * Where each thread has a processor, a limit is of no use if no limit is better, or if contexts are so long that fewer save no
+ * cache lines. Elsewhere a limit is of no use if with a permit for each processor threads hardly wait for locks; or, if contexts
+ * are long, less than half of their time.
+ * 5. After a crowd no crowd begins for 16 ms, and after each further one for twice as long, up to half a second. A crowd that
+ * lasted longer than half a second sets this back to 16 ms.
  *
- * Fewer contexts at a time save cache lines, which wander between processors where contexts meet, and sleeps of threads
- * whose lock's owner lost its processor.  All of it is a hint: no lock asks who has a permit, so a context that begins
- * without one, or too late, costs only time.
+ * Fewer contexts at a time save cache lines, which wander between processors where contexts meet, and sleeps of threads that wait
+ * for a lock whose owner lost its processor. All of this is a hint: no lock asks who has a permit, so a context that begins without
+ * a permit, or too late, costs only time.
  *
- *	a permit	what comes next, and by what
- *	over		taken: by a thread whose turn it is, or by who comes, if nobody waits
- *	taken		over: its lease is, and its thread begins the next context, or runs none by its own seat;
- *			or its lease has been over for GRACE, whatever its thread does
+ *	a permit	its next state, and what makes it
+ *	over		taken: by a thread whose turn it is, or by a thread that comes while nobody waits
+ *	taken		over: its lease has ended, and its thread begins its next context, or runs no context by its own seat;
+ *			or its lease ended GRACE ago, whatever its thread does
  */
 #define _GNU_SOURCE
 #include "crowd.h"
@@ -31,34 +31,37 @@
 #include <sys/resource.h>
 
 /*
- * All times are in nanoseconds.  Where two contexts meet, the cache lines that move cost about a MEETING, besides the
- * wait.  Fewer permits have to gain an eighth, which contexts can't that take longer than eight meetings.
+ * All times here are in nanoseconds. Where two contexts meet, the cache lines that move cost about a MEETING, besides the wait.
+ * Fewer permits have to gain an eighth. They can't if contexts take longer than eight meetings.
  */
 enum { MEETING = 1000, LONG_CONTEXT = 8 * MEETING };
-/* A thread sums up its waits until they reach a SAMPLE; they are many if that is one part in MANY_WAITS of its time. */
+/*
+ * A thread sums up its waits until they reach a SAMPLE. They are many if they took one part in MANY_WAITS of its time meanwhile,
+ * and few if they took less than one part in FEW_WAITS.
+ */
 enum { SAMPLE = 32000, MANY_WAITS = 8, FEW_WAITS = 128 };
-/* A thread that hasn't slept elsewhere for so many samples or leases on end counts as awake. */
+/* A thread counts as awake after so many looks on end, at samples or leases, that found that it hadn't slept elsewhere. */
 enum { AWAKE = 2 };
 /* A crowd ends once the threads of so many leases on end have slept elsewhere. */
 enum { SLEEPERS = 2 };
-/* For how long there is no crowd after one, at first and at most. */
+/* For how long no crowd begins after a crowd: at first, and at most. */
 enum { QUIET = 16000000, LONGEST_QUIET = 512000000 };
-/* For so long no lease has shown short contexts where they are long.  For half of it waits are summed up before they count. */
+/* Contexts count as long after so long without a lease that showed short ones. Waits are summed up for half of it before they count. */
 enum { LONG_WINDOW = 16000000 };
 /*
- * A thread with a permit begins so many contexts without a look at the clock, if the last ones together took less than a
- * sixteenth of its lease.
+ * A thread with a permit begins so many contexts without a look at the clock, if the contexts between its last two looks took less
+ * than a sixteenth of its lease together.
  */
 enum { MOST_BEGINS = 16 };
-/* The kernel may wake a thread so much too late, so its turn comes so much earlier. */
+/* The kernel may wake a thread so much too late, so each turn comes so much earlier. */
 enum { TIMER_SLACK = 50000 };
 /*
- * A thread may still hold locks when its lease ends, for which others wait in a row.  Its permit isn't another's for so
- * long, so that fewer threads come than that row loses.
+ * When its lease ends, a thread may still hold locks for which others wait in a row. No other thread gets its permit for so long,
+ * so that no more threads come to wait behind that row.
  */
 enum { GRACE = 16000000 };
 
-/* A time in nanoseconds. NULL, and what is centuries away, is never; what was before the clock began has come. */
+/* A time limit in nanoseconds. NULL, and a time that is centuries away, never comes; a time before the clock began has come. */
 static uint64_t nanoseconds(const struct timespec *at)
 {
 	if (!at || at->tv_sec >= (time_t)1 << 33)
@@ -69,11 +72,11 @@ static uint64_t nanoseconds(const struct timespec *at)
 /* ---- whether there is one ---- */
 
 /*
- * Of the threads that sleep, the one that has waited longest comes first, also if it has looked since: threads that were called as they
- * fell asleep would pass a thread that looked in vain, lease for lease.  A thread that doesn't sleep has been woken by its time or by a
- * call. It may have no processor for long, so the next thread is called too; but a thread that was called isn't called again before it
- * has looked, since each call is a system call under the lock.  Relaxed: a thread that is about to sleep on its word sees the new value.
- * The queue is locked.
+ * Of the threads that sleep, the one that has waited longest is woken first, also if it has looked for a permit since it came. If
+ * threads were called in the order in which they fell asleep, others would pass, lease for lease, a thread that looked in vain. A
+ * thread that doesn't sleep was woken by its time or a call, but may get no processor for long, so the next one is called, too. A
+ * thread that was called isn't called again before it has looked, since each call is a system call under the lock. The stores are
+ * relaxed: a thread that is about to sleep on its word sees the new value. The queue is locked.
  */
 void ww_call_waiting(struct ww_pool *p, bool all)
 {
@@ -87,7 +90,7 @@ void ww_call_waiting(struct ww_pool *p, bool all)
 	}
 }
 
-/* Nobody uses the class yet. */
+/* Prepares the crowd of a class that is opened, which nobody uses yet. */
 void ww_reset_crowd(struct ww_pool *p)
 {
 	struct ww_crowd *crowd = &p->crowd;
@@ -121,8 +124,8 @@ COLD static void begin_crowd(struct ww_pool *p, uint64_t now)
 }
 
 /*
- * Whether this thread has slept elsewhere since the last look.  The count of its sleeps falls if one in this library
- * ended at once, so that the thread kept its processor, and in a child of a fork, for which the system counts anew.
+ * Whether this thread has slept elsewhere since the last look. The count of sleeps elsewhere falls if a sleep in this library ended
+ * at once, so that the thread kept its processor; and in a child of a fork, for which the system counts anew.
  */
 static bool count_sleeps(void)
 {
@@ -136,7 +139,10 @@ static bool count_sleeps(void)
 	return before && (int32_t)(ww_mine.elsewhere - before) > 0;
 }
 
-/* A thread that has slept elsewhere takes some looks until it counts as awake. */
+/*
+ * Counts one more look that found the thread awake. A look that finds a sleep elsewhere makes the count -AWAKE, so it takes several
+ * looks until the thread counts as awake again.
+ */
 static void look_at_sleeps(void)
 {
 	ww_mine.awake = count_sleeps() ? -AWAKE : ww_mine.awake < AWAKE ? ww_mine.awake + 1 : AWAKE;
@@ -161,7 +167,7 @@ void ww_note_wait(struct ww_pool *p, uint64_t now, uint64_t took)
 	ww_mine.counted = now;
 }
 
-/* The queue is locked. */
+/* Ends the crowd, and calls all threads that wait for a permit. The queue is locked. */
 static void end_crowd(struct ww_pool *p, uint64_t now)
 {
 	struct ww_crowd *crowd = &p->crowd;
@@ -175,9 +181,9 @@ static void end_crowd(struct ww_pool *p, uint64_t now)
 }
 
 /*
- * What a lease of this thread has shown that is over.  Contexts are long, by the time for which it had a processor, if no
- * lease has shown short ones for a while, and it didn't mostly wait, as in a convoy of contexts that began before the
- * crowd.  The queue is locked.
+ * Learns from this thread's lease, which has ended. Contexts are long, by the time for which the thread had a processor, if no
+ * lease has shown short ones for LONG_WINDOW, and the thread didn't mostly wait in this one, as threads do in a convoy of contexts
+ * that began before the crowd. The queue is locked.
  */
 static void count_ended_lease(struct ww_crowd *crowd, const struct ww_my_permit *had, uint64_t now)
 {
@@ -193,9 +199,9 @@ static void count_ended_lease(struct ww_crowd *crowd, const struct ww_my_permit 
 }
 
 /*
- * Whether threads with permits spend as much of their time in waits as shows that a limit is of use, with one permit for
- * each processor: one part in FEW_WAITS; half of it if contexts are long, since then a limit only keeps processors idle
- * else.  The queue is locked.
+ * Whether threads with permits wait long enough for a limit to be of use when each processor has a permit: one part in FEW_WAITS of
+ * their time. If contexts are long it is half of their time, since a limit then only keeps processors idle if threads wait less.
+ * The queue is locked.
  */
 static bool sum_up_waits(struct ww_crowd *crowd, uint64_t now)
 {
@@ -208,10 +214,10 @@ static bool sum_up_waits(struct ww_crowd *crowd, uint64_t now)
 	return does;
 }
 
-/* More threads are known than run at a time, so one that is woken may not run for long. */
+/* Whether more threads are known than run at a time, so that a thread that is woken may not run for long. */
 static bool is_short_of_processors(const struct ww_pool *p) { return p->own_seats && !has_processors(p); }
 
-/* Looks at the limiter; false once that is of no use. The queue is locked. */
+/* Looks at the limiter. It returns false once a limit is of no use. The queue is locked. */
 static bool look_whether_of_use(struct ww_pool *p, uint64_t now)
 {
 	struct ww_crowd *crowd = &p->crowd;
@@ -231,7 +237,7 @@ static bool look_whether_of_use(struct ww_pool *p, uint64_t now)
 			       somebody_waits ? now : crowd->sought);
 }
 
-/* Ends the crowd if it is of no use. The queue is locked. */
+/* Looks at the crowd's limiter, and ends the crowd if a limit is of no use. The queue is locked. */
 static void look_at_crowd(struct ww_pool *p, uint64_t now)
 {
 	if (!is_crowded(p))
@@ -248,7 +254,7 @@ static bool is_over(const struct ww_permit *it, uint64_t now)
 	return now + TIMER_SLACK >= it->ends && (!runs_by(it->seat) || now >= it->ends + GRACE);
 }
 
-/* The queue is locked. */
+/* A permit that another thread may take now, or NULL. The queue is locked. */
 static struct ww_permit *find_over(struct ww_pool *p, uint64_t now)
 {
 	for (uint32_t k = 0; k < p->crowd.limiter.width && k < MANY_PERMITS; k++)
@@ -258,16 +264,19 @@ static struct ww_permit *find_over(struct ww_pool *p, uint64_t now)
 }
 
 /*
- * How long a permit lasts that is taken now.  While the limiter knows no rate yet, or tries another width, nobody knows whether that is of
- * use, so no thread is to wait long for it; then permits last an eighth.  But where there are more threads than processors, a turn is a
- * change of threads, which costs more than it may win.
+ * How long a permit lasts that is taken now. While the limiter knows no rate yet, or tries another width, nobody knows whether the
+ * width is of use. So no thread is to wait long for it, and permits last an eighth of a lease. But if there are more threads than
+ * processors, a turn is a change of threads, which costs more than short permits may win.
  */
 static uint64_t lease_of(const struct ww_pool *p)
 {
 	return (p->crowd.limiter.tries || !p->crowd.limiter.rate) && !is_short_of_processors(p) ? LEASE / 8 : LEASE;
 }
 
-/* The queue is locked. */
+/*
+ * Takes a permit for this thread, or, if the limiter has found that no limit is best, a lease without a permit. It returns false if
+ * there is neither. The queue is locked.
+ */
 static bool take_permit(struct ww_pool *p, uint64_t now)
 {
 	struct ww_permit *it = find_over(p, now);
@@ -284,9 +293,10 @@ static bool take_permit(struct ww_pool *p, uint64_t now)
 }
 
 /*
- * A permit that has been over for a while is new, or its thread has ended, so no thread that waits knows it: then one of
- * them looks.  Where there are fewer permits than processors, it finds one of these free, so it looks as soon as a permit
- * is over.  Else it had better wake by its time, once this thread has left its processor.  The queue is locked.
+ * Calls a thread that waits, if a permit has been over for a while: then the permit is new, or its thread has ended, so no waiting
+ * thread expects it. If there are fewer permits than processors, the thread that is called finds a processor free, so it is called
+ * as soon as a permit is over. Otherwise it had better wake by its time, once this thread has left its processor. The queue is
+ * locked.
  */
 static void call_one(struct ww_pool *p, uint64_t now)
 {
@@ -296,7 +306,7 @@ static void call_one(struct ww_pool *p, uint64_t now)
 		ww_call_waiting(p, false);
 }
 
-/* When a thread looks for a permit that has so many before it. The queue is locked. */
+/* When a thread should look for a permit that has so many threads before it. The queue is locked. */
 static uint64_t turn_of(const struct ww_pool *p, uint64_t now, uint64_t place)
 {
 	uint32_t width = p->crowd.limiter.width;
@@ -309,8 +319,9 @@ static uint64_t turn_of(const struct ww_pool *p, uint64_t now, uint64_t place)
 }
 
 /*
- * Waits for a permit, at most until this time.  So many had come before this thread; of all that came some don't wait any
- * more, and the others before it decide when it looks.  The queue is locked, but while it sleeps.
+ * Waits for a permit, at most until this time. The thread looks later if more threads are before it. `before` threads had come
+ * before it; of all that have come by now, those that don't wait any more are counted as having been before it. The queue is
+ * locked, except while the thread sleeps.
  */
 static void wait_for_permit(struct ww_pool *p, uint64_t now, uint64_t until, bool heeds)
 {
@@ -345,8 +356,8 @@ static void wait_for_permit(struct ww_pool *p, uint64_t now, uint64_t until, boo
 }
 
 /*
- * The lease of this thread's last permit is over; those that wait come before it gets another.  It is refused if its time came first,
- * while there is a crowd.
+ * Puts back this thread's last permit, whose lease is over, and takes a new one. Threads that wait come before it. `refused`
+ * becomes true if the time limit came first, while there is a crowd.
  */
 COLD static bool find_permit(struct ww_pool *p, uint64_t until, bool heeds, bool *refused)
 {
@@ -359,7 +370,7 @@ COLD static bool find_permit(struct ww_pool *p, uint64_t until, bool heeds, bool
 	pthread_mutex_lock(&p->queue);
 	if (had_one)
 		count_ended_lease(&p->crowd, &had, now);
-	if (had_one && had.it->ends == had.ends) /* nobody has taken it since */
+	if (had_one && had.it->ends == had.ends) /* no other thread has taken it since */
 		*had.it = (struct ww_permit){ .ends = now };
 	ww_mine.permit = (struct ww_my_permit){ .id = p->id };
 	look_at_crowd(p, now);
@@ -369,15 +380,18 @@ COLD static bool find_permit(struct ww_pool *p, uint64_t until, bool heeds, bool
 		wait_for_permit(p, now, until, heeds);
 	*refused = waits && is_crowded(p) && !ww_mine.permit.ends;
 	pthread_mutex_unlock(&p->queue);
-	(void)count_sleeps(); /* a sleep for the lock doesn't count */
+	(void)count_sleeps(); /* a sleep for the lock of the queue doesn't count as one elsewhere */
 	ww_mine.permit.ran = ww_mine.ran;
 	return waits && now < until;
 }
 
-/* Whether this thread already runs a context by its own seat: others may wait for what that holds. */
+/*
+ * Whether this thread already runs a context by its own seat. Then it needs no permit, since others may wait for what that context
+ * holds.
+ */
 static bool has_another(const struct ww_pool *p) { return runs_by(own_seat(p)); }
 
-/* This thread's lease isn't over. */
+/* Begins one more context in this thread's lease, which isn't over; and looks at the crowd, if that is due. */
 static void goes_on(struct ww_pool *p, uint64_t now)
 {
 	ww_mine.permit.begins = now - ww_mine.permit.seen < ww_mine.permit.brief ? MOST_BEGINS : 0;

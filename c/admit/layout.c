@@ -1,6 +1,6 @@
 /*
- * layout.c - where a debugger finds what.  install/libww-gdb.py reads this table, and so knows no offset itself.  The table lies in a
- * section of its own, which is allocated: so it stays in a stripped program or library.
+ * layout.c - where a debugger finds what: install/libww-gdb.py reads this table, and so knows no offset itself. The table lies in a
+ * section of its own, which is allocated, so it stays in a stripped program or library.
  */
 #include "claim.h"
 
@@ -10,7 +10,7 @@
 
 const struct ww_layout {
 	struct ww_open *const *open; /* the list of open classes */
-	struct ww_mine *const *owners; /* of each thread's own seats */
+	struct ww_mine *const *owners; /* the owners of the threads' own seats */
 	struct {
 		char name[28];
 		uint32_t is;

@@ -1,37 +1,38 @@
 /*
- * queue.c - who finds no seat free: how they wait, how they are called and served, and what ends their waits.
+ * queue.c - threads and tasks that found no seat free: how they wait, how they are called and served, and what ends their waits.
  *
- * Threads and tasks that wait are of one kind (struct ww_seek).  A thread's waker is there until it is called; a task may
- * take its own back, and polls then, which leaves another one.  What is done with a waiter is the same in both cases: the
- * waker that isn't there is nobody's, and the poll finds what was done.
+ * Threads and tasks that wait are of one kind (struct ww_seek). A thread's waker stays until the thread is served. A task may take
+ * its own waker back; then it polls, which leaves another waker. Whatever is done with the waiter meanwhile, no waker is called,
+ * and the poll finds what was done. The states of a waiter:
  *
- *	served_		its waker is		what comes next, and by what
- *	WAITS		there, or taken back	CALLED: a task's, the first of these, for a seat that was given (call_next)
- *						SERVED: a seat is handed to it (ww_serve, ww_hands_over), or NULL, which
- *						ends its wait (ww_end_seeking, ww_poll_seat)
- *						out of its line: it gives up (ww_leave_queue)
- *	CALLED		called, or taken back	SERVED: its poll finds a seat, or its wait ends there
- *						WAITS, before all: its poll finds none
- *						WAITS, behind all: it hasn't polled for a lease, and another is CALLED for its
- *						seat (pass_on_late)
- *						out of its line, likewise
- *	SERVED		called, or taken back	it stands in no line any more: seat_ is its own, or its wait has ended
+ *	served_		its waker is		its next state, and what makes it
+ *	WAITS		there, or taken back	CALLED: the first of all tasks that wait, for a seat that was given (call_next)
+ *						SERVED: a seat is handed to the waiter (ww_serve, ww_hands_over), or NULL,
+ *						which ends its wait (ww_end_seeking, ww_poll_seat)
+ *						out of its line: the waiter gives up (ww_leave_queue)
+ *	CALLED		called, or taken back	SERVED: the task's poll finds a seat, or its wait ends there
+ *						WAITS, before all: the task's poll finds no seat
+ *						WAITS, behind all: the task hasn't polled for a lease, and another task is
+ *						CALLED for its seat (pass_on_late)
+ *						out of its line: the task gives up (ww_leave_queue)
+ *	SERVED		called, or taken back	the waiter stands in no line; seat_ is its own, or its wait has ended
  *
- * Those that are CALLED stand in a line of their own, in the order of their calls.  So whoever gives a seat finds the next one that
- * WAITS at once, and whoever comes to wait finds at once which call has lasted longest.  A task is CALLED for one seat, and for each seat
- * at most one task is CALLED, as the pool's `called` says.  If a CALLED task gives up, another one is CALLED for that seat.  If a CALLED
- * task's loop is busy, others go on without it: after a lease whoever gives its seat, or comes to wait for any, passes its call on.
+ * The tasks that are CALLED stand in a line of their own, in the order of their calls. So whoever gives a seat finds the next task
+ * that WAITS at once, and whoever comes to wait finds at once which call has lasted longest. A task is CALLED for one seat, and for
+ * each seat at most one task is CALLED, as the pool's `called` says. If a CALLED task gives up, another task is CALLED for that
+ * seat. If the loop of a CALLED task is busy, others go on without the task: after a lease, whoever gives its seat, or comes to
+ * wait for any, passes its call on.
  *
- * Each change is made under the lock `queue`, and wakers are called after it.
- * tests/admit/seats_model.py tries all that tasks may do by this table and that of seats at the head of seat.c.
+ * Each change is made under the lock `queue`, and wakers are called after that. tests/admit/seats_model.py tries all that tasks may
+ * do by this table and that of seats at the head of seat.c.
  */
 #define _GNU_SOURCE
 #include "queue.h"
 #include "../base/sleep.h"
 
-/* So many contexts of tasks are counted at least: those that await a timer take long, and differ little. */
+/* A window of the tasks' limiter counts at least so many contexts: contexts that await a timer take long, and differ little. */
 enum { COUNTED = 32 };
-/* If nobody has waited for so long, in nanoseconds, what comes may be another load. */
+/* If nobody has waited for so many nanoseconds, the tasks that wait next may be another load. */
 enum { ANOTHER_LOAD = 16000000 };
 
 /* ---- who waits, and gets a seat ---- */
@@ -40,10 +41,10 @@ enum { ANOTHER_LOAD = 16000000 };
 static void wake_seeker(void *nothing, void *served)
 {
 	(void)nothing;
-	ww_futex_wake(served); /* uses only the address: the thread may have ended */
+	ww_futex_wake(served); /* passes on the address alone: the thread may have ended */
 }
 
-/* Takes the waker of one that waits, which is then called at most once. The queue is locked. */
+/* Takes a waiter's waker, so that it is called at most once. The queue is locked. */
 static struct ww_waker take_waker(struct ww_seek *it)
 {
 	struct ww_waker waker = it->waker_;
@@ -52,15 +53,15 @@ static struct ww_waker take_waker(struct ww_seek *it)
 	return waker;
 }
 
-/* Notes until when the task that was called for this seat may come; 0: none is called for it any more. The queue is locked. */
+/* Notes until when the task that was called for this seat may come; 0: no task is called for the seat any more. The queue is locked. */
 static void note_call(const ww_seat *s, uint64_t until)
 {
 	__atomic_store_n(&s->pool->called[s - s->of->seats], until, __ATOMIC_SEQ_CST);
 }
 
 /*
- * Puts a waiter at this place into the line of those that wait, or into that of those that were called.  The queue is locked.  The
- * store is relaxed, since a waiter asks without the lock only whether it is served.
+ * Puts a waiter at this place into a line: `which` is WAITS or CALLED. The queue is locked. The store of served_ is relaxed, since
+ * a waiter that doesn't lock the queue asks only whether it is SERVED.
  */
 static void put_into(struct ww_seats *of, uint32_t which, struct ww_seek **at, struct ww_seek *it)
 {
@@ -74,7 +75,7 @@ static void put_into(struct ww_seats *of, uint32_t which, struct ww_seek **at, s
 	__atomic_store_n(&it->served_, which, __ATOMIC_RELAXED);
 }
 
-/* Takes a waiter out of its line, and returns the seat for which it was called, or NULL. The queue is locked. */
+/* Takes a waiter out of its line, and returns the seat for which the waiter was called, or NULL. The queue is locked. */
 static ww_seat *take_out(struct ww_seats *of, struct ww_seek *it)
 {
 	bool is_called = it->served_ == CALLED;
@@ -92,7 +93,7 @@ static ww_seat *take_out(struct ww_seats *of, struct ww_seek *it)
 	return is_called ? it->seat_ : NULL;
 }
 
-/* Calls the first one that waits, if there is one, to look for a seat, at this one first. The queue is locked. */
+/* Calls the first task that waits, if there is one, to come and look for a seat, first at this one. The queue is locked. */
 static struct ww_waker call_next(struct ww_seats *of, ww_seat *s, uint64_t now)
 {
 	struct ww_seek *it = of->lines[WAITS].first;
@@ -107,8 +108,8 @@ static struct ww_waker call_next(struct ww_seats *of, ww_seat *s, uint64_t now)
 }
 
 /*
- * If the task that was called first hasn't come for a lease, the first one that waits is called for its seat instead, if there is
- * one, and the task that didn't come waits behind all.  The queue is locked.
+ * If the task that was called first hasn't come for a lease, the first task that waits, if there is one, is called for the same
+ * seat instead, and the late task waits behind all. The queue is locked.
  */
 static struct ww_waker pass_on_late(struct ww_seats *of, uint64_t now)
 {
@@ -123,8 +124,9 @@ static struct ww_waker pass_on_late(struct ww_seats *of, uint64_t now)
 }
 
 /*
- * A waiter gets the seat, or NULL, which ends its wait; it may not exist any more then.  Returns its waker; or if it was called for
- * another seat, which calls the next one, the waker of that.  The queue is locked; a waiter looks without the lock whether it is served.
+ * Serves a waiter with the seat, or with NULL, which ends its wait. The waiter may not exist any more after the store, since it
+ * looks without the lock whether it is SERVED. Returns the waker to call: the waiter's; or, if the waiter was a task that had been
+ * called for another seat, the waker of the next task, which is called for that seat. The queue is locked.
  */
 static struct ww_waker hand_to(struct ww_seats *of, struct ww_seek *it, ww_seat *s)
 {
@@ -137,7 +139,7 @@ static struct ww_waker hand_to(struct ww_seats *of, struct ww_seek *it, ww_seat 
 	return was_for && was_for != s ? call_next(of, was_for, ww_now()) : waker;
 }
 
-/* Whether a seat that is free, or given, is for those that wait. The queue is locked. */
+/* Whether a seat that is free, or given now, may go to those that wait for this array's seats. The queue is locked. */
 static bool is_for(const struct ww_seats *of, const ww_seat *s)
 {
 	const struct ww_pool *p = of->pool;
@@ -146,8 +148,8 @@ static bool is_for(const struct ww_seats *of, const ww_seat *s)
 }
 
 /*
- * Others may have freed the class since then. In a forked child nobody waits.  A seat of tasks that may be claimed from now on is made
- * first, so that who is called for it finds it.
+ * By now other threads may have freed the class, which its id shows. In a child of a fork nobody waits. A seat of tasks that may be
+ * claimed only from now on is made before a task is called, so that the task finds it.
  */
 COLD void ww_serve(struct ww_seats *of, uint64_t id, ww_seat *s, uint64_t now)
 {
@@ -169,7 +171,7 @@ COLD void ww_serve(struct ww_seats *of, uint64_t id, ww_seat *s, uint64_t now)
 
 /* ---- seats of tasks ---- */
 
-/* How often the seats that may be claimed were given, in all. The queue is locked. */
+/* How often, in all, the seats were given that may be claimed now. The queue is locked. */
 static uint32_t given(const struct ww_seats *of)
 {
 	uint32_t sum = 0;
@@ -179,7 +181,7 @@ static uint32_t given(const struct ww_seats *of)
 	return sum;
 }
 
-/* How many may begin is measured anew. */
+/* The limiter begins with EACH_TASKS contexts for each processor, and measures anew how many are best. */
 void ww_reset_task_limiter(struct ww_seats *of)
 {
 	uint32_t first = EACH_TASKS * processors_of(of->pool);
@@ -188,10 +190,13 @@ void ww_reset_task_limiter(struct ww_seats *of)
 }
 
 /*
- * Looks how many seats may be claimed; tasks that wait are called for those that may from now on, all at once, since it is
- * measured from now on what so many do.  What was found for one load isn't for the next: the limiter is opened anew once nobody
- * has waited for long.  Where another number is tried it has just begun to count, and counts givings of so many seats.  So many more
- * contexts are suspended, `more`: these don't count among those that the limiter allows, so for each there is one seat more.
+ * Looks how many seats may be claimed; and notes that so many more contexts are suspended, `more`. The limiter's width doesn't
+ * count suspended contexts, so for each of them one seat more may be claimed.
+ *
+ * If more seats may be claimed from now on, tasks are called for all of these at once, since from now on the limiter measures what
+ * so many contexts do. If nobody has waited for long, the limiter begins anew, since what was best for one load isn't for the next
+ * one. The limiter counts how often the open seats were given; so if their number changes, its count at the begin of the window
+ * changes, too.
  */
 COLD static void look_at_limiter(struct ww_seats *of, uint64_t now, uint32_t more)
 {
@@ -234,8 +239,8 @@ void ww_note_suspended(struct ww_seats *of, uint32_t more)
 }
 
 /*
- * By now nobody may wait for a seat, as there is one for each task; then those that wait for locks look whether fewer
- * would do more.
+ * The limiter is mostly looked at by those that give seats while others wait. If there is a seat for each task, nobody waits for a
+ * seat. Then the tasks that have waited for locks look whether fewer contexts would get more done.
  */
 COLD void ww_note_task_wait(const ww_seat *s)
 {
@@ -244,8 +249,8 @@ COLD void ww_note_task_wait(const ww_seat *s)
 }
 
 /*
- * While tasks wait the seat, whose user is through, is handed to the one that was called first, or else to the first that waits, if its
- * lease is over.
+ * The seat goes to the task that was called first, if one is called, and else to the first task that waits. It may be another seat
+ * than the one for which that task was called.
  */
 bool ww_hands_over(struct ww_seats *of, ww_seat *s, uint64_t now)
 {
@@ -270,7 +275,7 @@ bool ww_hands_over(struct ww_seats *of, ww_seat *s, uint64_t now)
 
 /* ---- waits of tasks ---- */
 
-/* Any that may be claimed and is free, or the next one, which wasn't made yet. The queue is locked. */
+/* Claims any seat that is free and may be claimed, or makes the next one. The queue is locked. */
 static ww_seat *claim_or_make(struct ww_seats *of)
 {
 	ww_seat *s = ww_claim_any(of);
@@ -279,8 +284,8 @@ static ww_seat *claim_or_make(struct ww_seats *of)
 }
 
 /*
- * A task that was called waits again, before all, and then looks for a seat: the one for which it was called, and only where all that
- * waited were called any other, since else each seat that is free has a call of its own.  The queue is locked.
+ * A task that was called waits again, before all others, and then looks for a seat: first the one for which it was called. It looks
+ * for any other seat only if no task WAITS, since otherwise a task is called for each seat that is free. The queue is locked.
  */
 static void look_for_seat(struct ww_seats *of, struct ww_seek *me)
 {
@@ -303,7 +308,7 @@ bool ww_poll_seat(struct ww_seek *me, const struct ww_waker *otherwise)
 	struct ww_waker waker = { 0 };
 	bool served;
 
-	/* Then it isn't in the queue any more, and nobody writes it. */
+	/* a waiter that was served isn't in the queue, so nobody writes it any more */
 	if (__atomic_load_n(&me->served_, __ATOMIC_ACQUIRE) == SERVED)
 		return true;
 	pthread_mutex_lock(&p->queue);
@@ -345,7 +350,10 @@ bool ww_leave_queue(struct ww_seek *me)
 
 /* ---- how a wait begins ---- */
 
-/* One that comes behind another that waits finds only seats that are for others.  A task without a waker is about to leave. */
+/*
+ * A waiter that comes behind another one finds only seats that are meant for others, so it doesn't look. A waiter without a waker
+ * is about to leave, so its wait isn't counted.
+ */
 bool ww_queue_up(struct ww_seek *me)
 {
 	struct ww_seats *of = me->of_;
@@ -379,8 +387,8 @@ bool ww_queue_up(struct ww_seek *me)
 }
 
 /*
- * Nobody hands a thread its own seat.  So one whose own is in use, maybe by a context with which another thread goes on,
- * looks at that from time to time.
+ * Sleeps until this thread is served, or until the time limit. Nobody hands a thread its own seat. So if the thread's own seat is
+ * in use, maybe by a context with which another thread goes on, the thread wakes after a lease to look at that seat.
  */
 static void sleep_until(struct ww_seek *me, const ww_seat *own, const struct timespec *until)
 {
@@ -416,7 +424,7 @@ COLD int ww_seek_seat(struct ww_pool *p, const struct timespec *until, bool heed
 
 /* ---- the end of all waits ---- */
 
-/* A waker is called with nothing locked. */
+/* Each waker is called while nothing is locked, and the search for the next waiter begins anew, since the queue may have changed. */
 void ww_end_seeking(struct ww_seats *of)
 {
 	struct ww_pool *p = of->pool;

@@ -1,64 +1,63 @@
 /*
- * seat.c - seats: each thread's own, and those that anybody may use.  Who finds none of these free waits in a
- * queue (queue.c).  Who asks for a seat, and where it looks, from left to right:
+ * seat.c - seats: each thread's own, and those that anybody may use. Whoever finds no seat free waits in a queue (queue.c). The
+ * table says who asks for a seat, and where it looks, from left to right:
  *
- *	who asks			its own		its last one	any			waits
- *	a begin				seat_at_hand	claim_last	ww_own_or_any		ww_seek_seat
+ *	who asks			its own		its last one	any				waits
+ *	a begin				seat_at_hand	claim_last	ww_own_or_any			ww_seek_seat
  *		in a crowd		use_own		-		ww_own_or_any, by a permit	ww_await_permit, ww_seek_seat
- *		with a time		-		-		ww_own_or_any		ww_seek_seat
- *	a lock without a context	seat_at_hand	claim_last	any_seat		ww_seek_seat
- *	a trylock without one		seat_at_hand	claim_last	any_seat		-
- *	a begin by a poll		-		claim_last	ww_task_seat		ww_queue_up
- *		within another		-		-		ww_task_seat, all	ww_queue_up
+ *		with a time limit	-		-		ww_own_or_any			ww_seek_seat
+ *	a lock without a context	seat_at_hand	claim_last	any_seat			ww_seek_seat
+ *	a trylock without one		seat_at_hand	claim_last	any_seat			-
+ *	a begin by a poll		-		claim_last	ww_task_seat			ww_queue_up
+ *		within another context	-		-		ww_task_seat, all		ww_queue_up
  *
- * ww_own_or_any, as any_seat, comes first to the thread's own, and to others only if no thread waits; ww_task_seat comes to
- * others than the thread's last one only if no task waits that wasn't called.  All of these are looked at once, and once more
- * under the lock of the queue by who comes to wait.  A begin that doesn't wait, and a trylock, come to the queue and leave it at once.  In a crowd no seat
- * is at hand, so that each begin asks for a permit; then claim_last finds none either.  Who waits while its own seat is in use
- * looks at that from time to time, since nobody hands it on.
+ * ww_own_or_any and any_seat come first to the thread's own seat, and to other seats only if no thread waits. ww_task_seat comes to
+ * other seats than the thread's last one only if no thread waits, and no task that wasn't called. All these look once, without the
+ * lock of the queue; whoever comes to wait looks once more under that lock. A begin that doesn't wait, and a trylock, enter the
+ * queue and leave it at once. In a crowd no seat is at hand, so each begin asks for a permit; nor does claim_last find any. A
+ * thread that waits while its own seat is in use looks at that seat from time to time, since nobody hands it on.
  *
- * Seats are made when they are first needed (claim.c): a thread's own one before ww_own_or_any looks for it the first time, and the next
- * one of those for anybody where none that was made is free.  So who waits has found all of them made, and in use, unless memory was
+ * Seats are made when they are first needed (claim.c): a thread's own seat before ww_own_or_any first looks for it, and the next
+ * seat for anybody when no seat that was made is free. So whoever waits has found all seats made and in use, unless memory was
  * refused.
  *
- * A seat is its user's while it is BUSY.  In each class MANY_OWN seats are threads' own, and from the first on have the bit IS_OWN:
- * nobody comes to use one but its thread, which does so without a read-modify-write.  So `busy` goes:
+ * A seat is its user's while it is BUSY. In each class MANY_OWN seats are threads' own. These have the bit IS_OWN from the first
+ * on: only its thread comes to use such a seat, and does so without a read-modify-write. The states of `busy`, with the names of
+ * crates/ww_protocols in brackets:
  *
- *	busy		whose		what comes next, and by what
- *	0		nobody's	BUSY: any thread uses it, by an exchange that finds it so (claims)
- *	BUSY		its user's	0: the user is through, by an exchange (gives); then it looks who waits
- *					BUSY: or a task that waits is handed it, under the lock (goes_over; ww_hands_over)
- *	IS_OWN		its thread's	BUSY, IS_OWN: that uses it, by a load and a store (finds_own_free, uses_own)
- *	BUSY, IS_OWN	its user's	IS_OWN: the user is through, whichever thread that is, by a store (returns_own)
+ *	busy		whose		its next value, and what makes it
+ *	0		nobody's	BUSY: any thread comes to use it, by an exchange that finds 0 (claims)
+ *	BUSY		its user's	0: the user is through, by an exchange (gives), and then looks who waits
+ *					BUSY: a task that waits is handed it, under the lock (goes_over; ww_hands_over)
+ *	IS_OWN		its thread's	BUSY, IS_OWN: its thread comes to use it, by a load and a store (finds_own_free, uses_own)
+ *	BUSY, IS_OWN	its user's	IS_OWN: the user is through, in whichever thread, by a store (returns_own)
  *
- * So two threads never use one seat.  Of a thread's own: only that sets BUSY, and only its user clears it, so nothing
- * changes between the thread's load that finds IS_OWN alone and its store; and it is one thread's at a time, under a lock
- * (takes_own, by ww_take_own; leaves_own, as the thread ends).  Of others: of the exchanges that find it free one is the
- * first; it may be made for another thread, which is taken out of the queue for it (ww_serve).
+ * So two threads never use one seat. Of a thread's own seat: only the thread sets BUSY, and only the user clears it, so nothing
+ * changes between the thread's load that finds IS_OWN alone and its store. The seat is one thread's at a time, under a lock
+ * (takes_own, by ww_take_own; leaves_own, when the thread ends). Of any other seat: of all exchanges that might find it free, one
+ * is the first. That exchange may be made for another thread, which it takes out of the queue (ww_serve).
  *
- * Whoever finds no seat free waits in a queue.  Threads get seats in turn: while one waits nobody else begins, and a
- * seat that is given is handed to the one that has waited longest.  Tasks have a part of the seats, of which as many may be
- * claimed as limiter.c finds; unless the class says how many contexts it has: then they are in the one queue with threads.
- * Handing each of their seats on would make each context a change of tasks.  So while tasks wait, a seat's lease decides
- * what comes next, once its user is through:
+ * Threads get seats in turn: while one waits, nobody else begins, and a seat that is given is handed to the thread that has waited
+ * longest. Tasks have a part of the seats, of which as many may be claimed as limiter.c finds best. If the program sets how many
+ * contexts the class has, tasks wait in the one queue with threads. If each seat that a task gives were handed on, each context
+ * would cost a change of tasks. So while tasks wait, the lease of a seat decides what comes next when its user is through:
  *
- *	its lease is over	it is handed to a task that waits, and has another lease (ww_hands_over)
- *	else			it is given: the loop that gave it may use it again, and a task is called for it, unless one was
+ *	its lease is over	the seat is handed to a task that waits, and has another lease (ww_hands_over)
+ *	else			the seat is given: the loop that gave it may use it again; and a task is called for it, unless one is
  *
- * What becomes of a waiter is at the head of queue.c.
+ * The table of what becomes of a waiter is at the head of queue.c.
  *
- * So if nobody is in a call, none of the seats that may be claimed is free while a thread waits; and while a task waits that wasn't
- * called, another task was called for each seat that is free: a task that drops its call has looked at that seat, and a task that
- * leaves passes its call on.  tests/admit/seats_model.py tries all that tasks may do by these tables, and the search of schedules
+ * So if nobody is in a call, none of the seats that may be claimed is free while a thread waits. While a task waits that wasn't
+ * called, another task is called for each seat that is free: a task that gives up its call has looked at that seat, and a task that
+ * leaves passes its call on. tests/admit/seats_model.py tries all that tasks may do by these tables, and the search of schedules
  * asks that of the sources.
  *
- * crates/ww_protocols proves that two never use one seat, and that none is free where the paragraph above excludes it, of
- * such steps in any order, by the names in brackets; in the search each access of a `busy` has to be one of them
- * (tests/search/seats.c).
+ * crates/ww_protocols proves, of such steps in any order, that two never use one seat, and that none is free where the paragraph
+ * above excludes it. In the search each access of a `busy` has to be one of these steps (tests/search/seats.c).
  *
- * The next user sees what a user wrote in the seat.  A thread's own: the store of IS_OWN releases; the thread's load
- * (use_own), and the load by the thread that frees the class, acquire.  Else all is sequentially consistent, so one of
- * these two sees the other:
+ * The next user of a seat sees what the one before wrote in it. Of a thread's own seat: the store of IS_OWN releases; the thread's
+ * load (use_own) acquires, and so does the load of the thread that frees the class. Of any other seat: all accesses are
+ * sequentially consistent, so one of these two sees the other:
  *
  *	a user that is through (ww_return_seat)	one that seeks a seat (ww_queue_up, look_for_seat)
  *	busy = 0				seekers++, or the seat's called = 0
@@ -72,14 +71,20 @@ const struct timespec ww_no_wait;
 
 /* ---- who asks for a seat ---- */
 
-/* Before this thread asks for a seat: another copy of the library may have opened the class; and the thread needs a number. */
+/*
+ * Comes before this thread asks for a seat of the class: another copy of the library may have opened the class, which ends the
+ * program, and the thread needs a number.
+ */
 static void prepare_thread(struct ww_pool *p)
 {
 	of_this_copy_alone(p);
 	ww_number_thread();
 }
 
-/* In this class, too; if memory is refused, the next call tries it again, and this one asks for any seat. */
+/*
+ * Makes this thread's own seat in the class, unless it was made. If memory is refused, this call goes on to any seat, and the
+ * thread's next one tries again.
+ */
 static void make_own(struct ww_pool *p)
 {
 	ww_seat *own = own_seat(p);
@@ -91,7 +96,7 @@ static void make_own(struct ww_pool *p)
 	pthread_mutex_unlock(&p->queue);
 }
 
-/* The same; and it comes to have seats of its own, if it may. */
+/* Comes before this thread asks for a seat, and gives the thread seats of its own, if it may have them. */
 static void prepare_thread_with_own(struct ww_pool *p)
 {
 	prepare_thread(p);
@@ -101,7 +106,7 @@ static void prepare_thread_with_own(struct ww_pool *p)
 	}
 }
 
-/* In a forked child there is none for a lock without a context. */
+/* Claims this thread's own seat, or any. In a child of a fork a class that was in use gives none. */
 COLD static ww_seat *any_seat(struct ww_pool *p)
 {
 	prepare_thread_with_own(p);
@@ -115,7 +120,10 @@ ww_seat *ww_other_seat(struct ww_pool *p)
 	return LIKELY(s) ? s : any_seat(p);
 }
 
-/* Who looks at one after the other may miss one that is free at any time, so it looks again in the queue, and leaves. */
+/*
+ * A thread that looks at one seat after the other may miss each time the seat that is free. So it looks once more as a waiter in
+ * the queue, whom any thread that gives a seat would serve, and leaves the queue.
+ */
 ww_seat *ww_free_seat(struct ww_pool *p)
 {
 	struct ww_seek me = { .of_ = &p->threads };
@@ -124,7 +132,7 @@ ww_seat *ww_free_seat(struct ww_pool *p)
 	return LIKELY(s) || p->gone ? s : ww_queue_up(&me) || !ww_leave_queue(&me) ? me.seat_ : NULL;
 }
 
-/* In a crowd none is at hand, nor the last one. */
+/* In a crowd neither the thread's own seat is at hand, nor the one that it used last. */
 ww_seat *ww_seat_to_begin(struct ww_pool *p)
 {
 	ww_seat *own = is_crowded(p) ? own_seat(p) : NULL;
@@ -153,8 +161,9 @@ int ww_await_seat_to_begin(struct ww_pool *p, const struct timespec *until, bool
 }
 
 /*
- * A seat for a task, which has none of its own.  While others wait, it comes back only to the seat that this thread gave last, if that is
- * free: so a loop's tasks use its seats one after another, without a change of loops.  Within another context it gets any.
+ * A task has no seat of its own. While others wait, it comes back only to the seat that this thread gave last, if that is free: so
+ * the tasks of one loop use its seats one after another, without a change of loops. A task that has a context already gets any
+ * seat, since the waiters may wait for it.
  */
 ww_seat *ww_task_seat(struct ww_pool *p, bool is_within)
 {
@@ -177,13 +186,16 @@ ww_seat *ww_task_seat(struct ww_pool *p, bool is_within)
 
 /* ---- seats that are given ---- */
 
-/* Whether a task is to be called for a seat: none was called, or the one that was hasn't come for a lease. */
+/* Whether a task is to be called for a seat: no task is called for it, or the one that was called hasn't come for the time of a lease. */
 static bool needs_call(const uint64_t *called, uint64_t now)
 {
 	return now >= __atomic_load_n(called, __ATOMIC_SEQ_CST);
 }
 
-/* One that rests, which it may only for a thread whose own it is; or of tasks: by its user, a task or a thread. */
+/*
+ * Gives a seat of tasks, or a seat whose contexts share an age. Only a thread's own seat may rest between two contexts, so this
+ * one's rest ends.
+ */
 static __attribute__((noinline)) void return_otherwise(ww_seat *s)
 {
 	struct ww_seats *of = s->of, *threads = &s->pool->threads;
