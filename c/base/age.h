@@ -1,5 +1,5 @@
 /*
- * age.h - the ages of contexts, which decide collisions.  It isn't installed.
+ * age.h - the ages of contexts, which decide collisions. It isn't installed.
  *
  * The age of a context is the timestamp that its seat has in the proved library. Drawing a timestamp changes a word that all
  * threads of the class share. So if a context runs in a loop, and no other context got in its way, then its end leaves the proved
@@ -37,7 +37,7 @@ static inline void note_meeting(ww_seat *s)
 	__atomic_store_n(&s->met.target, 0, __ATOMIC_RELAXED);
 }
 
-/* Its context has ended in the proved library, too. */
+/* Notes that the seat's context has ended in the proved library, too. */
 static inline void forget_age(ww_seat *s)
 {
 	s->ages = 0;
@@ -53,7 +53,7 @@ static inline void stop_rest(ww_seat *s)
 	}
 }
 
-/* In the debug library each context has an age of its own. */
+/* Lets further contexts of the seat have the age of the present one. In the debug library each context has an age of its own. */
 static inline void share_age(ww_seat *s)
 {
 #ifndef WW_DEBUG
@@ -64,7 +64,7 @@ static inline void share_age(ww_seat *s)
 #endif
 }
 
-/* The seat's context ends: in the proved library, too, unless the next context is to have the same age. */
+/* Ends the seat's context: in the proved library, too, unless the next context is to have the same age. */
 static inline void leave_age(ww_seat *s)
 {
 	if (LIKELY(!s->ages))

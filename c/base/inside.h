@@ -28,13 +28,13 @@ static inline void __tsan_release(void *at) { (void)at; }
 
 struct ww_pool;
 
-/* Of a context that has met another, from then on: see age.h, and why.c. */
+/* What is counted for a context since it met another one: see age.h, and why.c. */
 struct ww_met {
-	uint64_t label;		  /* the program's */
-	uint64_t waits, back_offs; /* how many its seat had counted by then */
-	uint64_t waited;	  /* for how long its threads have waited since, in nanoseconds */
-	uint32_t target;	  /* the number of the mutex for which it waits, or asked last in vain, plus 1; or 0 */
-	uint32_t lock;		  /* of which lock that call came to wait: of that mutex, or a slot's */
+	uint64_t label;		  /* the program's label of the context */
+	uint64_t waits, back_offs; /* how many waits and back-offs its seat had counted when it met the other one */
+	uint64_t waited;	  /* how many nanoseconds its threads have waited since */
+	uint32_t target;	  /* the number of the mutex for which it waits, or last asked in vain, plus 1; or 0 */
+	uint32_t lock;		  /* the number of the lock for which that call came to wait: that mutex's, or a slot's */
 };
 
 /*
@@ -45,21 +45,21 @@ struct ww_met {
 typedef struct ww_seat {
 	ww_handle handle;
 	uint32_t token;		/* the futex word on which the seat's user sleeps: see sleep.c */
-	uint32_t busy;		/* who has the seat: see seat.c */
-	struct ww_pool *pool;	/* the class that has it */
+	uint32_t busy;		/* whose the seat is: see seat.c */
+	struct ww_pool *pool;	/* the class that the seat belongs to */
 	struct ww_seats *of;	/* the array of seats that it belongs to */
-	uint8_t ages;		/* see age.h */
+	uint8_t ages;		/* how many contexts may share the present age: see age.h */
 	uint8_t asks;		/* what the suspended poll of its context asks for: see context.h */
-	uint32_t given;		/* one of tasks: how often its user was through with it */
+	uint32_t given;		/* of a seat of tasks: how often its user was through with it */
 	struct ww_slot *slot;	/* the reader slot of its user: see shared.c; or NULL */
 	struct ww_mutex *asked;	/* the mutex that the suspended poll asks for */
 	uint64_t waits __attribute__((aligned(64))), back_offs; /* how often its users waited and backed off, in all */
 	struct ww_waker waker;	/* the waker of the present wait */
 	uint32_t armed;		/* how many waits its users had that left a waker */
 	uint32_t awaits;	/* the number of the lock that its user waits for, plus 1; or 0: a hint */
-	uint64_t lease;		/* a task's seat: until then anybody claims it; then the queue's first gets it */
+	uint64_t lease;		/* of a seat of tasks: until then anybody may claim it; later it is handed to a task that waits */
 	uint64_t user;		/* the number of the thread that last locked without a context from this seat */
-	uint64_t ticket __attribute__((aligned(64))); /* of the value by which its context is suspended, or 0: see retry.c */
+	uint64_t ticket __attribute__((aligned(64))); /* the ticket of the value by which its context is suspended, or 0: see retry.c */
 	uint32_t told;		/* the number of the mutex at which its user's last -EDEADLK came, */
 	uint32_t puts;		/* and how often that number had been put back by then */
 	struct ww_met met;
@@ -68,8 +68,8 @@ typedef struct ww_seat {
 #define WW_HIDDEN __attribute__((visibility("hidden")))
 
 /*
- * Memory of zeros from the system itself, or NULL, of which only the pages take room that are written; and its return.  A heap may write
- * what it clears.
+ * Takes memory of zeros from the system itself, of which only pages that are written take room; or NULL. And returns it. A heap
+ * might write the zeros, which would take room.
  */
 WW_HIDDEN void *ww_take_zeros(size_t size);
 WW_HIDDEN void ww_return_zeros(void *at, size_t size);

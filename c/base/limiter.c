@@ -1,11 +1,12 @@
 /*
- * limiter.c - how many contexts of a class run at a time, found by measuring: those of threads that need permits
- * (crowd.c), and those of tasks.
+ * limiter.c - how many contexts of a class run at a time, found by measuring: those of threads that need permits (crowd.c), and
+ * those of tasks (queue.c).
  *
- * Contexts that meet wait for one another, and each cache line that they share moves from processor to processor, which
- * costs more than a short context takes.  So more may end if fewer run; or if more do, where they wait for something
- * else, as a timer.  How many is best no measure of waiting shows, since most of what a meeting costs isn't waiting.
- * So it is tried: the limiter has a width, and contexts are counted, window by window.
+ * Contexts that meet wait for one another, and each cache line that they share moves from processor to processor, which costs more
+ * than a short context takes. So more contexts may end if fewer run at a time; or if more run, where they wait for something else,
+ * such as a timer. No measure of waiting shows how many are best, since most of what a meeting costs isn't waiting. So widths are
+ * tried: the limiter has a width, and counts contexts, window by window. The table has each width, how many contexts began in a
+ * window of it, and what is next:
  *
  *	width		a window began			then
  *	kept		any number			the same again; after some windows, half of it or twice as many
@@ -20,20 +21,20 @@
  *	tried, fewer, and nobody waits at the limiter	half of it is tried at once: that many are no limit
  *	kept, and nobody waits at the limiter		there is no use of a limiter, unless a window began a half less
  *
- * Each is compared with the last window of the width that is kept: fewer have to gain something, and more needn't.  Twice
- * as many as there may be are no limit, which a bounded limiter never tries.  Once no limit is best there is no use of a
- * limiter for threads; for tasks fewer are tried from time to time.  The first width is kept for a window, whoever waits.
+ * Each window is compared with the last window of the width that is kept: a smaller width has to gain something, and a larger one
+ * needn't. Twice as many as there may be are no limit, which a bounded limiter never tries. For threads a limiter is of no use once
+ * no limit is best; for tasks fewer are still tried from time to time. The first width is kept for a window, whoever waits.
  *
- * For threads the first width is 1.  For the way from many to few leads through widths at which threads fall asleep one
- * after another and a window takes long, and the way up through those that run well.  Where more are far worse, what
- * they began goes on for a while at the width before; so one window that is far worse isn't believed.
+ * For threads the first width is 1: the way from many to few leads through widths at which threads fall asleep one after another,
+ * so a window takes long, and the way up leads through widths that run well. If a larger width is far worse, the contexts that it
+ * began still run for a while at the width before; so one window that is far worse isn't believed.
  */
 #define _GNU_SOURCE
 #include "limiter.h"
 
-/* A window is so long that a preemption or two don't decide, in nanoseconds as all times here. */
+/* A window has at least so many nanoseconds, as all times here, so that a preemption or two don't decide. */
 enum { WINDOW = 2000000 };
-/* A width is kept for so many windows at first, and at most: so tries that fail take a sixty-fourth of the time. */
+/* A width is kept for so many windows at first, and at most. So tries that fail take a sixty-fourth of the time. */
 enum { FIRST_HOLDS = 8, MOST_HOLDS = 64 };
 
 static void set_width(struct ww_limiter *limiter, uint32_t width)
@@ -44,7 +45,7 @@ static void set_width(struct ww_limiter *limiter, uint32_t width)
 }
 
 /*
- * Of so many contexts each that runs has ended, also those of the width before; a window has twice as many, against
+ * A turn: after so many contexts each one that runs now has ended, also those of the width before. A window has two turns, against
  * chance.
  */
 static uint32_t turn(const struct ww_limiter *limiter)
@@ -61,7 +62,7 @@ void ww_limiter_open(struct ww_limiter *limiter, uint32_t least, uint32_t first,
 				  .many = many, .holds = 1, .more = first >= widest, .climbs = true, .settles = true };
 }
 
-/* Half of its width, or twice as many; or the same, where there is no such width. */
+/* The width to try next: half of the present one, or twice or four times as many; or the present one, where there is no such width. */
 static uint32_t other_width(const struct ww_limiter *limiter)
 {
 	uint32_t times = limiter->climbs ? 4 : 2;
@@ -101,7 +102,7 @@ static void keep_width(struct ww_limiter *limiter, uint64_t rate)
 	limiter->rate = rate;
 }
 
-/* A window has ended, at this rate of contexts a second. */
+/* Decides what comes after a window, in which so many contexts began a second; `is_no_limit`: nobody waited at the limiter. */
 static void decide(struct ww_limiter *limiter, uint64_t rate, bool is_no_limit)
 {
 	bool pays = limiter->more ? rate > limiter->rate - limiter->rate / 16 : rate > limiter->rate + limiter->rate / 8;
@@ -132,8 +133,8 @@ static void decide(struct ww_limiter *limiter, uint64_t rate, bool is_no_limit)
 }
 
 /*
- * So many turns of contexts have begun, or would have at the rate that is kept: a width that is far worse is soon
- * known, and, a while later, that the load is another one.  So it is if next to nothing begins for long.
+ * Whether the window has had so many turns of contexts, or would have had at the rate that is kept. So a width that is far worse is
+ * soon known, and, after eight windows, also that the load has changed. If next to nothing begins for that long, it is enough, too.
  */
 static bool is_enough(const struct ww_limiter *limiter, uint64_t took, uint64_t count, uint64_t turns)
 {
@@ -144,13 +145,13 @@ static bool is_enough(const struct ww_limiter *limiter, uint64_t took, uint64_t 
 	       (is_long && count < limiter->many / 8);
 }
 
-/* Who comes here has read the clock before, so one may come with an earlier time. */
+/* A caller has read the clock before it comes here, so one may come with an earlier time than the last one had. */
 bool ww_limiter_look(struct ww_limiter *limiter, uint64_t now, uint32_t begun, uint64_t waited)
 {
-	uint64_t took = now < limiter->since ? 0 : now - limiter->since, count = begun - limiter->begun; /* as 32 bits */
+	uint64_t took = now < limiter->since ? 0 : now - limiter->since, count = begun - limiter->begun; /* of 32 bits, as `begun` wraps */
 	bool is_no_limit = limiter->width != NO_LIMIT && waited == limiter->waited;
 
-	/* those of the width before may have yet to end */
+	/* contexts of the width before may have yet to end */
 	if (limiter->since && (took < WINDOW / 8 || !is_enough(limiter, took, count, 1)))
 		return true;
 	if (limiter->settles || !limiter->since)

@@ -11,7 +11,7 @@
 
 /* IN_A_LINE locks have their words in one cache line, of LINE bytes. The first APART mutexes of a class have a line each to themselves. */
 enum { IN_A_LINE = 4, LINE = 64, APART = 1024 };
-/* From this many mutexes on a class is large; a program of the search of schedules says 1. */
+/* A class with so many mutexes is large. A program of the search of schedules sets 1. */
 #ifndef WW_LARGE
 #define WW_LARGE 16384
 #endif
@@ -26,7 +26,7 @@ enum { FULL = (1 << IN_A_LINE) - 1, IN_A_WORD = 64 / IN_A_LINE };
 /* How many mutexes have a line to themselves. */
 static uint32_t apart(uint32_t mutexes) { return mutexes < APART ? mutexes : APART; }
 
-/* How many lines a class of so many mutexes has: a quarter of their number, or more if they are few. */
+/* How many lines a class with so many mutexes has: a quarter of their number, or more if there are few mutexes. */
 static uint32_t lines_for(uint32_t mutexes)
 {
 	uint32_t quarter = (mutexes + IN_A_LINE - 1) / IN_A_LINE, sparse = SPARE_LINES * apart(mutexes);
@@ -34,7 +34,7 @@ static uint32_t lines_for(uint32_t mutexes)
 	return sparse < LEAST_LINES ? LEAST_LINES : quarter > sparse ? quarter : sparse;
 }
 
-/* Of both arrays of bits, each of which has a word more than its numbers need, so that it has one if there are none; and of the others. */
+/* The bytes of both arrays of bits, each of which has one word more than its numbers fill; and the bytes of the two other arrays. */
 static size_t bytes_of_bits(const struct ww_numbers *n) { return 2 * (n->locks / 64 + 1) * sizeof *n->used; }
 static size_t bytes_of_others(const struct ww_numbers *n) { return n->locks * (sizeof *n->lies_at + sizeof *n->puts); }
 
@@ -141,7 +141,7 @@ static bool give_left(struct ww_numbers *n, uint32_t number, uint64_t leaves)
 	return is_same;
 }
 
-/* Frees the numbers that were left and that nobody uses.  While a thread looks at a number, other threads still find it there. */
+/* Frees the numbers that were left and that nobody uses. While a thread looks at a number, other threads still find it there. */
 void ww_reclaim_numbers(struct ww_numbers *n)
 {
 	ww_is_used *is_used = __atomic_load_n(&n->is_used, __ATOMIC_RELAXED);
@@ -163,7 +163,7 @@ int ww_take_number(struct ww_numbers *n, const struct ww_mutex *m, uint32_t *num
 	uint64_t leaves = UINT64_MAX, by_now;
 
 #ifdef WW_DEBUG
-	m = NULL; /* the debug library's messages say the lowest numbers */
+	m = NULL; /* the debug library's messages name the lowest numbers */
 #endif
 	while (!find_number(n, m, number)) {
 		by_now = __atomic_load_n(&n->leaves, __ATOMIC_ACQUIRE);

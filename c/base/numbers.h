@@ -1,19 +1,19 @@
-/* numbers.h - the numbers of a class's mutexes: see numbers.c.  It isn't installed. */
+/* numbers.h - the numbers of a class's mutexes: see numbers.c. It isn't installed. */
 #ifndef WW_NUMBERS_H
 #define WW_NUMBERS_H
 #include "inside.h"
 #include <pthread.h>
 
-/* How many mutexes a class has if it says no number. */
+/* How many mutexes a class has if the program sets no number. */
 enum { MANY_MUTEXES = 65536 };
 
 struct ww_numbers;
-/* Whether a context or a thread uses this number: that of the mutex at this address, or of one that was destroyed. */
+/* Whether a context or a thread uses this number. It is that of the mutex at the address m, or of a mutex that was destroyed. */
 typedef bool ww_is_used(struct ww_numbers *n, uint32_t number, const void *m);
 
 struct ww_numbers {
 	pthread_mutex_t lock; /* held by a thread that changes one of the following fields */
-	uint32_t mutexes;     /* how many there may be */
+	uint32_t mutexes;     /* how many mutexes there may be */
 	uint32_t lines;	      /* how many cache lines the words of their locks have */
 	uint32_t locks;	      /* how many locks of the proved library these lines have */
 	uint32_t low;	      /* no line before this one has a free number */
@@ -26,24 +26,24 @@ struct ww_numbers {
 	uint64_t leaves;      /* how often a number was left, in all */
 	ww_is_used *is_used;  /* says whether a number that was left is still used: see used.c */
 	struct ww_mutex **lies_at; /* the address of the mutex that has each number, or had it last */
-	uint32_t *puts;	      /* how often each number was put back, or its mutex destroyed: so a later user of a number is told from an earlier one */
+	uint32_t *puts;	      /* how often each number was put back, or its mutex destroyed: this tells earlier users from later ones */
 };
 
 /* Makes the numbers for so many mutexes, or for 65,536 if that is 0. It returns false if there is no memory. */
 WW_HIDDEN bool ww_open_numbers(struct ww_numbers *n, uint32_t mutexes);
 WW_HIDDEN void ww_close_numbers(struct ww_numbers *n);
-/* How many bytes these have in all. */
+/* How many bytes all numbers take. */
 WW_HIDDEN size_t ww_bytes_of_numbers(const struct ww_numbers *n);
 /* Takes a free number for the mutex at this address, or for none. It returns -ENOSPC if no number is free. */
 WW_HIDDEN int ww_take_number(struct ww_numbers *n, const struct ww_mutex *m, uint32_t *number);
 WW_HIDDEN void ww_give_number(struct ww_numbers *n, uint32_t number);
-/* The same, for a caller that has locked the numbers. */
+/* The same as ww_give_number, for a caller that has locked the numbers. */
 WW_HIDDEN void ww_give_locked(struct ww_numbers *n, uint32_t number);
 /* Leaves a number by which nobody begins anything any more. ww_reclaim_numbers frees it once nobody uses it. */
 WW_HIDDEN void ww_leave_used(struct ww_numbers *n, uint32_t number, ww_is_used *is_used);
 WW_HIDDEN void ww_reclaim_numbers(struct ww_numbers *n);
 
-/* Notes which mutex has the number, or NULL; and returns the one that was noted. Relaxed: nobody holds a mutex before it is noted. */
+/* Notes the mutex that has the number, or NULL; and returns the one that was noted. Relaxed: nobody holds a mutex before it is noted. */
 static inline void lies_at(struct ww_numbers *n, uint32_t number, struct ww_mutex *m)
 {
 	__atomic_store_n(&n->lies_at[number], m, __ATOMIC_RELAXED);

@@ -1,8 +1,8 @@
 /*
- * process.c - what the library knows of the process: its threads' numbers and ends, copies of the library, forks, and the list
- * of open classes.
+ * process.c - what the library knows of the process: its threads' numbers and ends, copies of the library, forks, messages, memory,
+ * processors, and the list of open classes.
  *
- * The lock `ww_opening` is that of this list, of the memory of classes that were freed, and of whose own seats are.  Who takes it:
+ * The lock `ww_opening` protects that list, the memory of classes that were freed, and whose own seats are. It is locked when:
  *
  *	here		a process forks; a thread comes to have seats of its own, or ends
  *	class.c		a class is opened, freed, counted or shown; a mutex gets its number at its first lock
@@ -29,13 +29,13 @@ static bool is_prepared, is_closed;
 static void (*at_end)(void), (*in_child)(void);
 
 /*
- * A process may have several copies of the library, and load one where another one lay before.  So each counts from a
- * number that it makes of its address and the time as it is loaded, by Knuth's multiplication: no two have the same ids,
+ * A process may have several copies of the library, and may load one where another one lay before. So when it is loaded, each copy
+ * makes the number from which it counts of its address and the time, by Knuth's multiplication. So no two copies have the same ids,
  * and none is NO_ID or 0.
  */
 uint64_t ww_this_copy = (uint64_t)1 << 62;
 
-/* Relaxed: it is a count. */
+/* The count is relaxed, since it orders nothing. */
 void ww_number_thread(void)
 {
 	static uint64_t last_thread;
@@ -56,8 +56,9 @@ uint64_t ww_new_id(void)
 /* ---- memory ---- */
 
 /*
- * Of the leak sanitizer, in programs that have it. It looks for addresses only in memory of malloc and in what it is told of: without
- * this it would take what seats have for lost as a program ends that keeps its classes.
+ * Functions of the leak sanitizer, in programs that have it. The sanitizer looks for addresses only in memory of malloc and in
+ * regions that it was told of. Without these calls it would take what seats have for lost when a program ends that keeps its
+ * classes.
  */
 void __lsan_register_root_region(const void *at, size_t size) __attribute__((weak));
 void __lsan_unregister_root_region(const void *at, size_t size) __attribute__((weak));
@@ -103,9 +104,9 @@ void ww_report_message(const char *message)
 /* ---- processors ---- */
 
 /*
- * A thread that opens a class may have been bound to one processor before, so the processors of other threads are found as these come,
- * and classes that are open learn of them then.  The sets have room for as many processors as a kernel has; if the kernel doesn't say
- * which of them a thread may use, all that run count.
+ * A thread that opens a class may have been bound to one processor before. So the processors of other threads are counted when
+ * these come, and classes that are open learn of them then. The sets have room for as many processors as a kernel has. If the
+ * kernel doesn't say which of them a thread may use, all that run count.
  */
 uint32_t ww_processors(void)
 {
@@ -135,7 +136,7 @@ uint32_t ww_processors(void)
 
 /* ---- threads' own seats ---- */
 
-/* Others read how many there are without the lock, as a hint. Opening is locked. */
+/* Other threads read this count without the lock, as a hint. Opening is locked. */
 static void set_threads(uint32_t many) { __atomic_store_n(&ww_threads, many, __ATOMIC_RELAXED); }
 
 void ww_take_own(void)
@@ -156,7 +157,10 @@ void ww_take_own(void)
 	pthread_mutex_unlock(&ww_opening);
 }
 
-/* Its seats are another thread's next, which sees by the lock what this one did with them. */
+/*
+ * Called when a thread ends that has seats of its own. The next thread that gets these seats locks `ww_opening`, and so sees what
+ * this thread did with them.
+ */
 static void end_thread(void *mine)
 {
 	(void)mine;
@@ -169,7 +173,7 @@ static void end_thread(void *mine)
 	pthread_mutex_unlock(&ww_opening);
 }
 
-/* The threads of the parent don't exist here, but for this one. */
+/* In a child of a fork, keeps the own seats of this thread: the other threads of the parent don't exist here. */
 static void keep_one_own(void)
 {
 	for (uint32_t k = 0; k < MANY_OWN; k++)
@@ -189,7 +193,7 @@ static void behind_fork(void)
 	pthread_mutex_unlock(&ww_opening);
 }
 
-/* Once in a program; or nobody else uses the library yet. */
+/* Registers the library's handlers, once in a program. Opening is locked, or nobody else uses the library yet. */
 int ww_prepare(void)
 {
 	if (is_prepared)
@@ -205,9 +209,9 @@ int ww_prepare(void)
 }
 
 /*
- * Handlers that are registered first are called last before a fork, and first behind it.  So the lock `ww_opening`
- * isn't held while a handler of the program runs, which may lock mutexes.  If that fails here, whoever opens a class
- * first tries it again.
+ * Handlers that are registered first are called last before a fork, and first after it. So the lock `ww_opening` isn't held while a
+ * handler of the program runs, which may lock mutexes. If handlers can't be registered here, whoever opens a class first tries it
+ * again.
  */
 void ww_load(void (*thread_ends)(void), void (*child)(void))
 {
@@ -221,10 +225,10 @@ void ww_load(void (*thread_ends)(void), void (*child)(void))
 }
 
 /*
- * When the library is closed (dlclose), threads that used it go on, and end without it.  At the end of the program they
- * may go on as well, and another key may get the number of this one.  Destructors of the program or of a plugin may come
- * later, and open a class: then no thread gets seats of its own, as its end would call what isn't there any more, and no
- * handler of a fork is registered again.
+ * When the library is closed (dlclose), threads that used it go on, and end without it. At the end of the program they may go on as
+ * well, and another key may get the number of this one. Destructors of the program or of a plugin may come later, and open a class.
+ * Then no thread gets seats of its own, as its end would call what isn't there any more, and no handler of a fork is registered
+ * again.
  */
 __attribute__((destructor)) static void unprepare(void)
 {

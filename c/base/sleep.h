@@ -1,4 +1,4 @@
-/* sleep.h - the clock, sleeps on a futex, and the token on which the user of a seat sleeps: see sleep.c.  It isn't installed. */
+/* sleep.h - the clock, sleeps on a futex, and the token on which the user of a seat sleeps: see sleep.c. It isn't installed. */
 #ifndef WW_SLEEP_H
 #define WW_SLEEP_H
 #include "inside.h"
@@ -20,11 +20,11 @@ static inline struct timespec timespec_of(uint64_t at)
 
 /* Sleeps while the word has the value `is`, or until the monotonic clock reaches a time, if that isn't NULL. */
 WW_HIDDEN void ww_futex_wait(uint32_t *word, uint32_t is, const struct timespec *until);
-/* Wakes a thread that sleeps on the word. False if none does. */
+/* Wakes a thread that sleeps on the word. It returns false if no thread does. */
 WW_HIDDEN bool ww_futex_wake(uint32_t *word);
 
 WW_HIDDEN void ww_pause(unsigned count);
-/* Pauses between two looks at a word; the next pause is longer. It returns false once the clock has reached `until`. */
+/* Pauses between two looks at a word; each pause is longer than the last one. It returns false once the clock has reached `until`. */
 WW_HIDDEN bool ww_stays_awake(unsigned *looks, uint64_t until);
 /*
  * Pauses before another try to enter a guard, or to get something that another thread has for a moment only. Both counters are 0
