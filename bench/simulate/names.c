@@ -1,4 +1,4 @@
-/* names.c - what of a class lies where, for the table of transfers. See `words_of` of context.h for the proved library's part. */
+/* names.c - what of a class lies where, for the table of transfers. See `words_of` of pool.h for the proved library's part. */
 #include "simulate.h"
 #include "lock/context.h"
 

@@ -15,7 +15,7 @@ int64_t counts_from, ends_at, next_clock;
 /* Trees of the smaller times, their leaves from the middle on: clocks, that of the current processor NEVER_COMES; and timers. */
 static int64_t clocks[2 * MOST_PROCESSORS], timers[2 * MOST_THREADS];
 static void *outside;
-/* What the library has for each thread (class.h), while that doesn't run. */
+/* What the library has for each thread (process.h), while that doesn't run. */
 static struct ww_mine kept[MOST_THREADS];
 
 /* Saves what the caller relies on, and all vector registers, since a thread may be left before any instruction. */

@@ -1,7 +1,7 @@
 /* claim.h - the bits that say whose a seat is, and how a seat is made and claimed: see claim.c. It isn't installed. */
 #ifndef WW_CLAIM_H
 #define WW_CLAIM_H
-#include "class.h"
+#include "pool.h"
 
 /* The bits of a seat's `busy`: the table is in seat.c. */
 #define BUSY 1u

@@ -4,6 +4,7 @@
  */
 #define _GNU_SOURCE
 #include "seat.h"
+#include "../base/sleep.h"
 #include <limits.h>
 #include <string.h>
 #include <sys/mman.h>

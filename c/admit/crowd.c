@@ -26,6 +26,7 @@
  */
 #define _GNU_SOURCE
 #include "crowd.h"
+#include "../base/message.h"
 #include "../base/sleep.h"
 #include <string.h>
 #include <sys/resource.h>

@@ -3,6 +3,8 @@
  * section of its own, which is allocated, so it stays in a stripped program or library.
  */
 #include "claim.h"
+#include "class.h"
+#include "../base/sleep.h"
 
 #define AT(type, field) { #type "." #field, offsetof(struct type, field) }
 #define SIZE(type) { "sizeof " #type, sizeof(struct type) }

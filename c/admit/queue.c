@@ -28,6 +28,7 @@
  */
 #define _GNU_SOURCE
 #include "queue.h"
+#include "../base/message.h"
 #include "../base/sleep.h"
 
 /* A window of the tasks' limiter counts at least so many contexts: contexts that await a timer take long, and differ little. */

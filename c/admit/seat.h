@@ -4,6 +4,7 @@
  */
 #ifndef WW_SEAT_H
 #define WW_SEAT_H
+#include "class.h"
 #include "crowd.h"
 #include "../base/age.h"
 

@@ -3,6 +3,7 @@
 #define CROWD_H
 #include "mutex_test.h"
 #include "../admit/crowd.h"
+#include "../base/sleep.h"
 
 /* From now on the class has so many permits, for ever: its limiter doesn't look, and no context is long. */
 static inline void crowds(struct ww_class *of, uint32_t permits)

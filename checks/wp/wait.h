@@ -30,7 +30,7 @@ void ww_unpark(ww_seat *s);
 #endif
 /*@ assigns \nothing; */
 struct ww_waker ww_leave_token(ww_seat *s);
-/* ---- of class.h ---- */
+/* ---- of pool.h ---- */
 /*@ assigns \nothing; */
 static inline bool ww_ends_waits(const struct ww_pool *p);
 

@@ -70,7 +70,7 @@ const ACQUIRED: usize = 24;
 const CONTENDING_LOCK: usize = 32;
 /// In a `ww_mutex`.
 const WAITERS: usize = 28;
-/// Bits of that word, which `c/admit/class.h` has.
+/// Bits of that word, which `c/admit/slot.h` has.
 const IS_OF_NUMBER: u32 = 1 << 29;
 const IS_TAKEN: u32 = 1 << 31;
 

@@ -5,6 +5,7 @@
  * seats that threads keep.  Each seat has one user, each mutex one holder, and no seat is lost.  moves TIMES
  */
 #include "../mutex_test.h"
+#include "../../admit/class.h"
 #include "../../admit/crowd.h"
 
 enum { MUTEXES = 3, LEFT = 32, ROUNDS = 12, MANY = 1000 };

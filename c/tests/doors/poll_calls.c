@@ -6,6 +6,7 @@
 #include "../mutex_test.h"
 #include "ww_shared.h"
 #include "../../admit/seat.h"
+#include "../../base/sleep.h"
 #include "ww_steps.h"
 #include <sys/wait.h>
 

@@ -3,6 +3,7 @@
 #define MADE_H
 #include "interleave.h"
 #include "../../admit/seat.h"
+#include "../../base/sleep.h"
 
 static inline void make_seats(struct ww_pool *of)
 {

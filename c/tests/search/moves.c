@@ -16,6 +16,7 @@
  */
 #include "inside.h"
 #include "../../admit/seat.h"
+#include "../../base/sleep.h"
 
 static GHOST ww_seat *seats; /* of the class that was called last in this run; and how many */
 static GHOST unsigned seat_count;
