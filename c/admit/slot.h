@@ -20,6 +20,7 @@ struct ww_slot {
 };
 enum { MANY_BITS = 64, MARKS_IN_A_WORD = 64 };
 
+/* The bit of a number in its word of `marks`; that word; and whether the slot has the mark of the number. */
 static inline uint64_t mark_of(uint32_t number) { return (uint64_t)1 << number % MARKS_IN_A_WORD; }
 static inline uint64_t *marks_at(struct ww_slot *slot, uint32_t number) { return &slot->marks[number / MARKS_IN_A_WORD]; }
 static inline bool has_mark(const struct ww_slot *slot, uint32_t number)

@@ -37,6 +37,7 @@ enum { WINDOW = 2000000 };
 /* A width is kept for so many windows at first, and at most. So tries that fail take a sixty-fourth of the time. */
 enum { FIRST_HOLDS = 8, MOST_HOLDS = 64 };
 
+/* Lets so many contexts run from now on. While those of another width before may still run, nothing is counted (`settles`). */
 static void set_width(struct ww_limiter *limiter, uint32_t width)
 {
 	limiter->settles |= limiter->width != width;

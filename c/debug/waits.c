@@ -122,7 +122,7 @@ static uint64_t deadlock(const struct ww_pool *of, unsigned *count)
 		if (s == before)
 			return 0; /* this thread waits for a cycle, and isn't part of it */
 		if (!(*count & (*count - 1)))
-			before = s;
+			before = s; /* a cycle that doesn't come back to this thread comes back to the seat that is kept here */
 	}
 	return 0;
 }

@@ -58,6 +58,7 @@ void ww_watch_begin(struct ww_acquire_ctx *x)
 	ww_watch_use(s);
 }
 
+/* The seat's context ends: neither a context nor a thread uses the seat from now on. */
 void ww_watch_end(struct watch *s)
 {
 	s->is_injected = false;

@@ -89,6 +89,10 @@ struct asked {
 
 static uint64_t mixed(uint64_t h) { return (h ^ h >> 32) * 0xD6E8FEB86659FD93u; }
 
+/*
+ * The hash of a key, by eight bytes at a time and then by those that are left. Each table has a seed of its own, so which keys share a
+ * bucket differs from table to table.
+ */
 static uint64_t hash_of(const struct ww_table *t, const uint8_t *at, size_t length)
 {
 	uint64_t h = t->seed ^ length, w = 0;

@@ -80,6 +80,7 @@ COLD __attribute__((noreturn)) static void end_unreleased(const struct ww_acquir
 	end_of(x->own->pool->class_, call, is_polled(x) ? WAITS_BY_POLL : "nobody holds the mutex");
 }
 
+/* A mark counts what was acquired before it, except a mutex that the loop's body has yet to ask for: that one stays held besides. */
 void ww_acquire_unlock_to(struct ww_acquire_ctx *x, size_t mark)
 {
 	note_used(x);

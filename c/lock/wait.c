@@ -112,6 +112,7 @@ static void wake(ww_seat *s)
 		ww_unpark(&s->pool->seats[k]);
 }
 
+/* Whether the wait is to end now: by a poll, a cancel of the context, the time limit, or a cancel of the class. */
 static bool is_due(const ww_seat *s, const struct ww_wait *wait)
 {
 	const struct ww_how *how = wait->how;
