@@ -27,6 +27,7 @@ static inline void __tsan_release(void *at) { (void)at; }
 #endif
 
 struct ww_pool;
+struct ww_seat;
 
 /* What is counted for a context since it met another one: see age.h, and why.c. */
 struct ww_met {
@@ -35,6 +36,14 @@ struct ww_met {
 	uint64_t waited;	  /* how many nanoseconds its threads have waited since */
 	uint32_t target;	  /* the number of the mutex for which it waits, or last asked in vain, plus 1; or 0 */
 	uint32_t lock;		  /* the number of the lock for which that call came to wait: that mutex's, or a slot's */
+};
+
+/*
+ * Who makes polls that nobody else goes on with, and has something that ends with the wait of such a poll: `ends` is called once
+ * ww_acquire_end_wait has ended the wait.
+ */
+struct ww_poller {
+	void (*ends)(struct ww_poller *it, struct ww_seat *s);
 };
 
 /*
@@ -62,6 +71,7 @@ typedef struct ww_seat {
 	uint64_t ticket __attribute__((aligned(64))); /* the ticket of the value by which its context is suspended, or 0: see retry.c */
 	uint32_t told;		/* the number of the mutex at which its user's last -EDEADLK came, */
 	uint32_t puts;		/* and how often that number had been put back by then */
+	struct ww_poller *poller; /* who made the suspended poll, or NULL */
 	struct ww_met met;
 } __attribute__((aligned(64))) ww_seat;
 

@@ -12,11 +12,11 @@
 
 /* ---- lock calls ---- */
 
-int ww_may_poll(const char *call, struct ww_mutex *m, struct ww_acquire_ctx *x, unsigned what)
+int ww_may_poll(const char *call, struct ww_mutex *m, struct ww_acquire_ctx *x, unsigned what, struct ww_poller *poller)
 {
 	int r;
 
-	if (x && phase_of(x) == IN_POLL && x->own->asked == m && x->own->asks == what)
+	if (x && phase_of(x) == IN_POLL && x->own->asked == m && x->own->asks == what && x->own->poller == poller)
 		return 0;
 	r = ww_admit(call, CALL_POLL, m, x, NULL);
 	if (r)
@@ -24,6 +24,7 @@ int ww_may_poll(const char *call, struct ww_mutex *m, struct ww_acquire_ctx *x, 
 	NOTE(SEAT_POLLED, .seat = x->own);
 	x->own->asked = m;
 	x->own->asks = (uint8_t)what;
+	x->own->poller = poller;
 	return 0;
 }
 
@@ -54,14 +55,14 @@ int ww_poll_on(struct ww_mutex *m, struct ww_acquire_ctx *x, struct ww_how how)
 
 int ww_mutex_lock_poll(struct ww_mutex *m, struct ww_acquire_ctx *x, const struct ww_waker *waker)
 {
-	int r = ww_may_poll("ww_mutex_lock_poll", m, x, TO_LOCK);
+	int r = ww_may_poll("ww_mutex_lock_poll", m, x, TO_LOCK, NULL);
 
 	return r ? r : ww_poll_on(m, x, (struct ww_how){ .waker = waker });
 }
 
 /*
- * Ends a poll's wait. A lock that the poll would release at once is only visited: the lock of the mutex at which the context got
- * -EDEADLK, or of a slot by which another context reads.
+ * Ends a poll's wait, and with it what the poller has for that wait; in a forked child no poller is used. A lock that the poll would
+ * release at once is only visited: the lock of the mutex at which the context got -EDEADLK, or of a slot by which another context reads.
  */
 int ww_acquire_end_wait(struct ww_acquire_ctx *x)
 {
@@ -79,6 +80,8 @@ int ww_acquire_end_wait(struct ww_acquire_ctx *x)
 		(void)ww_unlock_of(of, x);
 	if (s->asks == TO_READ && m == of && !s->slot->reads)
 		(void)ww_unlock_of(&s->slot->mutex, x);
+	if (s->poller && !s->pool->gone)
+		s->poller->ends(s->poller, s);
 	return r == -ETIMEDOUT ? 0 : r;
 }
 

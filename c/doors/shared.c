@@ -45,6 +45,7 @@
  */
 #define _GNU_SOURCE
 #include "poll.h"
+#include "shared.h"
 #include "../lock/used.h"
 #include "../lock/loop.h"
 #include "../lock/mutex.h"
@@ -265,12 +266,12 @@ bool ww_shared_mutex_is_read_by(const struct ww_shared_mutex *m, const struct ww
 /*
  * Whether a call may begin, or a poll go on: 0, or the error that the call returns. Of most calls little is asked, since they have
  * no time limit, and a mutex of the context's class. The debug library asks all of each call. A poll goes on only if it asks for
- * the same (`what`) as the call that began the wait.
+ * the same (`what`), for the same poller, as the call that began the wait.
  */
 static inline int may_go_on(const char *call, struct ww_shared_mutex *m, struct ww_acquire_ctx *x, struct ww_how how, unsigned what)
 {
 	if (how.who == TASK)
-		return ww_may_poll(call, &m->mutex_, x, what);
+		return ww_may_poll(call, &m->mutex_, x, what, how.poller);
 	if (!IS_DEBUG && LIKELY(!how.until) && LIKELY(x) && LIKELY(pool_at(&m->mutex_) == x->pool) &&
 	    LIKELY(!(x->state & (IS_POLLED | IS_TOLD))))
 		return 0;
@@ -377,6 +378,7 @@ ALWAYS_INLINE int read_by(struct ww_shared_mutex *m, struct ww_acquire_ctx *x, s
 	return 0;
 }
 
+int ww_shared_read_by(struct ww_shared_mutex *m, struct ww_acquire_ctx *x, struct ww_how how) { return read_by(m, x, how); }
 int ww_shared_mutex_lock_shared(struct ww_shared_mutex *m, struct ww_acquire_ctx *x) { return read_by(m, x, BY_WAITING); }
 
 /*
@@ -517,6 +519,7 @@ ALWAYS_INLINE int write_by(struct ww_shared_mutex *m, struct ww_acquire_ctx *x, 
 	return r;
 }
 
+int ww_shared_write_by(struct ww_shared_mutex *m, struct ww_acquire_ctx *x, struct ww_how how) { return write_by(m, x, how); }
 int ww_shared_mutex_lock(struct ww_shared_mutex *m, struct ww_acquire_ctx *x) { return write_by(m, x, BY_WAITING); }
 
 int ww_shared_mutex_trylock(struct ww_shared_mutex *m, struct ww_acquire_ctx *x)
@@ -622,7 +625,7 @@ void ww_acquire_end_reads(struct ww_acquire_ctx *x)
 /* ---- after -EDEADLK ---- */
 
 /* Waits for the mutex at which the context got -EDEADLK, and releases it at once. */
-static int await_contended(struct ww_acquire_ctx *x, struct ww_how how)
+int ww_await_contended(struct ww_acquire_ctx *x, struct ww_how how)
 {
 	struct ww_mutex *m = x && x->own && x->state & IS_TOLD ? x->contending_lock : NULL;
 	int r;
@@ -630,7 +633,7 @@ static int await_contended(struct ww_acquire_ctx *x, struct ww_how how)
 	how.visits = true;
 	if (how.who == THREAD)
 		r = ww_lock_slowly(m, x, &how);
-	else if (!(r = ww_may_poll("ww_shared_mutex_await_poll", m, x, TO_AWAIT)))
+	else if (!(r = ww_may_poll("ww_shared_mutex_await_poll", m, x, TO_AWAIT, how.poller)))
 		r = ww_poll_on(m, x, how);
 	if (!r)
 		(void)unlock_by(m, x->own);
@@ -639,10 +642,10 @@ static int await_contended(struct ww_acquire_ctx *x, struct ww_how how)
 
 int ww_shared_mutex_await(struct ww_acquire_ctx *x, const struct timespec *until)
 {
-	return await_contended(x, (struct ww_how){ .is_interruptible = true, .until = until });
+	return ww_await_contended(x, (struct ww_how){ .is_interruptible = true, .until = until });
 }
 
 int ww_shared_mutex_await_poll(struct ww_acquire_ctx *x, const struct ww_waker *waker)
 {
-	return await_contended(x, (struct ww_how){ .who = TASK, .waker = waker });
+	return ww_await_contended(x, (struct ww_how){ .who = TASK, .waker = waker });
 }

@@ -20,6 +20,7 @@
  */
 #define _GNU_SOURCE
 #define WW_NO_INLINE
+#include "shared.h"
 #include "../lock/loop.h"
 #include "ww_retry.h"
 #include "ww_table.h"
@@ -50,7 +51,7 @@ struct entry {
 };
 
 struct of_seat {
-	struct use *newest, *polled, *spare_uses; /* the uses of the seat's context, and the one that waits by a poll */
+	struct use *newest, *polled, *spare_uses; /* the uses by which the seat's context has keys, and by which its poll waits */
 	struct entry *spare;
 	uint32_t count, spares; /* how many keys the context has, and how many spare entries there are */
 	bool is_told;		/* the context got -EDEADLK by this table, and has released at most a part since */
@@ -68,6 +69,7 @@ struct bucket {
 } __attribute__((aligned(64)));
 
 struct ww_table {
+	struct ww_poller poller; /* comes first: see end_polled */
 	struct ww_class *class_;
 	struct ww_pool *opened;
 	uint64_t seed;
@@ -284,6 +286,11 @@ static bool agree(const struct entry *e, const struct ww_table_how *how)
 	return all && some;
 }
 
+static int lock_entry(const struct asked *asked, const struct entry *e, struct ww_how how)
+{
+	return asked->writes ? ww_shared_write_by(e->lock, asked->x, how) : ww_shared_read_by(e->lock, asked->x, how);
+}
+
 /*
  * Tries the key: 0; or -EBUSY, and then `*used` is a use that waits for the key. If the program says of each holder of the key's
  * entry that nobody waits for it, the entry is disowned, unless this context is a holder. The bucket is locked.
@@ -303,8 +310,7 @@ static int try_key(const struct asked *asked, const struct ww_table_how *how, st
 			return r;
 		asked->me->spare_uses = u->next;
 		begin_use(asked, u, *at, how->owner);
-		if (asked->writes ? ww_shared_mutex_trylock((*at)->lock, asked->x) :
-				    ww_shared_mutex_trylock_shared((*at)->lock, asked->x)) {
+		if (!lock_entry(asked, *at, (struct ww_how){ .who = NOBODY })) {
 			grant(asked, u, had);
 			return 0;
 		}
@@ -348,50 +354,59 @@ static int settle(const struct asked *asked, struct use *u, int r)
 	return r;
 }
 
-/* The wait of a poll that the program ended by another call leaves its use, up to the context's next call that locks or releases. */
-static void end_polled(const struct asked *asked)
+/* The program has ended the wait of a poll by another call than the table's: so the use ends, if the poll had one already. */
+static void end_polled(struct ww_poller *it, ww_seat *s)
 {
-	struct use *u = asked->me->polled;
+	struct ww_table *t = (struct ww_table *)(void *)it;
+	struct of_seat *me = &t->seats[place_among(s) - 1];
+	struct bucket *b = me->polled ? lock_bucket(t, me->polled->of->hash) : NULL;
 
-	asked->me->polled = NULL;
-	if (u)
-		(void)settle(asked, u, -EINTR);
+	if (!b)
+		return;
+	end_use(t, me, me->polled);
+	me->polled = NULL;
+	pthread_mutex_unlock(&b->lock);
+}
+
+/* How a lock call waits, unless it tries. A poll goes on, and ends, by the table alone: see end_polled. */
+static struct ww_how way_of(const struct asked *asked, const struct ww_table_how *how)
+{
+	bool polls = how->by == WW_TABLE_POLLS;
+
+	return (struct ww_how){ .who = polls ? TASK : THREAD, .is_interruptible = true, .until = polls ? NULL : how->until,
+				.waker = how->waker, .poller = &asked->of->poller };
 }
 
 /*
- * Waits for the mutex at which the context got -EDEADLK, which comes before anything else. If the context gives up that wait, it
- * may lock anything.
+ * Waits first for the mutex at which the context got -EDEADLK, if it has to. If the context gives up that wait, it may lock anything.
  */
-static int await_refused(struct ww_acquire_ctx *x, const struct ww_table_how *how)
+static int await_refused(const struct asked *asked, const struct ww_table_how *how)
 {
-	int r = how->by == WW_TABLE_POLLS ? ww_shared_mutex_await_poll(x, how->waker) : ww_shared_mutex_await(x, how->until);
+	struct ww_acquire_ctx *x = asked->x;
+	int r = x->state & IS_TOLD && !x->acquired ? ww_await_contended(x, way_of(asked, how)) : -EALREADY;
 
 	if (r == -EINPROGRESS || r == -EINTR)
 		return r;
-	x->state &= ~(unsigned)IS_TOLD;
+	if (r != -EALREADY)
+		x->state &= ~(unsigned)IS_TOLD;
 	return 0;
 }
 
-static int wait_once(const struct asked *asked, struct ww_shared_mutex *m, const struct ww_table_how *how)
-{
-	if (how->by == WW_TABLE_POLLS)
-		return asked->writes ? ww_shared_mutex_lock_poll(m, asked->x, how->waker) :
-				       ww_shared_mutex_lock_shared_poll(m, asked->x, how->waker);
-	return asked->writes ? ww_shared_mutex_lock_until(m, asked->x, how->until) :
-			       ww_shared_mutex_lock_shared_until(m, asked->x, how->until);
-}
-
-static int wait_for(const struct asked *asked, const struct use *u, const struct ww_table_how *how)
+/* Waits for the key by this use, which the context's seat has noted if the context waits by a poll. */
+static int wait_for(const struct asked *asked, struct use *u, const struct ww_table_how *how)
 {
 	int r;
 
+	asked->me->polled = how->by == WW_TABLE_POLLS ? u : NULL;
 	do {
-		r = asked->x->state & IS_TOLD && !asked->x->acquired ? await_refused(asked->x, how) : 0;
+		r = await_refused(asked, how);
 		if (!r)
-			r = wait_once(asked, u->of->lock, how);
+			r = lock_entry(asked, u->of, way_of(asked, how));
 	} while (r == -EDEADLK && !asked->x->acquired);
-	if (r != -EINPROGRESS) /* after -EINPROGRESS another thread may use the context */
-		asked->me->is_told = r == -EDEADLK;
+	if (r == -EINPROGRESS) /* another thread may use the context by now */
+		return r;
+	asked->me->polled = NULL;
+	asked->me->is_told = r == -EDEADLK;
 	return r;
 }
 
@@ -402,22 +417,19 @@ int ww_table_lock(struct ww_table *t, struct ww_acquire_ctx *x, const void *key,
 	struct asked asked;
 	int r = ask(&asked, "ww_table_lock", t, x, key, length), ends = 0;
 	struct use *u = r ? NULL : asked.me->polled;
-	bool waits_already = u && is_polled(x);
 
 	if (r)
 		return r;
 	asked.writes = mode == WW_TABLE_EXCLUSIVE;
-	if (is_polled(x) && (h.by != WW_TABLE_POLLS ||
-			     (u ? !is_of(u->of, &asked) || u->is_written != asked.writes : x->own->asks != TO_AWAIT)))
+	if (is_polled(x) && (h.by != WW_TABLE_POLLS || x->own->poller != &t->poller ||
+			     (u && (!is_of(u->of, &asked) || u->is_written != asked.writes))))
 		return -EBUSY;
-	if (!waits_already)
-		end_polled(&asked);
 	if (asked.me->is_told && x->state & IS_TOLD && x->acquired) /* the context has yet to release all */
 		return -EDEADLK;
-	if (x->state & IS_TOLD && !x->acquired && h.by != WW_TABLE_TRIES && !waits_already && (r = await_refused(x, &h)))
+	if (!u && h.by != WW_TABLE_TRIES && (r = await_refused(&asked, &h)))
 		return r;
 	do {
-		if (!waits_already) {
+		if (!u) {
 			struct bucket *b = lock_bucket(t, asked.hash);
 
 			r = try_key(&asked, &h, &u);
@@ -427,14 +439,12 @@ int ww_table_lock(struct ww_table *t, struct ww_acquire_ctx *x, const void *key,
 			if (r != -EBUSY || h.by == WW_TABLE_TRIES)
 				return r;
 			ends = h.waits ? h.waits(h.data, &h) : 0;
-			asked.me->polled = h.by == WW_TABLE_POLLS ? u : NULL;
 		}
 		r = ends ? ends : wait_for(&asked, u, &h);
 		if (r == -EINPROGRESS)
 			return r;
-		asked.me->polled = NULL;
-		waits_already = false;
 		r = settle(&asked, u, r);
+		u = NULL;
 		/* The entry was disowned meanwhile (-ESTALE); or `waits` is asked again, since its time has passed. */
 	} while (r == -ESTALE || (r == -ETIMEDOUT && !ends && h.waits && h.by == WW_TABLE_WAITS));
 	return r;
@@ -488,7 +498,6 @@ void ww_table_unlock_to(struct ww_table *t, struct ww_acquire_ctx *x, size_t mar
 
 	if (is_polled(x) || ask(&asked, "ww_table_unlock_to", t, x, NULL, 0))
 		return;
-	end_polled(&asked);
 	while (asked.me->count > mark)
 		give_up(&asked, asked.me->newest);
 }
@@ -628,6 +637,7 @@ int ww_table_open(struct ww_table **made, struct ww_class *c, uint32_t keys)
 
 	if (r || !(t = ww_take_zeros(bytes_of_table(p))))
 		return r ? r : -ENOMEM;
+	t->poller.ends = end_polled;
 	t->class_ = c;
 	t->opened = p;
 	t->seed = ww_now() ^ (uintptr_t)t;

@@ -71,9 +71,9 @@ void ww_seek_end(struct ww_seek *seek);
  */
 WW_MUST_CHECK int ww_mutex_lock_poll(struct ww_mutex *lock, struct ww_acquire_ctx *ctx, const struct ww_waker *waker);
 /*
- * Ends whatever wait a poll has begun for this context, to lock, to read or to write.  What the poll acquired on its way is released,
- * also what it asked for if that came first; what was held before stays held.  It returns 0; -EDEADLK or -EINTR if that came first, as
- * the poll would have returned it; -EINVAL: the context has ended.
+ * Ends whatever wait a poll has begun for this context, to lock, to read or to write, a mutex or a key.  What the poll acquired on its
+ * way is released, also what it asked for if that came first; what was held before stays held.  It returns 0; -EDEADLK or -EINTR if that
+ * came first, as the poll would have returned it; -EINVAL: the context has ended.
  */
 int ww_acquire_end_wait(struct ww_acquire_ctx *ctx);
 /*

@@ -18,6 +18,7 @@ struct ww_how {
 	const struct timespec *until;	/* the time of the monotonic clock that ends the wait, or NULL */
 	const struct ww_waker *waker;	/* the waker that a task leaves */
 	struct ww_mutex *asks;		/* the mutex for which the call asks, if it may wait for a reader slot on the way; or NULL */
+	struct ww_poller *poller;	/* who makes the poll, if that has something which ends with the poll's wait; or NULL */
 };
 
 struct ww_wait {

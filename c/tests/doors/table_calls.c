@@ -258,20 +258,39 @@ static void polls(void)
 	ends();
 }
 
-/* A wait that the program ended, and not the table, leaves nothing once the context releases what it has. */
+/*
+ * A wait that the program ends by another call leaves nothing in the table: nor one that ends with its context, and nor where the context
+ * waits first for the mutex at which it got -EDEADLK.
+ */
 static void ended_otherwise(void)
 {
 	unsigned woken = 0;
 	struct ww_waker waker = { wakes, NULL, &woken };
 	const struct ww_table_how one = { .owner = 1 }, poll = { .owner = 2, .by = WW_TABLE_POLLS, .waker = &waker };
+	struct ww_acquire_ctx *x;
 
 	begins();
 	MUST(!lock(&b, "k", WW_TABLE_EXCLUSIVE, &one) && lock(&a, "k", WW_TABLE_EXCLUSIVE, &poll) == -EINPROGRESS);
 	ww_table_unlock_to(t, &a, 0);
-	MUST(ww_table_see(t, "k", 1, sees, NULL) == 2 && !ww_acquire_end_wait(&a));
-	ww_table_unlock_to(t, &a, 0);
-	MUST(ww_table_see(t, "k", 1, sees, NULL) == 1 && ww_table_see(t, NULL, 0, sees, NULL) == 1);
+	MUST(ww_table_see(t, "k", 1, sees, NULL) == 2 && !ww_acquire_end_wait(&a) && ww_table_see(t, NULL, 0, sees, NULL) == 1);
+	MUST(lock(&a, "k", WW_TABLE_SHARED, &poll) == -EINPROGRESS && !unlock(&b, "k") && !ww_acquire_end_wait(&a)); /* it had come first */
+	MUST(!ww_table_see(t, NULL, 0, sees, NULL) && !lock(&b, "k", WW_TABLE_EXCLUSIVE, &one));
+	MUST(lock(&a, "k", WW_TABLE_EXCLUSIVE, &poll) == -EINPROGRESS && !ww_acquire_end(&a) && !a.own);
+	MUST(ww_table_see(t, NULL, 0, sees, NULL) == 1 && !unlock(&b, "k") && !ww_table_join(t, 1, 1, NULL, &x));
+	MUST(!lock(&b, "k", WW_TABLE_EXCLUSIVE, &one) && lock(x, "k", WW_TABLE_EXCLUSIVE, &poll) == -EINPROGRESS);
+	MUST(!ww_acquire_end_wait(x) && !ww_table_leave(t, 1, false) && !unlock(&b, "k"));
+	MUST(!ww_table_close(t) && !ww_table_open(&t, &rows, 0));
+	/* with nothing held it gets no -EDEADLK, but waits for what was contended, by a poll of the table, with which no other call goes on */
+	ww_acquire_init(&a, &rows);
+	MUST(!lock(&b, "1", WW_TABLE_EXCLUSIVE, &one) && !lock(&b, "2", WW_TABLE_EXCLUSIVE, &one));
+	MUST(lock(&a, "1", WW_TABLE_SHARED, &poll) == -EINPROGRESS && ww_table_see(t, "1", 1, sees, NULL) == 2 && !a.acquired);
+	MUST(ww_shared_mutex_await_poll(&a, NULL) == -EBUSY && ww_shared_mutex_await_poll(&a, &waker) == -EBUSY && !ww_acquire_end_wait(&a));
+	MUST(ww_table_see(t, "1", 1, sees, NULL) == 1 && ww_shared_mutex_await_poll(&a, &waker) == -EINPROGRESS);
+	MUST(lock(&a, "1", WW_TABLE_SHARED, &poll) == -EBUSY && !ww_acquire_end_wait(&a));
+	MUST(lock(&a, "2", WW_TABLE_EXCLUSIVE, &poll) == -EINPROGRESS && !ww_acquire_end(&a) && ww_table_see(t, NULL, 0, sees, NULL) == 2);
+	ww_acquire_init(&a, &rows);
 	ends();
+	MUST(!ww_table_close(t) && !ww_table_open(&t, &rows, 0));
 }
 
 /* ---- owners ---- */

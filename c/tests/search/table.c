@@ -6,7 +6,7 @@
  *	a b c	shares		A B C	has to itself, or raises what it shares
  *	?	the next is tried; t: until a time; where that fails the rest of the transaction is left out
  *	y	the next is by polls: it sleeps until its waker is called; x: it ends the wait, and where it has none, likewise;
- *		q: it ends the wait by a call that isn't the table's; h: the thread g goes on with it, once its waker was called
+ *		q: it ends the wait by a call that isn't the table's, which leaves nothing there; h: the thread g goes on with it, once its waker was called
  *	e	the transaction expires: it uses nothing from here on
  *	m	the next takes its key from who has expired
  *	-	releases what came last; +: what came first; <: all, back to the beginning
@@ -134,6 +134,13 @@ static void sees(void *data, const struct ww_table_user *user)
 	++*(unsigned *)data;
 }
 
+/* This thread's context. */
+static void waits_not(void *data, const struct ww_table_user *user)
+{
+	(void)data;
+	MUST(!user->waits || user->owner != il_me());
+}
+
 static void is_called(void *loop, void *task)
 {
 	struct polled *it = task;
@@ -170,7 +177,11 @@ static int by_polls(struct user *u, const char *key, enum ww_table_mode mode, st
 			if (ww_poll_take_back(u->x, NULL))
 				it->is_due = false;
 			how->waker = NULL;
-			return way == 'x' ? ask(u, key, mode, how) : ww_acquire_end_wait(u->x) == -EDEADLK ? -EDEADLK : -ETIMEDOUT;
+			if (way == 'x')
+				return ask(u, key, mode, how);
+			r = ww_acquire_end_wait(u->x);
+			(void)ww_table_see(t, key, 1, waits_not, NULL);
+			return r == -EDEADLK ? r : -ETIMEDOUT;
 		}
 		il_await(&it->calls);
 	}
@@ -411,6 +422,8 @@ const struct il_program il_programs[] = {
 	{ "table-polls-cross-die", { "[yAyB]", "[yByA]" }, CONTEXTS(4) | WAIT_DIE, 1 },
 	{ "table-poll-ends", { "[xA]", "[A]" }, CONTEXTS(4), 2 },
 	{ "table-poll-ends-otherwise", { "~1[qA][B]2", "[A1~2]" }, CONTEXTS(4), 2 },
+	{ "table-poll-ends-last", { "[qA]", "[A]" }, CONTEXTS(4), 2 },
+	{ "table-poll-ends-raise", { "[aqA]", "[a]", "[A]" }, CONTEXTS(4), 1 },
 	{ "table-poll-elsewhere", { "[hA]", "[A]", "g" }, CONTEXTS(4), 2 },
 	{ "table-poll-raises", { "[ayA]", "[ayA]" }, CONTEXTS(4), 1 },
 	{ "table-owners", { "{AB}", "{BA}" }, CONTEXTS(4), 2 },
