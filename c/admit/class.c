@@ -286,13 +286,13 @@ COLD int ww_class_open_with(struct ww_class *c, bool has_own)
 }
 
 /* A class whose number of contexts the program sets has exactly as many, so no thread has a seat of its own there. */
-int ww_class_open(struct ww_class *c) { return ww_class_open_with(c, !c->contexts); }
+int ww_class_open(struct ww_class *c) { return ww_class_open_with(c, !NEEDED(c)->contexts); }
 
 /* Each slot by which a context reads is a mutex of the class, so the class has room for these besides the keys. */
 int ww_class_open_for(struct ww_class *c, uint32_t contexts, uint32_t keys, size_t *bytes)
 {
 	uint32_t slots = contexts ? contexts : MANY_CONTEXTS + MANY_OWN;
-	int r = keys > WW_MAX_LOCKS ? -EINVAL : ww_class_limit(c, (keys ? keys : MANY_MUTEXES) + slots, contexts);
+	int r = keys > WW_MAX_LOCKS ? -EINVAL : ww_class_limit(NEEDED(c), (keys ? keys : MANY_MUTEXES) + slots, contexts);
 	struct ww_pool *p;
 
 	if (!r)
@@ -308,7 +308,7 @@ size_t ww_acquire_size(void) { return sizeof(struct ww_acquire_ctx); }
 
 void ww_class_init(struct ww_class *c, int is_wait_die, const char *name)
 {
-	*c = (struct ww_class){ .is_wait_die = is_wait_die, .name = name };
+	*NEEDED(c) = (struct ww_class){ .is_wait_die = is_wait_die, .name = name };
 }
 
 static bool is_open(const struct ww_class *c, const char *call)
@@ -326,7 +326,7 @@ int ww_class_limit(struct ww_class *c, uint32_t mutexes, uint32_t contexts)
 		NOTE_MISUSE(c, "ww_class_limit", "a class has at most 16,777,216 mutexes and 4,094 contexts");
 		return -EINVAL;
 	}
-	if (is_open(c, "ww_class_limit"))
+	if (is_open(NEEDED(c), "ww_class_limit"))
 		return -EBUSY;
 	c->mutexes = mutexes;
 	c->contexts = contexts;
@@ -337,7 +337,7 @@ int ww_class_crowd(struct ww_class *c, uint32_t permits)
 {
 	if (permits > MANY_PERMITS && permits != WW_NO_CROWD)
 		return -EINVAL;
-	if (is_open(c, "ww_class_crowd"))
+	if (is_open(NEEDED(c), "ww_class_crowd"))
 		return -EBUSY;
 	c->permits = permits;
 	return 0;
@@ -382,7 +382,7 @@ struct ww_class *ww_find_class_of(const struct ww_mutex *m)
 	struct ww_class *c;
 
 	pthread_mutex_lock(&ww_opening);
-	c = pool_at(m) ? m->pool->class_ : m->class_;
+	c = !m ? NULL : pool_at(m) ? m->pool->class_ : m->class_;
 	pthread_mutex_unlock(&ww_opening);
 	return c;
 }
@@ -396,7 +396,7 @@ struct ww_class *ww_find_class_of(const struct ww_mutex *m)
 int ww_class_cancel(struct ww_class *c)
 {
 	struct ww_pool *p;
-	int r = open_pool_of(c, &p);
+	int r = open_pool_of(NEEDED(c), &p);
 
 	if (r)
 		return r;
@@ -440,7 +440,7 @@ int ww_class_free(struct ww_class *c)
 	struct ww_pool *p;
 	int r = 0;
 
-	of_this_copy_alone(__atomic_load_n(&c->pool, __ATOMIC_ACQUIRE));
+	of_this_copy_alone(__atomic_load_n(&NEEDED(c)->pool, __ATOMIC_ACQUIRE));
 	pthread_mutex_lock(&ww_opening);
 	p = c->pool;
 	if (p && !p->gone)
@@ -468,8 +468,8 @@ void ww_class_stats(struct ww_class *c, struct ww_class_counts *counts)
 {
 	struct ww_pool *p;
 
-	*counts = (struct ww_class_counts){ 0 };
-	of_this_copy_alone(__atomic_load_n(&c->pool, __ATOMIC_ACQUIRE));
+	*NEEDED(counts) = (struct ww_class_counts){ 0 };
+	of_this_copy_alone(__atomic_load_n(&NEEDED(c)->pool, __ATOMIC_ACQUIRE));
 	pthread_mutex_lock(&ww_opening);
 	p = c->pool;
 	if (p)

@@ -40,6 +40,23 @@ __attribute__((noreturn, cold)) static inline void end_of(const struct ww_class 
 
 __attribute__((noreturn, cold)) static inline void end(const char *call, const char *why) { end_of(NULL, call, why); }
 
+/*
+ * A pointer that a public call got, where the call follows it first. If it is NULL, the debug library ends the program with a message:
+ * `call` is what the program calls, if that isn't this function. A header says the same of the parameter by WW_NONNULL_.
+ */
+#ifdef WW_DEBUG
+#define NONE_OF(it) \
+	_Generic((it), struct ww_class *: "there is no class", struct ww_table *: "there is no table", \
+		 struct ww_acquire_ctx *: "there is no context", const struct ww_acquire_ctx *: "there is no context", \
+		 struct ww_mutex *: "there is no mutex", const struct ww_mutex *: "there is no mutex", \
+		 struct ww_shared_mutex *: "there is no mutex", const struct ww_shared_mutex *: "there is no mutex", \
+		 default: "an argument is NULL")
+#define NEEDED_BY(call, it) ((it) ? (it) : (end(call, NONE_OF(it)), (it)))
+#else
+#define NEEDED_BY(call, it) (it)
+#endif
+#define NEEDED(it) NEEDED_BY(__func__, it)
+
 /* Whether a thread can sleep until this time. NULL is no limit. */
 static inline bool is_time(const struct timespec *at)
 {

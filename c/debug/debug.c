@@ -346,7 +346,7 @@ static void show_class(const struct ww_class *c, FILE *to)
 	free(text);
 }
 
-void ww_class_print(struct ww_class *c, FILE *to) { show_class(c, to); }
+void ww_class_print(struct ww_class *c, FILE *to) { show_class(NEEDED(c), NEEDED(to)); }
 
 /* ---- what is noted ---- */
 

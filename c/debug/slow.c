@@ -91,6 +91,10 @@ void ww_lock_stat(FILE *to)
 		if (READ_ONCE(lines[k].about))
 			met[count++] = &lines[k];
 	qsort(met, count, sizeof *met, by_time);
+	if (!to) {
+		ww_fault(NULL, "ww_lock_stat", NULL, "an argument is NULL");
+		return;
+	}
 	fputs("   waits     all ms longest ms back-offs  at the line, behind the line that held the mutex longest\n", to);
 	for (unsigned k = 0; k < count; k++)
 		print_line(met[k], to);

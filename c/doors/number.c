@@ -33,7 +33,7 @@ static struct ww_shared_mutex *mutex_at(const struct ww_pool *p, uint32_t number
 
 struct ww_shared_mutex *ww_number_at(uint32_t number, struct ww_class *c)
 {
-	const struct ww_pool *p = __atomic_load_n(&c->pool, __ATOMIC_ACQUIRE);
+	const struct ww_pool *p = __atomic_load_n(&NEEDED(c)->pool, __ATOMIC_ACQUIRE);
 
 	return p ? mutex_at(p, number) : NULL;
 }
@@ -46,12 +46,12 @@ int ww_number_take(uint32_t *number, struct ww_class *c)
 {
 	struct ww_mutex *m;
 	struct ww_pool *p;
-	int r = open_pool_of(c, &p);
+	int r = open_pool_of(NEEDED(c), &p);
 
 	if (!r && !mutexes_of(p))
 		r = -ENOMEM;
 	if (!r)
-		r = ww_take_number(&p->numbers, NULL, number);
+		r = ww_take_number(&p->numbers, NULL, NEEDED(number));
 	if (r)
 		return r;
 	m = &p->numbered[*number].mutex_;
@@ -90,9 +90,9 @@ static int put_number(uint32_t number, struct ww_class *c, bool leaves)
 	return -EINVAL;
 }
 
-int ww_number_put(uint32_t number, struct ww_class *c) { return put_number(number, c, false); }
+int ww_number_put(uint32_t number, struct ww_class *c) { return put_number(number, NEEDED(c), false); }
 
-void ww_number_leave(uint32_t number, struct ww_class *c) { (void)put_number(number, c, true); }
+void ww_number_leave(uint32_t number, struct ww_class *c) { (void)put_number(number, NEEDED(c), true); }
 
 /* ---- by a context ---- */
 
@@ -102,7 +102,7 @@ static struct ww_mutex *mutex_asked(const char *call, uint32_t number, const str
 	struct ww_shared_mutex *m = x && x->own ? mutex_at(x->own->pool, number) : NULL;
 
 	if (!m)
-		NOTE_MISUSE(NULL, call, x && x->own ? "the class has no mutex of this number" : "the context has ended");
+		NOTE_MISUSE(NULL, call, !x ? "there is no context" : !x->own ? "the context has ended" : "the class has no mutex of this number");
 	return m ? &m->mutex_ : NULL;
 }
 

@@ -66,7 +66,7 @@ int ww_mutex_lock_poll(struct ww_mutex *m, struct ww_acquire_ctx *x, const struc
  */
 int ww_acquire_end_wait(struct ww_acquire_ctx *x)
 {
-	ww_seat *s = x->own;
+	ww_seat *s = NEEDED(x)->own;
 	struct ww_mutex *m = x->polled, *of = s ? s->asked : NULL;
 	bool visits = s && (s->asks == TO_AWAIT || (s->asks == TO_WRITE && m != of));
 	int r;
@@ -91,7 +91,7 @@ int ww_acquire_end_wait(struct ww_acquire_ctx *x)
  */
 int ww_acquire_end(struct ww_acquire_ctx *x)
 {
-	(void)ww_acquire_end_wait(x);
+	(void)ww_acquire_end_wait(NEEDED(x));
 	ww_acquire_unlock_all(x);
 	return ww_acquire_fini_checked(x);
 }
@@ -122,21 +122,21 @@ void ww_seek_end(struct ww_seek *me)
 {
 	ww_seat *s;
 
-	if (me->of_ && !seek(NULL, me, NULL, &s))
+	if (NEEDED(me)->of_ && !seek(NULL, me, NULL, &s))
 		give_seat(s);
 }
 
 /* Most contexts of tasks of the Rust crate begin without a seek, by the seat that a task of this thread used last. */
 int ww_acquire_init_poll(struct ww_acquire_ctx *x, struct ww_class *c, struct ww_seek *me, const struct ww_waker *waker)
 {
-	struct ww_pool *p = LIKELY(!me) ? __atomic_load_n(&c->pool, __ATOMIC_ACQUIRE) : NULL;
+	struct ww_pool *p = LIKELY(!me) ? __atomic_load_n(&NEEDED(c)->pool, __ATOMIC_ACQUIRE) : NULL;
 	ww_seat *s = LIKELY(p) ? claim_last(of_tasks(p), p) : NULL;
-	int r = LIKELY(s) ? 0 : seek(c, me, waker, &s);
+	int r = LIKELY(s) ? 0 : seek(NEEDED(c), me, waker, &s);
 
 	if (r == -EINPROGRESS)
 		return r;
 	NOTE(SEAT_POLLED, .seat = s);
-	return ww_begin_by(x, s, r);
+	return ww_begin_by(NEEDED(x), s, r);
 }
 
 /*
@@ -149,7 +149,7 @@ bool ww_poll_take_back(struct ww_acquire_ctx *x, struct ww_seek *seek)
 	bool was_there;
 
 	if (!p)
-		return x->own && is_polled(x) && ww_disarm(x->own);
+		return NEEDED(x)->own && is_polled(x) && ww_disarm(x->own);
 	if (!p->gone)
 		pthread_mutex_lock(&p->queue);
 	was_there = seek->waker_.wake;
@@ -167,8 +167,8 @@ bool ww_poll_take_back(struct ww_acquire_ctx *x, struct ww_seek *seek)
  */
 void ww_event_wake(void *event, void *woken)
 {
-	struct ww_event *to = event;
-	struct ww_woken *it = woken, *first = __atomic_load_n(&to->first_, __ATOMIC_RELAXED);
+	struct ww_event *to = NEEDED(event);
+	struct ww_woken *it = NEEDED(woken), *first = __atomic_load_n(&to->first_, __ATOMIC_RELAXED);
 	const uint64_t one = 1;
 
 	do
@@ -178,4 +178,4 @@ void ww_event_wake(void *event, void *woken)
 		syscall(SYS_write, to->descriptor, &one, sizeof one);
 }
 
-struct ww_woken *ww_event_take(struct ww_event *event) { return __atomic_exchange_n(&event->first_, NULL, __ATOMIC_ACQUIRE); }
+struct ww_woken *ww_event_take(struct ww_event *event) { return __atomic_exchange_n(&NEEDED(event)->first_, NULL, __ATOMIC_ACQUIRE); }

@@ -103,7 +103,7 @@ static const char used_before[] = "the value is of another class, or it was resu
 
 int ww_retry_drop(struct ww_retry *retry)
 {
-	int r = drop(retry);
+	int r = drop(NEEDED(retry));
 
 	if (r)
 		NOTE_MISUSE(NULL, "ww_retry_drop", used_before);
@@ -112,7 +112,7 @@ int ww_retry_drop(struct ww_retry *retry)
 
 int ww_acquire_suspend(struct ww_acquire_ctx *x, struct ww_retry *retry)
 {
-	ww_seat *s = ww_debug_has_ended(x) ? NULL : x->own;
+	ww_seat *s = ww_debug_has_ended(NEEDED(x)) ? NULL : x->own;
 	const char *why = !s ? "the context has ended" : is_polled(x) ? WAITS_BY_POLL :
 		x->acquired ? "the context still holds a mutex" : NULL;
 
@@ -124,7 +124,7 @@ int ww_acquire_suspend(struct ww_acquire_ctx *x, struct ww_retry *retry)
 		return -EAGAIN;
 	draw_age_by_hand(x);
 	s->puts = x->puts;
-	(void)drop(retry);
+	(void)drop(NEEDED(retry));
 	leave(x, retry, x->state & IS_TOLD ? s->told + 1 : 0);
 	return 0;
 }
@@ -176,20 +176,20 @@ static int await_told(struct ww_acquire_ctx *x, uint32_t number, const struct ti
 
 int ww_acquire_resume(struct ww_acquire_ctx *x, struct ww_class *c, struct ww_retry *retry, const struct timespec *until)
 {
-	struct ww_pool *p = __atomic_load_n(&c->pool, __ATOMIC_ACQUIRE);
-	uint32_t awaits = retry->awaits_;
+	struct ww_pool *p = __atomic_load_n(&NEEDED(c)->pool, __ATOMIC_ACQUIRE);
+	uint32_t awaits = NEEDED(retry)->awaits_;
 	ww_seat *s;
 	int r;
 
 	if (!retry->ticket_)
-		return ww_acquire_init_until(x, c, until);
+		return ww_acquire_init_until(NEEDED(x), c, until);
 	of_this_copy_alone(p);
 	s = is_time(until) && p && !p->gone ? take_ticket(p, retry) : NULL;
 	if (!s) {
 		NOTE_MISUSE(c, "ww_acquire_resume", is_time(until) ? used_before : "the time is none");
-		return ww_begin_by(x, NULL, -EINVAL);
+		return ww_begin_by(NEEDED(x), NULL, -EINVAL);
 	}
-	of_seat(x, p, s);
+	of_seat(NEEDED(x), p, s);
 	NOTE(CONTEXT_RESUMED, .context = x);
 	r = awaits ? await_told(x, awaits - 1, until) : 0;
 	if (r) {

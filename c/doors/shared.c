@@ -218,19 +218,21 @@ static void leave_reads(struct ww_acquire_ctx *x, uint64_t left)
 
 int ww_shared_mutex_init_checked(struct ww_shared_mutex *m, struct ww_class *c)
 {
+	(void)NEEDED(m);
 	m->readers_ = 0;
-	return ww_mutex_init_checked(&m->mutex_, c);
+	return ww_mutex_init_checked(&m->mutex_, NEEDED(c));
 }
 
 void ww_shared_mutex_init(struct ww_shared_mutex *m, struct ww_class *c)
 {
+	(void)NEEDED(m);
 	m->readers_ = 0;
-	ww_mutex_init(&m->mutex_, c);
+	ww_mutex_init(&m->mutex_, NEEDED(c));
 }
 
 bool ww_shared_mutex_is_locked(const struct ww_shared_mutex *m)
 {
-	struct ww_pool *p = pool_at(&m->mutex_);
+	struct ww_pool *p = pool_at(&NEEDED(m)->mutex_);
 
 	return p && !p->gone && (look_at(p, &m->mutex_) ||
 				 __atomic_load_n(&m->mutex_.waiters, __ATOMIC_SEQ_CST) & ~(IS_TAKEN | IS_OF_NUMBER) ||
@@ -251,17 +253,20 @@ static bool reports_use(const struct ww_shared_mutex *m)
 /* Ends a mutex whose memory goes. A context that has read the mutex, and reads on, names the number alone, so the number is left. */
 int ww_shared_mutex_end_(struct ww_shared_mutex *m)
 {
-	return ww_end_mutex(&m->mutex_, reports_use(m) ? ww_leave_number : ww_give_locked);
+	return ww_end_mutex(&m->mutex_, reports_use(NEEDED(m)) ? ww_leave_number : ww_give_locked);
 }
 
-int ww_shared_mutex_destroy(struct ww_shared_mutex *m) { return reports_use(m) ? -EBUSY : ww_mutex_destroy(&m->mutex_); }
+int ww_shared_mutex_destroy(struct ww_shared_mutex *m) { return reports_use(NEEDED(m)) ? -EBUSY : ww_mutex_destroy(&m->mutex_); }
 
 bool ww_shared_mutex_is_written_by(const struct ww_shared_mutex *m, const struct ww_acquire_ctx *x)
 {
-	return holds_it(x, &m->mutex_);
+	return holds_it(NEEDED(x), &NEEDED(m)->mutex_);
 }
 
-bool ww_shared_mutex_is_read_by(const struct ww_shared_mutex *m, const struct ww_acquire_ctx *x) { return reads_it(x, &m->mutex_); }
+bool ww_shared_mutex_is_read_by(const struct ww_shared_mutex *m, const struct ww_acquire_ctx *x)
+{
+	return reads_it(NEEDED(x), &NEEDED(m)->mutex_);
+}
 
 /*
  * Whether a call may begin, or a poll go on: 0, or the error that the call returns. Of most calls little is asked, since they have
@@ -559,7 +564,7 @@ void ww_shared_mutex_downgrade(struct ww_shared_mutex *m, struct ww_acquire_ctx 
 {
 	bool waits = x && phase_of(x) == IN_POLL;
 
-	if (UNLIKELY(!x || waits || !holds_it(x, &m->mutex_)))
+	if (UNLIKELY(!x || waits || !holds_it(x, &NEEDED(m)->mutex_)))
 		end("ww_shared_mutex_downgrade", waits ? WAITS_BY_POLL : "the context doesn't write the mutex");
 	note_used(x);
 	if (!holds_slot(x) && take_slot(x, (struct ww_how){ 0 }, true))
@@ -572,10 +577,10 @@ void ww_shared_mutex_downgrade(struct ww_shared_mutex *m, struct ww_acquire_ctx 
 
 int ww_shared_mutex_unlock(struct ww_shared_mutex *m, struct ww_acquire_ctx *x)
 {
-	if (is_polled(x))
+	if (is_polled(NEEDED(x)))
 		return -EBUSY;
 	note_used(x);
-	if (holds_it(x, &m->mutex_))
+	if (holds_it(x, &NEEDED(m)->mutex_))
 		return ww_unlock_of(&m->mutex_, x);
 	NOTE_MISUSE(NULL, "ww_shared_mutex_unlock", "the context doesn't write the mutex");
 	return -EINVAL;
@@ -583,10 +588,10 @@ int ww_shared_mutex_unlock(struct ww_shared_mutex *m, struct ww_acquire_ctx *x)
 
 int ww_shared_mutex_unlock_shared(struct ww_shared_mutex *m, struct ww_acquire_ctx *x)
 {
-	if (is_polled(x))
+	if (is_polled(NEEDED(x)))
 		return -EBUSY;
 	note_used(x);
-	if (!reads_it(x, &m->mutex_)) {
+	if (!reads_it(x, &NEEDED(m)->mutex_)) {
 		NOTE_MISUSE(NULL, "ww_shared_mutex_unlock_shared", NOT_READ);
 		return -EINVAL;
 	}
@@ -600,10 +605,10 @@ int ww_shared_mutex_unlock_shared(struct ww_shared_mutex *m, struct ww_acquire_c
  */
 int ww_shared_mutex_end_read(struct ww_shared_mutex *m, struct ww_acquire_ctx *x)
 {
-	if (is_polled(x))
+	if (is_polled(NEEDED(x)))
 		return -EBUSY;
 	note_used(x);
-	if (!reads_it(x, &m->mutex_)) {
+	if (!reads_it(x, &NEEDED(m)->mutex_)) {
 		NOTE_MISUSE(NULL, "ww_shared_mutex_end_read", NOT_READ);
 		return -EINVAL;
 	}
@@ -615,7 +620,7 @@ int ww_shared_mutex_end_read(struct ww_shared_mutex *m, struct ww_acquire_ctx *x
 
 void ww_acquire_end_reads(struct ww_acquire_ctx *x)
 {
-	if (phase_of(x) == IN_POLL)
+	if (phase_of(NEEDED(x)) == IN_POLL)
 		end("ww_acquire_end_reads", WAITS_BY_POLL);
 	note_used(x);
 	if (x->own && holds_slot(x))

@@ -110,8 +110,8 @@ static uint64_t hash_of(const struct ww_table *t, const uint8_t *at, size_t leng
 
 static int ask(struct asked *asked, const char *call, struct ww_table *t, struct ww_acquire_ctx *x, const void *key, size_t length)
 {
-	if (!x->own || x->own->pool != t->opened || is_loop(x)) {
-		NOTE_MISUSE(t->class_, call, "the context has ended, is of another class, or in a loop");
+	if (!NEEDED_BY(call, x)->own || x->own->pool != NEEDED_BY(call, t)->opened || is_loop(x)) {
+		NOTE_MISUSE(NEEDED_BY(call, t)->class_, call, "the context has ended, is of another class, or in a loop");
 		return -EINVAL;
 	}
 	*asked = (struct asked){ t, x, &t->seats[place_among(x->own) - 1], key, length, hash_of(t, key, length), false };
@@ -467,7 +467,7 @@ static void give_up(const struct asked *asked, struct use *u)
 int ww_table_unlock(struct ww_table *t, struct ww_acquire_ctx *x, const void *key, size_t length)
 {
 	struct asked asked;
-	int r = is_polled(x) ? -EBUSY : ask(&asked, "ww_table_unlock", t, x, key, length);
+	int r = is_polled(NEEDED(x)) ? -EBUSY : ask(&asked, "ww_table_unlock", t, x, key, length);
 	struct bucket *b;
 	struct entry *e;
 	struct use *u;
@@ -489,14 +489,14 @@ int ww_table_unlock(struct ww_table *t, struct ww_acquire_ctx *x, const void *ke
 
 size_t ww_table_mark(struct ww_table *t, const struct ww_acquire_ctx *x)
 {
-	return x->own && x->own->pool == t->opened ? t->seats[place_among(x->own) - 1].count : 0;
+	return NEEDED(x)->own && x->own->pool == NEEDED(t)->opened ? t->seats[place_among(x->own) - 1].count : 0;
 }
 
 void ww_table_unlock_to(struct ww_table *t, struct ww_acquire_ctx *x, size_t mark)
 {
 	struct asked asked;
 
-	if (is_polled(x) || ask(&asked, "ww_table_unlock_to", t, x, NULL, 0))
+	if (is_polled(NEEDED(x)) || ask(&asked, "ww_table_unlock_to", t, x, NULL, 0))
 		return;
 	while (asked.me->count > mark)
 		give_up(&asked, asked.me->newest);
@@ -522,7 +522,7 @@ static size_t show(const struct entry *e, bool all, void (*see)(void *data, cons
 size_t ww_table_see(struct ww_table *t, const void *key, size_t length, void (*see)(void *data, const struct ww_table_user *user),
 		    void *data)
 {
-	struct asked asked = { .of = t, .key = key, .length = length, .hash = key ? hash_of(t, key, length) : 0 };
+	struct asked asked = { .of = NEEDED(t), .key = key, .length = length, .hash = key ? hash_of(t, key, length) : 0 };
 	size_t count = 0;
 
 	for (unsigned k = 0; k < (key ? 1 : BUCKETS); k++) {
@@ -574,7 +574,7 @@ static struct of_seat *find_owner(struct ww_table *t, uint64_t owner, bool has_l
  */
 int ww_table_join(struct ww_table *t, uint64_t owner, uint64_t former, const struct timespec *until, struct ww_acquire_ctx **ctx)
 {
-	struct of_seat *seat = find_owner(t, owner, false, false);
+	struct of_seat *seat = find_owner(NEEDED(t), owner, false, false);
 	struct ww_retry none = { 0 };
 	struct ww_acquire_ctx x;
 	int r;
@@ -596,14 +596,14 @@ int ww_table_join(struct ww_table *t, uint64_t owner, uint64_t former, const str
 		NOTE(CONTEXT_RESUMED, .context = &seat->x); /* the context lies there from now on */
 		add_owner(t, owner, seat, false);
 	}
-	*ctx = &seat->x;
+	*NEEDED(ctx) = &seat->x;
 	return 0;
 }
 
 /* The context ends elsewhere than in the table, since once it has ended, its seat and that place in the table are another context's. */
 int ww_table_leave(struct ww_table *t, uint64_t owner, bool again)
 {
-	struct of_seat *seat = find_owner(t, owner, false, false);
+	struct of_seat *seat = find_owner(NEEDED(t), owner, false, false);
 	struct ww_acquire_ctx x;
 
 	if (!seat) {
@@ -633,7 +633,7 @@ int ww_table_open(struct ww_table **made, struct ww_class *c, uint32_t keys)
 {
 	struct ww_table *t;
 	struct ww_pool *p;
-	int r = open_pool_of(c, &p);
+	int r = open_pool_of(NEEDED(c), &p);
 
 	if (r || !(t = ww_take_zeros(bytes_of_table(p))))
 		return r ? r : -ENOMEM;
@@ -645,13 +645,13 @@ int ww_table_open(struct ww_table **made, struct ww_class *c, uint32_t keys)
 	t->spares = t->limit / seats_of(p) / 2 < SPARES ? t->limit / seats_of(p) / 2 : SPARES;
 	for (unsigned k = 0; k < BUCKETS; k++)
 		pthread_mutex_init(&t->buckets[k].lock, NULL);
-	*made = t;
+	*NEEDED(made) = t;
 	return 0;
 }
 
 int ww_table_close(struct ww_table *t)
 {
-	for (uint32_t k = 0; k < seats_of(t->opened); k++)
+	for (uint32_t k = 0; k < seats_of(NEEDED(t)->opened); k++)
 		if (t->seats[k].count || t->seats[k].polled)
 			return -EBUSY;
 	for (unsigned k = 0; k < BUCKETS; k++)

@@ -9,7 +9,7 @@
 
 int ww_acquire_label(struct ww_acquire_ctx *x, uint64_t label)
 {
-	if (!x->own)
+	if (!NEEDED(x)->own)
 		return -EINVAL;
 	draw_age_by_hand(x);
 	note_meeting(x->own);
@@ -80,9 +80,9 @@ static struct ww_place ended_at(const ww_seat *s) { return place_of(s->pool, s->
 
 int ww_acquire_why(const struct ww_acquire_ctx *x, struct ww_why *why)
 {
-	const ww_seat *s = x->own;
+	const ww_seat *s = NEEDED(x)->own;
 
-	*why = (struct ww_why){ 0 };
+	*NEEDED(why) = (struct ww_why){ 0 };
 	if (!s || is_polled(x))
 		return s ? -EBUSY : -EINVAL;
 	why->at = ended_at(s);
@@ -100,7 +100,7 @@ int ww_acquire_why(const struct ww_acquire_ctx *x, struct ww_why *why)
 
 size_t ww_acquire_cycle(const struct ww_acquire_ctx *x, struct ww_place *path, size_t room)
 {
-	const ww_seat *s = x->own;
+	const ww_seat *s = NEEDED(x)->own;
 	struct ww_place at = s && !is_polled(x) ? ended_at(s) : (struct ww_place){ 0 };
 
 	for (size_t k = 0; k < room && at.by.part != WW_NOBODY; k++) {
@@ -136,7 +136,7 @@ static bool is_reading(const struct ww_pool *p, const struct ww_slot *slot, uint
 
 size_t ww_mutex_users(const struct ww_mutex *m, struct ww_user *users, size_t room)
 {
-	const struct ww_pool *p = pool_at(m);
+	const struct ww_pool *p = pool_at(NEEDED(m));
 	struct users found = { users, 0, room };
 
 	if (!p || p->gone)
@@ -161,9 +161,9 @@ size_t ww_mutex_users(const struct ww_mutex *m, struct ww_user *users, size_t ro
 
 int ww_acquire_count(const struct ww_acquire_ctx *x, struct ww_acquire_counts *counts)
 {
-	const ww_seat *s = x->own;
+	const ww_seat *s = NEEDED(x)->own;
 
-	*counts = (struct ww_acquire_counts){ 0 };
+	*NEEDED(counts) = (struct ww_acquire_counts){ 0 };
 	if (!s)
 		return -EINVAL;
 	if (s->ages == MET)

@@ -95,13 +95,13 @@ extern "C" {
  * Gives the mutex a number of its class.  It doesn't read what the memory contained, so the number of a mutex that wasn't
  * destroyed is never used again.  The program ends with a message if all numbers are in use, or the class can't be opened.
  */
-void ww_mutex_init(struct ww_mutex *lock, struct ww_class *ww_class);
+void ww_mutex_init(struct ww_mutex *lock, struct ww_class *ww_class) WW_NONNULL_(1, 2);
 /*
  * Frees the mutex's number; the mutex may not be used again before the next ww_mutex_init.  -EBUSY: somebody holds the mutex or waits for
  * it, and nothing has changed; -EINVAL: the mutex was destroyed before.  Once this returns 0, no other thread accesses the mutex any
  * more: its memory may be freed, even if another thread's ww_mutex_unlock hasn't returned yet.
  */
-int ww_mutex_destroy(struct ww_mutex *lock);
+int ww_mutex_destroy(struct ww_mutex *lock) WW_NONNULL_(1);
 /*
  * Begins a context.  If all contexts of the class are in use, the call waits for one to end, in FIFO order.  A context that isn't ended
  * stays in use, and threads that hold something in one context and wait for another can deadlock: the debug library reports when none
@@ -114,20 +114,20 @@ int ww_mutex_destroy(struct ww_mutex *lock);
  * loop.  A context that locks without the loop after one of those 16 has the age of its first lock call.  In the debug library each
  * context has the age of its own ww_acquire_init.
  */
-void ww_acquire_init(struct ww_acquire_ctx *ctx, struct ww_class *ww_class);
+void ww_acquire_init(struct ww_acquire_ctx *ctx, struct ww_class *ww_class) WW_NONNULL_(1, 2);
 /*
  * Says that the context has all its locks.  Only the debug library reports a later lock.  The program ends with a message if the context
  * is done already, or has ended.
  */
-void ww_acquire_done(struct ww_acquire_ctx *ctx);
+void ww_acquire_done(struct ww_acquire_ctx *ctx) WW_NONNULL_(1);
 /* Ends the context. The program ends with a message if the context still holds a mutex, or has ended already. */
-void ww_acquire_fini(struct ww_acquire_ctx *ctx);
+void ww_acquire_fini(struct ww_acquire_ctx *ctx) WW_NONNULL_(1);
 /*
  * Ends the context in whatever state it is, for destructors and languages with exceptions: ends a poll's wait and all reads, and does
  * what ww_acquire_unlock_all and ww_acquire_fini do.  -EINVAL: the context has ended before, or never began.  ww_acquire_cancel may
  * run at the same time, or later, if no other context begins in this memory and the class isn't freed.
  */
-int ww_acquire_end(struct ww_acquire_ctx *ctx);
+int ww_acquire_end(struct ww_acquire_ctx *ctx) WW_NONNULL_(1);
 /*
  * Acquires the mutex, and waits for it.  -EDEADLK: release all that the context holds, then call ww_mutex_lock_slow with this mutex;
  * -EALREADY: the context holds the mutex.  -EINVAL: the context has ended, it got -EDEADLK and still holds a mutex, it is of another
@@ -140,7 +140,7 @@ int ww_acquire_end(struct ww_acquire_ctx *ctx);
  * that value.  A thread may hold several mutexes so.  Each uses one of the class's contexts while it is held, for which the call waits as
  * ww_acquire_init does.
  */
-int ww_mutex_lock(struct ww_mutex *lock, struct ww_acquire_ctx *ctx);
+int ww_mutex_lock(struct ww_mutex *lock, struct ww_acquire_ctx *ctx) WW_NONNULL_(1);
 /* As ww_mutex_lock, but ww_acquire_cancel may end the wait: -EINTR, and what was held stays held.  With NULL misuse returns -EINVAL. */
 WW_MUST_CHECK int ww_mutex_lock_interruptible(struct ww_mutex *lock, struct ww_acquire_ctx *ctx);
 /* After -EDEADLK of this mutex, with nothing held: acquires the mutex, and waits for it.  Otherwise the program ends with a message. */
@@ -151,14 +151,14 @@ WW_MUST_CHECK int ww_mutex_lock_slow_interruptible(struct ww_mutex *lock, struct
  * Returns 1 if it acquired the mutex, else 0: somebody holds it or waits for it, or the context may acquire nothing now; with
  * NULL also if all contexts of the class are in use.  The program ends with a message for a context of another class.
  */
-WW_MUST_CHECK int ww_mutex_trylock(struct ww_mutex *lock, struct ww_acquire_ctx *ctx);
+WW_MUST_CHECK int ww_mutex_trylock(struct ww_mutex *lock, struct ww_acquire_ctx *ctx) WW_NONNULL_(1);
 /*
  * Releases the mutex, for the thread that uses its context, or that acquired it without one.  The program ends with a message if nobody
  * holds it.
  */
-void ww_mutex_unlock(struct ww_mutex *lock);
+void ww_mutex_unlock(struct ww_mutex *lock) WW_NONNULL_(1);
 /* Whether somebody holds the mutex, or it is being handed to a waiter: that may be out of date when this returns. */
-bool ww_mutex_is_locked(struct ww_mutex *lock);
+bool ww_mutex_is_locked(struct ww_mutex *lock) WW_NONNULL_(1);
 
 /* ---- loops and lists: contexts that back off by themselves ---- */
 
@@ -201,7 +201,7 @@ bool ww_mutex_is_locked(struct ww_mutex *lock);
 #define ww_until_all_locked(...) WW_UNTIL_ALL_LOCKED_(__VA_ARGS__, ww_name_a_label_for_each_further_loop_, )
 #define ww_retry_on_contention(...) WW_RETRY_ON_CONTENTION_(__VA_ARGS__, ww_name_a_label_for_each_further_loop_, )
 /* Whether the last lock call of the context returned -EDEADLK, and the context hasn't backed off since. */
-bool ww_is_contended(const struct ww_acquire_ctx *ctx);
+bool ww_is_contended(const struct ww_acquire_ctx *ctx) WW_NONNULL_(1);
 /*
  * For the retry loop of a framework, which calls back: lock calls are in one function, the end of a try in another, the loop elsewhere.
  * ww_acquire_begin_tries comes after ww_acquire_init.  A try in which a lock call returned -EDEADLK goes back to the loop.
@@ -213,21 +213,21 @@ bool ww_is_contended(const struct ww_acquire_ctx *ctx);
  *					ww_acquire_fini(ctx);
  * ww_acquire_unlock_all would take that wait back, so that the next try comes at once, which the debug library reports.
  */
-static inline void ww_acquire_begin_tries(struct ww_acquire_ctx *ctx);
-static inline bool ww_acquire_end_try(struct ww_acquire_ctx *ctx);
+static inline void ww_acquire_begin_tries(struct ww_acquire_ctx *ctx) WW_NONNULL_(1);
+static inline bool ww_acquire_end_try(struct ww_acquire_ctx *ctx) WW_NONNULL_(1);
 /*
  * Releases everything that the context holds, the newest first, and ends its reads.  The program ends with a message if the context waits
  * by a poll, or holds a mutex that it doesn't list: without a loop, tries or a list of locks, a context lists what it acquired since it
  * last released a mutex, except by number.  So there unlock each mutex by itself, or first call ww_acquire_begin_tries.
  */
-void ww_acquire_unlock_all(struct ww_acquire_ctx *ctx);
+void ww_acquire_unlock_all(struct ww_acquire_ctx *ctx) WW_NONNULL_(1);
 /*
  * Takes a mark; and releases everything acquired after it, the newest first.  If mutexes from before the mark were released meanwhile, as
  * many of the later ones stay held instead.  A contended mutex that the context waited for and hasn't locked since doesn't count.  A
  * back-off releases everything, and the body takes the mark again.
  */
-WW_MUST_CHECK size_t ww_acquire_mark(const struct ww_acquire_ctx *ctx);
-void ww_acquire_unlock_to(struct ww_acquire_ctx *ctx, size_t mark);
+WW_MUST_CHECK size_t ww_acquire_mark(const struct ww_acquire_ctx *ctx) WW_NONNULL_(1);
+void ww_acquire_unlock_to(struct ww_acquire_ctx *ctx, size_t mark) WW_NONNULL_(1);
 /*
  * Acquires all mutexes of the list, in any order, and backs off by itself.  If it returns an error, it has released what it had acquired.
  * -EALREADY: the list has a mutex twice, or the context held one of them before; -EINTR; -EINVAL, -ENOSPC, -ENOMEM; -EDEADLK: only if the
@@ -240,20 +240,21 @@ WW_MUST_CHECK int ww_mutex_lock_all(struct ww_acquire_ctx *ctx, struct ww_mutex 
  * above 0 to give up.  The function is called again after each -EDEADLK, with nothing held.  The context holds nothing before, and
  * nothing afterwards unless this returns 0.
  */
-static inline int ww_mutex_lock_by(struct ww_acquire_ctx *ctx, int (*locks)(struct ww_acquire_ctx *ctx, void *data), void *data);
+static inline int ww_mutex_lock_by(struct ww_acquire_ctx *ctx, int (*locks)(struct ww_acquire_ctx *ctx, void *data),
+				   void *data) WW_NONNULL_(1, 2);
 /* Flags of a context.  WW_IGNORE_DUPLICATES applies from the context's first loop or list on. */
 enum ww_flags {
 	WW_IGNORE_DUPLICATES = 1,	/* a lock of what the context holds returns 0, acquires nothing and needs no unlock */
 	WW_INTERRUPTIBLE = 2,		/* ww_acquire_cancel may end the context's waits, also those of ww_mutex_lock */
 	WW_MAY_BE_OLDER = 4,		/* the context backs off by itself, so may share an age (ww_acquire_init); before its first lock */
 };
-void ww_acquire_flags(struct ww_acquire_ctx *ctx, unsigned int flags);
+void ww_acquire_flags(struct ww_acquire_ctx *ctx, unsigned int flags) WW_NONNULL_(1);
 
 /*
  * This thread goes on with a context that another thread named last in a call.  Only the debug library uses this, to report a
  * ww_mutex_unlock by a thread that isn't the last one to name the mutex's context.
  */
-void ww_acquire_here(struct ww_acquire_ctx *ctx);
+void ww_acquire_here(struct ww_acquire_ctx *ctx) WW_NONNULL_(1);
 
 /* ---- waits that end early ---- */
 
@@ -263,14 +264,14 @@ void ww_acquire_here(struct ww_acquire_ctx *ctx);
  * this memory: callers ensure that, as by a lock of theirs.  Any thread may call it.  A cancel that found no wait ends with its context.
  * A cancel ends a wait also if all contexts of the class are in use; so does a time limit.
  */
-int ww_acquire_cancel(struct ww_acquire_ctx *ctx);
+int ww_acquire_cancel(struct ww_acquire_ctx *ctx) WW_NONNULL_(1);
 /*
  * Ends, with -EINTR, each wait of the class that ww_acquire_cancel or a time limit could end, and each wait for a context or a permit in
  * ww_acquire_init_until, also with NULL, or by a poll; and each later one at once, until ww_class_free.  It ends no other wait, and no
  * call that needn't wait.  So a program that ends needs no list of its contexts.  Any thread may call it.  -ENOMEM: the class can't be
  * opened; -EINVAL: the class was in use at a fork.
  */
-int ww_class_cancel(struct ww_class *ww_class);
+int ww_class_cancel(struct ww_class *ww_class) WW_NONNULL_(1);
 /*
  * As ww_mutex_lock_interruptible, but waits at most until this time of the monotonic clock: -ETIMEDOUT, and what was held stays held.  A
  * mutex that is free is acquired, however late it is.  NULL is no limit.  -EINVAL also if tv_nsec isn't 0 to 999,999,999.
@@ -287,12 +288,13 @@ WW_MUST_CHECK int ww_mutex_lock_slow_until(struct ww_mutex *lock, struct ww_acqu
  * free is begun, however late it is.  -EINTR after ww_class_cancel, -EINVAL as ww_mutex_lock_until, and other errors as
  * ww_acquire_init_checked.
  */
-WW_MUST_CHECK int ww_acquire_init_until(struct ww_acquire_ctx *ctx, struct ww_class *ww_class, const struct timespec *monotonic);
+WW_MUST_CHECK int ww_acquire_init_until(struct ww_acquire_ctx *ctx, struct ww_class *ww_class,
+					const struct timespec *monotonic) WW_NONNULL_(1, 2);
 
 /* ---- classes ---- */
 
 /* Makes a class in the program's own memory, as DEFINE_WW_CLASS (0) or DEFINE_WD_CLASS (1) does. */
-void ww_class_init(struct ww_class *ww_class, int is_wait_die, const char *name);
+void ww_class_init(struct ww_class *ww_class, int is_wait_die, const char *name) WW_NONNULL_(1);
 /*
  * Sets how many mutexes and contexts there may be at a time, before the first use of the class, which allocates memory for as many
  * mutexes: 69 MiB for a million mutexes.  0: 65,536 mutexes; and 1,024 contexts that anybody may use, of which tasks may have 896
@@ -300,7 +302,7 @@ void ww_class_init(struct ww_class *ww_class, int is_wait_die, const char *name)
  * mutex that is held without a context (NULL) counts as a context.  -EINVAL: more than 16,777,216 mutexes, or than 4,094 contexts;
  * -EBUSY: the class is open.
  */
-WW_MUST_CHECK int ww_class_limit(struct ww_class *ww_class, uint32_t mutexes, uint32_t contexts);
+WW_MUST_CHECK int ww_class_limit(struct ww_class *ww_class, uint32_t mutexes, uint32_t contexts) WW_NONNULL_(1);
 /*
  * Sets how many threads at a time run contexts of the class in a crowd.  A crowd begins where threads spend an eighth of their time in
  * waits for its mutexes.  Only threads with a permit begin contexts then; the others wait in ww_acquire_init.  A permit lasts up to 1 ms,
@@ -311,22 +313,22 @@ WW_MUST_CHECK int ww_class_limit(struct ww_class *ww_class, uint32_t mutexes, ui
  * no thread waits for a permit; -EBUSY: the class is open.
  */
 #define WW_NO_CROWD UINT32_MAX
-WW_MUST_CHECK int ww_class_crowd(struct ww_class *ww_class, uint32_t permits);
+WW_MUST_CHECK int ww_class_crowd(struct ww_class *ww_class, uint32_t permits) WW_NONNULL_(1);
 /* Opens the class now, if it isn't open: it allocates all its memory. -ENOMEM. */
-WW_MUST_CHECK int ww_class_open(struct ww_class *ww_class);
+WW_MUST_CHECK int ww_class_open(struct ww_class *ww_class) WW_NONNULL_(1);
 /*
  * Opens the class for a server: with so many contexts, also suspended ones (0: as ww_class_limit), and for so many keys (0: 65,536), each
  * a mutex that is locked at a time.  Besides them the class has the mutexes that readers of these contexts need (ww_shared.h).  If
  * `bytes` isn't NULL, it says how much address space the class takes.  Opening takes time that grows with the keys.  -EINVAL, -EBUSY as
  * ww_class_limit.
  */
-WW_MUST_CHECK int ww_class_open_for(struct ww_class *ww_class, uint32_t contexts, uint32_t keys, size_t *bytes);
+WW_MUST_CHECK int ww_class_open_for(struct ww_class *ww_class, uint32_t contexts, uint32_t keys, size_t *bytes) WW_NONNULL_(1);
 /*
  * Frees the class's memory, except a few kilobytes, which the class that is opened next uses; its next use opens it anew.  -EBUSY: the
  * class has a mutex, a context is active, or a mutex is held.  It may be called until it returns 0, if no other thread begins to use the
  * class; another thread may still be ending its last context.
  */
-int ww_class_free(struct ww_class *ww_class);
+int ww_class_free(struct ww_class *ww_class) WW_NONNULL_(1);
 struct ww_class_counts {
 	uint64_t back_offs, lock_waits, context_waits, permit_waits;
 	uint64_t contexts, context_waiters, task_contexts; /* how many there are now */
@@ -337,7 +339,7 @@ struct ww_class_counts {
  * (permit_waits: see ww_class_crowd).  And how many contexts are in use now (contexts), how many calls wait for one (context_waiters),
  * and how many tasks may have at a time (task_contexts: see ww_poll.h).  All are 0 if it isn't open.
  */
-void ww_class_stats(struct ww_class *ww_class, struct ww_class_counts *counts);
+void ww_class_stats(struct ww_class *ww_class, struct ww_class_counts *counts) WW_NONNULL_(1, 2);
 
 /* ---- other calls that the kernel doesn't have ---- */
 
@@ -352,19 +354,19 @@ void ww_class_stats(struct ww_class *ww_class, struct ww_class_counts *counts);
  * Whether this context holds the mutex; with NULL: whether this thread acquired it without one.  That is certain for the thread that uses
  * the context, and for NULL; for others it may be out of date when this returns.
  */
-bool ww_mutex_is_held_by(const struct ww_mutex *lock, const struct ww_acquire_ctx *ctx);
+bool ww_mutex_is_held_by(const struct ww_mutex *lock, const struct ww_acquire_ctx *ctx) WW_NONNULL_(1);
 /*
  * NAME_checked does what NAME does, but returns an error where NAME would end the program: -EINVAL for misuse; -ENOSPC if all numbers are
  * in use, -ENOMEM if the class can't be opened, and -EAGAIN if all contexts are in use, or others wait for a permit, for which
  * ww_acquire_init_checked doesn't wait.
  */
-WW_MUST_CHECK int ww_mutex_init_checked(struct ww_mutex *lock, struct ww_class *ww_class);
-WW_MUST_CHECK int ww_acquire_init_checked(struct ww_acquire_ctx *ctx, struct ww_class *ww_class);
-WW_MUST_CHECK int ww_acquire_done_checked(struct ww_acquire_ctx *ctx);
-WW_MUST_CHECK int ww_acquire_fini_checked(struct ww_acquire_ctx *ctx);
+WW_MUST_CHECK int ww_mutex_init_checked(struct ww_mutex *lock, struct ww_class *ww_class) WW_NONNULL_(1, 2);
+WW_MUST_CHECK int ww_acquire_init_checked(struct ww_acquire_ctx *ctx, struct ww_class *ww_class) WW_NONNULL_(1, 2);
+WW_MUST_CHECK int ww_acquire_done_checked(struct ww_acquire_ctx *ctx) WW_NONNULL_(1);
+WW_MUST_CHECK int ww_acquire_fini_checked(struct ww_acquire_ctx *ctx) WW_NONNULL_(1);
 WW_MUST_CHECK int ww_mutex_lock_slow_checked(struct ww_mutex *lock, struct ww_acquire_ctx *ctx);
 WW_MUST_CHECK int ww_mutex_trylock_checked(struct ww_mutex *lock, struct ww_acquire_ctx *ctx);
-WW_MUST_CHECK int ww_mutex_unlock_checked(struct ww_mutex *lock);
+WW_MUST_CHECK int ww_mutex_unlock_checked(struct ww_mutex *lock) WW_NONNULL_(1);
 /*
  * From now on this function gets each message that ends the program, and each of the debug library's, instead of standard error, to which
  * NULL returns.  A message has no line feed at its end, but may have several lines.  Any thread calls it, maybe several at a time; it

@@ -38,13 +38,13 @@ extern "C" {
  * Writes what of a class is in use, which may be out of date by then: a line for each context and each lock with NULL, with where it
  * began and what it waits for, and a line for each mutex that is held.  tools/picture draws from these lines who waits for whom.
  */
-void ww_class_print(struct ww_class *ww_class, FILE *to);
+void ww_class_print(struct ww_class *ww_class, FILE *to) WW_NONNULL_(1, 2);
 /*
  * Writes a table, as the kernel's lock_stat: for each line that locks how often it waited, how long in all and how long at most,
  * and how often a context backed off there; and the line at which the mutex of the longest wait had been acquired.  If the
  * environment has WW_LOCK_STAT, the library writes the table to standard error as the program ends.
  */
-void ww_lock_stat(FILE *to);
+void ww_lock_stat(FILE *to) WW_NONNULL_(1);
 /* How many calls were misuse, also those of which nothing was written. */
 unsigned long ww_debug_faults(void);
 /* How many warnings and deadlocks were reported. */

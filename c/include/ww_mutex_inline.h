@@ -24,14 +24,14 @@ extern "C" {
 		if (ww_is_contended(ctx))                                                              \
 			goto again;                                                                    \
 	} while (0)
-struct ww_acquire_ctx *ww_tries_begin_(struct ww_acquire_ctx *ctx) __attribute__((__returns_nonnull__));
+struct ww_acquire_ctx *ww_tries_begin_(struct ww_acquire_ctx *ctx) __attribute__((__returns_nonnull__)) WW_NONNULL_(1);
 /* Backs off, if the context has to. */
-void ww_back_off_(struct ww_acquire_ctx *ctx);
+void ww_back_off_(struct ww_acquire_ctx *ctx) WW_NONNULL_(1);
 __attribute__((__unused__)) static inline void ww_acquire_begin_tries(struct ww_acquire_ctx *ctx) { ww_tries_begin_(ctx); }
 enum { WW_HAS_TO_BACK_OFF_ = 4, WW_WAITS_FIRST_ = 8 }; /* bits of a context's state, beside its flags */
 __attribute__((__unused__)) static inline bool ww_acquire_end_try(struct ww_acquire_ctx *ctx)
 {
-	bool again = ctx->state & (WW_HAS_TO_BACK_OFF_ | WW_WAITS_FIRST_);
+	bool again = ww_is_contended(ctx) || ctx->state & WW_WAITS_FIRST_;
 
 	if (again)
 		ww_back_off_(ctx);
@@ -40,7 +40,7 @@ __attribute__((__unused__)) static inline bool ww_acquire_end_try(struct ww_acqu
 	return again;
 }
 /* For C++: as ww_mutex_destroy, but afterwards the mutex is as WW_MUTEX_INIT makes one of its class. */
-int ww_mutex_end_(struct ww_mutex *lock);
+int ww_mutex_end_(struct ww_mutex *lock) WW_NONNULL_(1);
 
 /*
  * The uncontended calls are compiled into their callers: each makes its first step by the

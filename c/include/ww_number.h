@@ -18,19 +18,19 @@ extern "C" {
  * Takes a mutex that nobody else has.  Its number may be up to four times as great as the class has mutexes, and up to 67 in any class.
  * -ENOSPC, -ENOMEM and -EINVAL as ww_mutex_init_checked: the class's first call allocates memory for all numbers.
  */
-WW_MUST_CHECK int ww_number_take(uint32_t *number, struct ww_class *ww_class);
+WW_MUST_CHECK int ww_number_take(uint32_t *number, struct ww_class *ww_class) WW_NONNULL_(1, 2);
 /*
  * Frees a number that was taken.  -EBUSY: somebody holds the mutex or waits for it, or a context that has read it (ww_shared.h) hasn't
  * ended its reads, and nothing has changed; -EINVAL: the number isn't taken.  Once this returns 0, no other thread accesses the mutex any
  * more.  A context that backed off at the number waits neither for it nor for the next mutex that has it.
  */
-int ww_number_put(uint32_t number, struct ww_class *ww_class);
+int ww_number_put(uint32_t number, struct ww_class *ww_class) WW_NONNULL_(2);
 
 /*
  * Frees a number for a caller that can't wait, as a destructor: the number comes free by itself once nobody holds it, waits for it or
  * reads it.  Nobody may begin to.
  */
-void ww_number_leave(uint32_t number, struct ww_class *ww_class);
+void ww_number_leave(uint32_t number, struct ww_class *ww_class) WW_NONNULL_(2);
 /*
  * The library's mutex of a number: for the calls of ww_shared.h, as
  *	ww_shared_mutex_trylock_shared(ww_number_at(number, &boxes), &ctx)
@@ -41,18 +41,18 @@ void ww_number_leave(uint32_t number, struct ww_class *ww_class);
  * where it is until the class is freed.  NULL: nobody has taken the number.
  */
 struct ww_shared_mutex;
-struct ww_shared_mutex *ww_number_at(uint32_t number, struct ww_class *ww_class);
+struct ww_shared_mutex *ww_number_at(uint32_t number, struct ww_class *ww_class) WW_NONNULL_(2);
 
 /*
  * As ww_mutex_lock with a context, in ww_until_all_locked too.  -EDEADLK: release everything that the context holds, then acquire this
  * mutex first, with any call except a trylock; a context that holds nothing never gets -EDEADLK.  The program ends with a message if
  * somebody else holds a number that was never taken.
  */
-WW_MUST_CHECK int ww_number_lock(uint32_t number, struct ww_acquire_ctx *ctx);
+WW_MUST_CHECK int ww_number_lock(uint32_t number, struct ww_acquire_ctx *ctx) WW_NONNULL_(2);
 /* Returns 1 if it acquired the mutex, else 0: somebody holds it or waits for it, or the context may acquire nothing now. */
-WW_MUST_CHECK int ww_number_trylock(uint32_t number, struct ww_acquire_ctx *ctx);
+WW_MUST_CHECK int ww_number_trylock(uint32_t number, struct ww_acquire_ctx *ctx) WW_NONNULL_(2);
 /* Releases the mutex. -EINVAL: the context doesn't hold it. */
-int ww_number_unlock(uint32_t number, struct ww_acquire_ctx *ctx);
+int ww_number_unlock(uint32_t number, struct ww_acquire_ctx *ctx) WW_NONNULL_(2);
 
 #if defined(WW_DEBUG) && !defined(WW_CLASS_H)
 #define ww_number_take(...) (WW_HERE_, ww_number_take(__VA_ARGS__))

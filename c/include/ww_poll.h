@@ -60,9 +60,9 @@ struct ww_seek {
  * and then seek may be NULL: 0 if a context was begun, else -ETIMEDOUT.
  */
 WW_MUST_CHECK int ww_acquire_init_poll(struct ww_acquire_ctx *ctx, struct ww_class *ww_class, struct ww_seek *seek,
-				       const struct ww_waker *waker);
+				       const struct ww_waker *waker) WW_NONNULL_(1, 2);
 /* Ends a wait for a context, if one goes on, and begins none: for programs that drop a task, which may be in such a wait. */
-void ww_seek_end(struct ww_seek *seek);
+void ww_seek_end(struct ww_seek *seek) WW_NONNULL_(1);
 /*
  * As ww_mutex_lock_interruptible, with any context.  In a loop a poll doesn't wait for the contended mutex first, and returns -EINVAL if
  * another call has waited for a mutex that the body has yet to lock.  After -EDEADLK release everything, and poll the same mutex first.
@@ -75,7 +75,7 @@ WW_MUST_CHECK int ww_mutex_lock_poll(struct ww_mutex *lock, struct ww_acquire_ct
  * way is released, also what it asked for if that came first; what was held before stays held.  It returns 0; -EDEADLK or -EINTR if that
  * came first, as the poll would have returned it; -EINVAL: the context has ended.
  */
-int ww_acquire_end_wait(struct ww_acquire_ctx *ctx);
+int ww_acquire_end_wait(struct ww_acquire_ctx *ctx) WW_NONNULL_(1);
 /*
  * After -EINPROGRESS: true if the waker wasn't called and won't be; a poll must follow nevertheless.  False: the waker was called, or is
  * about to be.  So a waker can own a reference.  seek is that of a wait for a context, else NULL.
@@ -96,8 +96,8 @@ struct ww_event {
 	struct ww_woken *first_; /* NULL at first */
 	int descriptor;
 };
-void ww_event_wake(void *event, void *woken);
-struct ww_woken *ww_event_take(struct ww_event *event);
+void ww_event_wake(void *event, void *woken) WW_NONNULL_(1, 2);
+struct ww_woken *ww_event_take(struct ww_event *event) WW_NONNULL_(1);
 
 #if defined(WW_DEBUG) && !defined(WW_CLASS_H)
 #define ww_acquire_init_poll(...) (WW_HERE_, ww_acquire_init_poll(__VA_ARGS__))

@@ -40,7 +40,7 @@ struct ww_retry {
  * is as it was: -EINVAL: it has ended, or holds a mutex; -EBUSY: it waits by a poll; -EAGAIN: half of the contexts of the class are
  * suspended, so end it, and its age is lost.
  */
-WW_MUST_CHECK int ww_acquire_suspend(struct ww_acquire_ctx *ctx, struct ww_retry *retry);
+WW_MUST_CHECK int ww_acquire_suspend(struct ww_acquire_ctx *ctx, struct ww_retry *retry) WW_NONNULL_(1, 2);
 /*
  * Resumes the context in `ctx`, once it has waited for the contended mutex, which it doesn't hold then; if that was destroyed or put
  * back, it doesn't wait.  Zeros begin a context of the class, as ww_acquire_init_until does.  The context isn't in a loop, and has no
@@ -49,11 +49,11 @@ WW_MUST_CHECK int ww_acquire_suspend(struct ww_acquire_ctx *ctx, struct ww_retry
  * dropped, or its class was in use at a fork.
  */
 WW_MUST_CHECK int ww_acquire_resume(struct ww_acquire_ctx *ctx, struct ww_class *ww_class, struct ww_retry *retry,
-				    const struct timespec *monotonic);
+				    const struct timespec *monotonic) WW_NONNULL_(1, 2, 3);
 /* The next resume doesn't wait for the contended mutex: for tasks, and for callers that waited in vain and lock other mutexes first. */
 static inline __attribute__((unused)) void ww_retry_at_once(struct ww_retry *retry) { retry->awaits_ = 0; }
 /* Ends the suspended context; zeros name none. -EINVAL: a copy was resumed or dropped. */
-int ww_retry_drop(struct ww_retry *retry);
+int ww_retry_drop(struct ww_retry *retry) WW_NONNULL_(1);
 
 #if defined(WW_DEBUG) && !defined(WW_CLASS_H)
 #define ww_acquire_suspend(...) (WW_HERE_, ww_acquire_suspend(__VA_ARGS__))

@@ -25,6 +25,12 @@
 #else
 #define WW_MUST_CHECK __attribute__((warn_unused_result))
 #endif
+/* These arguments may not be NULL: the compiler warns if one is.  The library itself may compare them with NULL. */
+#ifndef WW_CLASS_H
+#define WW_NONNULL_(...) __attribute__((__nonnull__(__VA_ARGS__)))
+#else
+#define WW_NONNULL_(...)
+#endif
 
 #ifdef __cplusplus
 extern "C" {

@@ -30,9 +30,9 @@ enum ww_table_wait { WW_TABLE_WAITS, WW_TABLE_TRIES, WW_TABLE_POLLS };
  * Opens a table: at most `keys` keys are locked or waited for at a time, and kept; 0: as many as the class has mutexes.  -ENOMEM;
  * -EINVAL: the class was in use at a fork.  In a child of a fork the table isn't used.
  */
-WW_MUST_CHECK int ww_table_open(struct ww_table **table, struct ww_class *ww_class, uint32_t keys);
+WW_MUST_CHECK int ww_table_open(struct ww_table **table, struct ww_class *ww_class, uint32_t keys) WW_NONNULL_(1, 2);
 /* Closes the table, and ends the contexts of all owners.  -EBUSY: a key is locked or waited for, and nothing has changed. */
-int ww_table_close(struct ww_table *table);
+int ww_table_close(struct ww_table *table) WW_NONNULL_(1);
 
 /* A user of a key, which has it or waits for it; the key's memory is the table's. */
 struct ww_table_user {
@@ -72,18 +72,18 @@ struct ww_table_how {
  *	-ENOMEM, -EINVAL
  */
 WW_MUST_CHECK int ww_table_lock(struct ww_table *table, struct ww_acquire_ctx *ctx, const void *key, size_t length,
-				enum ww_table_mode mode, const struct ww_table_how *how);
+				enum ww_table_mode mode, const struct ww_table_how *how) WW_NONNULL_(1, 2);
 /* Releases the key.  -EINVAL: the context doesn't have it; -EBUSY: it waits by a poll; nothing has changed. */
-int ww_table_unlock(struct ww_table *table, struct ww_acquire_ctx *ctx, const void *key, size_t length);
+int ww_table_unlock(struct ww_table *table, struct ww_acquire_ctx *ctx, const void *key, size_t length) WW_NONNULL_(1, 2);
 /* How many keys the context has; and releases all but the first `mark` of them, the newest first, unless the context waits by a poll. */
-size_t ww_table_mark(struct ww_table *table, const struct ww_acquire_ctx *ctx);
-void ww_table_unlock_to(struct ww_table *table, struct ww_acquire_ctx *ctx, size_t mark);
+size_t ww_table_mark(struct ww_table *table, const struct ww_acquire_ctx *ctx) WW_NONNULL_(1, 2);
+void ww_table_unlock_to(struct ww_table *table, struct ww_acquire_ctx *ctx, size_t mark) WW_NONNULL_(1, 2);
 /*
  * Calls `see` with each user of the key, the newest first; or, if `key` is NULL, of all keys, part by part.  `see` calls nothing of the
  * table.  Returns how many there are.
  */
 size_t ww_table_see(struct ww_table *table, const void *key, size_t length, void (*see)(void *data, const struct ww_table_user *user),
-		    void *data);
+		    void *data) WW_NONNULL_(1);
 
 /*
  * For frameworks that know transactions by numbers, and no contexts: the context of this owner, which is begun if there is none, as
@@ -91,12 +91,12 @@ size_t ww_table_see(struct ww_table *table, const void *key, size_t length, void
  * transaction that this one retries.  0; or an error of ww_acquire_resume.  One thread at a time names an owner.
  */
 WW_MUST_CHECK int ww_table_join(struct ww_table *table, uint64_t owner, uint64_t former, const struct timespec *until,
-				struct ww_acquire_ctx **ctx);
+				struct ww_acquire_ctx **ctx) WW_NONNULL_(1, 5);
 /*
  * Releases all keys of the owner, and ends its context; `again`: the age is kept for a further ww_table_join, if the class allows that
  * many.  -EINVAL: the owner has no context; -EBUSY: the context holds something else, or waits by a poll.
  */
-int ww_table_leave(struct ww_table *table, uint64_t owner, bool again);
+int ww_table_leave(struct ww_table *table, uint64_t owner, bool again) WW_NONNULL_(1);
 
 #if defined(WW_DEBUG) && !defined(WW_CLASS_H)
 #define ww_table_lock(...) (WW_HERE_, ww_table_lock(__VA_ARGS__))

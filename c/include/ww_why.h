@@ -33,7 +33,7 @@ struct ww_place {
 };
 
 /* Labels the context until it ends, also while it is suspended and resumed.  It has an age of its own then. -EINVAL: it has ended. */
-int ww_acquire_label(struct ww_acquire_ctx *ctx, uint64_t label);
+int ww_acquire_label(struct ww_acquire_ctx *ctx, uint64_t label) WW_NONNULL_(1);
 /*
  * Where the context's last call ended that returned -EDEADLK, -ETIMEDOUT or -EINTR, or waited, and who has that mutex now (`at`).  And a
  * mutex that the context still has, for which another context waits, with that one (`wanted`): in Wound-Wait -EDEADLK comes because of
@@ -42,20 +42,20 @@ int ww_acquire_label(struct ww_acquire_ctx *ctx, uint64_t label);
 struct ww_why {
 	struct ww_place at, wanted;
 };
-int ww_acquire_why(const struct ww_acquire_ctx *ctx, struct ww_why *why);
+int ww_acquire_why(const struct ww_acquire_ctx *ctx, struct ww_why *why) WW_NONNULL_(1, 2);
 /*
  * The cycle of waits that the context's -EDEADLK broke: first where its call ended, and who has that mutex; then for what that one waits,
  * and who has it; the last one is the context itself.  Returns how many these are; 0: there is no cycle any more, or none that `path` has
  * room for.  -EDEADLK also comes where there is no cycle yet.
  */
-size_t ww_acquire_cycle(const struct ww_acquire_ctx *ctx, struct ww_place *path, size_t room);
+size_t ww_acquire_cycle(const struct ww_acquire_ctx *ctx, struct ww_place *path, size_t room) WW_NONNULL_(1);
 /* Who holds the mutex, reads it (ww_shared.h) or waits for it. Returns how many, of which `users` gets as many as there is room for. */
-size_t ww_mutex_users(const struct ww_mutex *lock, struct ww_user *users, size_t room);
+size_t ww_mutex_users(const struct ww_mutex *lock, struct ww_user *users, size_t room) WW_NONNULL_(1);
 /* How often the context has waited for mutexes and got -EDEADLK, and for how long its threads have waited, since it began. */
 struct ww_acquire_counts {
 	uint64_t waits, back_offs, waited_ns;
 };
-int ww_acquire_count(const struct ww_acquire_ctx *ctx, struct ww_acquire_counts *counts);
+int ww_acquire_count(const struct ww_acquire_ctx *ctx, struct ww_acquire_counts *counts) WW_NONNULL_(1, 2);
 
 #ifdef __cplusplus
 }

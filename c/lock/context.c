@@ -62,12 +62,12 @@ static inline int begin_by_any(struct ww_acquire_ctx *x, struct ww_class *c, con
 	return LIKELY(s) ? ww_begin_by(x, s, 0) : begin(x, c, until, heeds);
 }
 
-int ww_acquire_init_checked(struct ww_acquire_ctx *x, struct ww_class *c) { return begin_by_any(x, c, &ww_no_wait, false); }
+int ww_acquire_init_checked(struct ww_acquire_ctx *x, struct ww_class *c) { return begin_by_any(NEEDED(x), NEEDED(c), &ww_no_wait, false); }
 
 /* The Rust crate begins most contexts by this call, without a time. */
 int ww_acquire_init_until(struct ww_acquire_ctx *x, struct ww_class *c, const struct timespec *until)
 {
-	return LIKELY(!until) ? begin_by_any(x, c, NULL, true) : begin(x, c, until, true);
+	return LIKELY(!until) ? begin_by_any(NEEDED(x), NEEDED(c), NULL, true) : begin(NEEDED(x), NEEDED(c), until, true);
 }
 
 /*
@@ -94,13 +94,13 @@ static __attribute__((noinline)) void init_else(struct ww_acquire_ctx *x, struct
 
 void ww_acquire_init(struct ww_acquire_ctx *x, struct ww_class *c)
 {
-	struct ww_pool *p = __atomic_load_n(&c->pool, __ATOMIC_ACQUIRE);
+	struct ww_pool *p = __atomic_load_n(&NEEDED(c)->pool, __ATOMIC_ACQUIRE);
 	ww_seat *s = LIKELY(p) ? seat_at_hand(p) : NULL;
 
 	if (LIKELY(s))
-		begin_for_certain(x, p, s);
+		begin_for_certain(NEEDED(x), p, s);
 	else
-		init_else(x, c, p);
+		init_else(NEEDED(x), c, p);
 }
 
 /*
@@ -109,7 +109,7 @@ void ww_acquire_init(struct ww_acquire_ctx *x, struct ww_class *c)
  */
 int ww_acquire_done_checked(struct ww_acquire_ctx *x)
 {
-	if (UNLIKELY(!x->own || x->state & (IS_DONE | IS_POLLED)))
+	if (UNLIKELY(!NEEDED(x)->own || x->state & (IS_DONE | IS_POLLED)))
 		return x->own && is_polled(x) ? -EBUSY : -EINVAL;
 	x->state |= IS_DONE;
 	return 0;
@@ -119,14 +119,14 @@ static const struct ww_class *class_of_context(const struct ww_acquire_ctx *x) {
 
 void ww_acquire_done(struct ww_acquire_ctx *x)
 {
-	if (UNLIKELY(ww_acquire_done_checked(x)))
+	if (UNLIKELY(ww_acquire_done_checked(NEEDED(x))))
 		end_of(class_of_context(x), "ww_acquire_done",
 		       phase_of(x) == IN_POLL ? WAITS_BY_POLL : "the context is done, or has ended");
 }
 
 int ww_acquire_fini_checked(struct ww_acquire_ctx *x)
 {
-	ww_seat *s = ww_debug_has_ended(x) ? NULL : x->own;
+	ww_seat *s = ww_debug_has_ended(NEEDED(x)) ? NULL : x->own;
 	int r = s ? ww_end_(&s->handle) : -EINVAL;
 
 	if (r && !(s && is_orphaned_by_fork(s, r)))
@@ -164,7 +164,7 @@ COLD static void fini_else(struct ww_acquire_ctx *x)
 
 void ww_acquire_fini(struct ww_acquire_ctx *x)
 {
-	ww_seat *s = x->own;
+	ww_seat *s = NEEDED(x)->own;
 
 	/* If the context has released everything, its end can't fail. */
 	if (UNLIKELY(!s || s->handle.mode != WW_BARE_) || ww_debug_has_ended(x)) {
@@ -183,7 +183,7 @@ void ww_acquire_fini(struct ww_acquire_ctx *x)
  */
 int ww_acquire_cancel(struct ww_acquire_ctx *x)
 {
-	ww_seat *s = __atomic_load_n(&x->own, __ATOMIC_RELAXED);
+	ww_seat *s = __atomic_load_n(&NEEDED(x)->own, __ATOMIC_RELAXED);
 
 	if (!s)
 		return -EINVAL;
@@ -193,7 +193,7 @@ int ww_acquire_cancel(struct ww_acquire_ctx *x)
 	return 0;
 }
 
-void ww_acquire_here(struct ww_acquire_ctx *x) { note_used(x); }
+void ww_acquire_here(struct ww_acquire_ctx *x) { note_used(NEEDED(x)); }
 
 /* ---- what contexts hold ---- */
 
@@ -203,8 +203,8 @@ void ww_acquire_here(struct ww_acquire_ctx *x) { note_used(x); }
  */
 bool ww_mutex_is_held_by(const struct ww_mutex *m, const struct ww_acquire_ctx *x)
 {
-	const ww_seat *s = x ? __atomic_load_n(&x->own, __ATOMIC_RELAXED) : seat_of(m);
-	bool says_so = s && (x ? is_of_number(m) || holder_of(m) == x : is_used_here(s));
+	const ww_seat *s = x ? __atomic_load_n(&x->own, __ATOMIC_RELAXED) : seat_of(NEEDED(m));
+	bool says_so = s && (x ? is_of_number(NEEDED(m)) || holder_of(m) == x : is_used_here(s));
 
 	return says_so && pool_at(m) == s->pool && owner_of_word(look_at(s->pool, m)) == place_among(s);
 }

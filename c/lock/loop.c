@@ -50,7 +50,7 @@ COLD void ww_become(struct ww_acquire_ctx *x, unsigned int not, unsigned int now
 
 void ww_acquire_flags(struct ww_acquire_ctx *x, unsigned int flags)
 {
-	enum phase phase = phase_of(x);
+	enum phase phase = phase_of(NEEDED(x));
 
 	if (phase == IN_POLL)
 		NOTE_MISUSE(NULL, "ww_acquire_flags", WAITS_BY_POLL);
@@ -73,7 +73,7 @@ static bool owes(const struct ww_acquire_ctx *x)
 	return m;
 }
 
-size_t ww_acquire_mark(const struct ww_acquire_ctx *x) { return x->acquired - owes(x); }
+size_t ww_acquire_mark(const struct ww_acquire_ctx *x) { return NEEDED(x)->acquired - owes(x); }
 
 COLD __attribute__((noreturn)) static void end_unreleased(const struct ww_acquire_ctx *x, const char *call)
 {
@@ -83,7 +83,7 @@ COLD __attribute__((noreturn)) static void end_unreleased(const struct ww_acquir
 /* A mark counts what was acquired before it, except a mutex that the loop's body has yet to ask for: that one stays held besides. */
 void ww_acquire_unlock_to(struct ww_acquire_ctx *x, size_t mark)
 {
-	note_used(x);
+	note_used(NEEDED(x));
 	if (!is_loop(x))
 		return; /* outside a loop nothing says what was acquired after the mark */
 	if (!mark)
@@ -128,7 +128,7 @@ COLD static void unlocks_no_more(struct ww_acquire_ctx *x)
  */
 void ww_acquire_unlock_all(struct ww_acquire_ctx *x)
 {
-	if (UNLIKELY(!x->own))
+	if (UNLIKELY(!NEEDED(x)->own))
 		return;
 	note_used(x);
 	release_newest_first(x);
@@ -229,7 +229,7 @@ COLD static void begin_loop_else(struct ww_acquire_ctx *x)
 
 struct ww_acquire_ctx *ww_tries_begin_(struct ww_acquire_ctx *x)
 {
-	begin_loop(x);
+	begin_loop(NEEDED_BY("ww_until_all_locked", x));
 	if (UNLIKELY(!x->own || x->acquired | x->state))
 		begin_loop_else(x);
 	else
@@ -248,4 +248,4 @@ COLD void ww_back_off_(struct ww_acquire_ctx *x)
 	ww_become(x, HAS_TO_BACK_OFF | IS_PRELOCKED, WAITS_FIRST);
 }
 
-bool ww_is_contended(const struct ww_acquire_ctx *x) { return x->state & HAS_TO_BACK_OFF; }
+bool ww_is_contended(const struct ww_acquire_ctx *x) { return NEEDED(x)->state & HAS_TO_BACK_OFF; }

@@ -39,10 +39,10 @@ int ww_mutex_init_checked(struct ww_mutex *m, struct ww_class *c)
 {
 	struct ww_pool *p;
 	uint32_t number;
-	int r = open_pool_of(c, &p);
+	int r = open_pool_of(NEEDED(c), &p);
 
 	if (!r)
-		r = ww_take_number(&p->numbers, m, &number);
+		r = ww_take_number(&p->numbers, NEEDED(m), &number);
 	if (r)
 		return r;
 	*m = (struct ww_mutex){ .pool = p, .number = number };
@@ -52,7 +52,7 @@ int ww_mutex_init_checked(struct ww_mutex *m, struct ww_class *c)
 
 void ww_mutex_init(struct ww_mutex *m, struct ww_class *c)
 {
-	int r = ww_mutex_init_checked(m, c);
+	int r = ww_mutex_init_checked(NEEDED(m), NEEDED(c));
 
 	if (UNLIKELY(r))
 		end_of(c, "ww_mutex_init", reason_of(r));
@@ -60,7 +60,7 @@ void ww_mutex_init(struct ww_mutex *m, struct ww_class *c)
 
 bool ww_mutex_is_locked(struct ww_mutex *m)
 {
-	struct ww_pool *p = pool_at(m);
+	struct ww_pool *p = pool_at(NEEDED(m));
 
 	return p && look_at(p, m);
 }
@@ -111,11 +111,11 @@ int ww_end_mutex(struct ww_mutex *m, void (*gives)(struct ww_numbers *n, uint32_
 	return is_used ? -EBUSY : 0;
 }
 
-int ww_mutex_end_(struct ww_mutex *m) { return ww_end_mutex(m, ww_give_locked); }
+int ww_mutex_end_(struct ww_mutex *m) { return ww_end_mutex(NEEDED(m), ww_give_locked); }
 
 int ww_mutex_destroy(struct ww_mutex *m)
 {
-	int r = pool_at(m) || m->class_ ? ww_mutex_end_(m) : -EINVAL;
+	int r = pool_at(NEEDED(m)) || m->class_ ? ww_mutex_end_(m) : -EINVAL;
 
 	if (r == -EINVAL)
 		NOTE_MISUSE(NULL, "ww_mutex_destroy", "the mutex isn't initialized");
@@ -317,7 +317,7 @@ int ww_mutex_lock_alone_(struct ww_mutex *m)
 
 int ww_mutex_lock(struct ww_mutex *m, struct ww_acquire_ctx *x)
 {
-	return x ? ww_mutex_lock_else_(m, x) : ww_mutex_lock_alone_(m);
+	return x ? ww_mutex_lock_else_(m, x) : ww_mutex_lock_alone_(NEEDED(m));
 }
 
 int ww_mutex_lock_until(struct ww_mutex *m, struct ww_acquire_ctx *x, const struct timespec *until)
@@ -419,7 +419,7 @@ static inline int unlock_alone(struct ww_mutex *m)
 
 int ww_mutex_unlock_checked(struct ww_mutex *m)
 {
-	struct ww_acquire_ctx *x = holder_of(m);
+	struct ww_acquire_ctx *x = holder_of(NEEDED(m));
 
 	if (!x)
 		return unlock_alone(m);
@@ -441,7 +441,7 @@ static inline void end_unless_unlocked(const struct ww_mutex *m, int r)
 		end_unheld(m, r);
 }
 
-void ww_mutex_unlock(struct ww_mutex *m) { end_unless_unlocked(m, ww_mutex_unlock_checked(m)); }
+void ww_mutex_unlock(struct ww_mutex *m) { end_unless_unlocked(m, ww_mutex_unlock_checked(NEEDED(m))); }
 
 void ww_mutex_unlock_else_(struct ww_mutex *m) { end_unless_unlocked(m, unlock_alone(m)); }
 

@@ -184,7 +184,7 @@ THREADED = $(patsubst %,%_threads,$(filter-out abuse wide,$(TESTS)) hpp tables $
 SHAKEN = $(patsubst %,%_shaken,any seats torture pool many moves shared_storm)
 TOLD = $(patsubst %,%_debug,number_calls poll_calls shared_calls wrong_arguments drawn_calls) many_unseen line
 # A model of who waits for a context, which reaches no state in which one is forgotten; and Python's objects and tasks.
-IN_PYTHON = $(patsubst %,%.py,tests/admit/seats_model $(patsubst %,tests/whole/%,mutexes interrupts keys locks tasks wrong_cpp typed) examples/objects examples/trips examples/retries)
+IN_PYTHON = $(patsubst %,%.py,tests/admit/seats_model $(patsubst %,tests/whole/%,mutexes interrupts keys locks nulls tasks wrong_cpp typed) examples/objects examples/trips examples/retries)
 # In half a minute: the tests of calls and of the tables at the heads of sources, and the search without a preemption.
 SOON = limiter permits calls ends ages loop steps number_calls poll_calls shared_calls shared_slots drivers wrong_arguments misuse
 
