@@ -7,6 +7,7 @@ import functools
 import operator
 import os
 import sys
+import types
 from typing import Any, Callable, Dict, NamedTuple, Optional, Tuple
 
 WOUND_WAIT, WAIT_DIE = 0, 1
@@ -14,6 +15,40 @@ _VERSION = 7
 _LARGEST = 2**32 - 1
 # Not empty: the debug library takes the place of the other one.
 _DEBUGS = os.environ.get("WW_DEBUG", "") not in ("", "0")
+
+
+def unexpected(what: str, it: object) -> TypeError:
+    """The error of a value that is of another kind than this."""
+    return TypeError(f"{what} is expected, not {it!r}" + ": unpack it by *" * isinstance(it, (tuple, list, set)))
+
+
+def whole(what: str, it: Any, end: int) -> int:
+    """It, which is to be a number from 0 on and below that end."""
+    try:
+        it = operator.index(it)
+    except TypeError:
+        raise unexpected(what, it) from None
+    if not 0 <= it < end:
+        raise ValueError(f"{what} is from 0 to {end - 1:,}")
+    return int(it)
+
+
+# What a call returns that has run no line of its function yet.
+UNRUN = frozenset((types.GeneratorType, types.CoroutineType, types.AsyncGeneratorType))
+
+
+def check_body(body: Any, result: Any, is_async: bool = False) -> None:
+    """Raises if it isn't a function whose lines are run by a call (or if `is_async` by an await), of which this is the result; `...` is
+    none. It is asked once there is a reason to."""
+    import inspect
+
+    what = f"{'an async' if is_async else 'a plain'} function of the context"
+    is_wrong = inspect.iscoroutinefunction(body) or inspect.isgeneratorfunction(body) or inspect.isasyncgenfunction(body)
+    if is_async:
+        is_wrong = result is not ... and not inspect.isawaitable(result)
+    if is_wrong or not callable(body):
+        getattr(result, "close", bool)()
+        raise unexpected(what, body) from None
 
 
 class Deadlock(OSError):

@@ -16,7 +16,8 @@ import types
 import weakref
 from typing import TYPE_CHECKING, Any, Awaitable, Callable, Dict, Iterable, List, NamedTuple, Optional, Set, TypeVar
 
-from .library import WAIT_DIE, WOUND_WAIT, Already, Counted, Counts, Deadlock, Library, Reasons, Retry, Time, at_caller, opened, told
+from .library import UNRUN, WAIT_DIE, WOUND_WAIT, Already, Counted, Counts, Deadlock, Library, Reasons, Retry, Time
+from .library import at_caller, check_body, opened, told, unexpected, whole
 
 if TYPE_CHECKING:
     from .tasks import TaskContext
@@ -87,7 +88,10 @@ def _until(timeout: Optional[float]) -> Optional[int]:
         return None
     if timeout != timeout:
         raise ValueError("a timeout is a number of seconds")
-    return max(0, time.monotonic_ns() + int(max(-1, min(timeout, threading.TIMEOUT_MAX)) * 10**9))
+    try:
+        return max(0, time.monotonic_ns() + int(max(-1, min(timeout, threading.TIMEOUT_MAX)) * 10**9))
+    except TypeError:
+        raise unexpected("a number of seconds", timeout) from None
 
 
 class _Thread(threading.local):
@@ -161,6 +165,11 @@ class Class:
     def __init__(self, kind: int = WOUND_WAIT, mutexes: int = 0, contexts: int = 0, library: Optional[str] = None, name: str = "") -> None:
         if kind not in (WOUND_WAIT, WAIT_DIE):
             raise _wrong("a class is WOUND_WAIT or WAIT_DIE")
+        if not isinstance(name, str):
+            raise unexpected("a name that is a str", name)
+        for it in mutexes, contexts:
+            if not hasattr(it, "__index__"):
+                raise unexpected("a whole number", it)
         self.name = name
         self._library, c_name = opened(library), ctypes.c_char_p(name.encode())
         self._at = _memory(self._library.ww_class_size())
@@ -192,17 +201,22 @@ class Class:
 
     async def run_async(self, body: Callable[[TaskContext], Awaitable[_T]], timeout: Optional[float] = None) -> _T:
         """As run, for a task: returns what `await body(context)` returns, with a context of `async with`."""
+        called: Any = ...
         context = _tasks().TaskContext(self, timeout)
         try:
             await context.begin()
             while True:
                 try:
-                    result = await body(context)
+                    called = body(context)
+                    result: _T = await called
                     if not context._is_contended():
                         return result
                 except Deadlock:
                     if not context._is_contended():
                         raise
+                except TypeError:
+                    check_body(body, called, True)
+                    raise
                 context.unlock_all()
         finally:
             context.end()
@@ -210,9 +224,9 @@ class Class:
     def _check(self, *mutexes: Mutex) -> None:
         for mutex in mutexes:
             if not isinstance(mutex, Mutex):
-                raise TypeError(f"{mutex!r} is no ww.Mutex")
+                raise unexpected("a ww.Mutex", mutex)
             if mutex._class is not self:
-                raise _wrong("the mutex is of another class")
+                raise _wrong(f"the mutex is of another class than the context's, {self.name!r}: {mutex!r}")
 
     def run(self, body: Callable[[Context], _T], timeout: Optional[float] = None) -> _T:
         """Returns what body(context) returns. If body gets Deadlock, everything is released, and it is called again: so
@@ -222,11 +236,16 @@ class Class:
             while True:
                 try:
                     result = body(context)
+                    if result.__class__ in UNRUN:
+                        check_body(body, result)
                     if not context._is_contended():
                         return result
                 except Deadlock:
                     if not context._is_contended():
                         raise
+                except TypeError:
+                    check_body(body, ...)
+                    raise
                 context.unlock_all()
 
 
@@ -237,7 +256,7 @@ class Suspended:
 
     def __init__(self, of: Class) -> None:
         if not isinstance(of, Class):
-            raise TypeError("an age is of a ww.Class")
+            raise unexpected("a ww.Class", of)
         self._class, self._library, self._retry = of, of._library, Retry()
         self._its_end = _ending(functools.partial(self._library.ww_retry_drop, self._retry), of._its_end)
 
@@ -250,6 +269,13 @@ class Suspended:
     def at_once(self) -> None:
         """What resumes it doesn't wait first: after a TimeoutError, to lock others first."""
         self._retry.awaits = 0
+
+    def _check(self, of: Class) -> None:
+        """Raises unless it is one of this class."""
+        if not isinstance(self, Suspended):
+            raise unexpected("a ww.Suspended", self)
+        if self._class is not of:
+            raise _wrong("what is suspended is of another class")
 
     def _suspend(self, context: Any) -> bool:
         """Whether it has the age of this context, which then has ended."""
@@ -271,6 +297,8 @@ class Place(NamedTuple):
 
     def is_at(self, mutex: Mutex) -> bool:
         """Whether it is this mutex, of the same class."""
+        if not isinstance(mutex, Mutex):
+            raise unexpected("a ww.Mutex", mutex)
         return bool(mutex._number.value == self.number)
 
 
@@ -296,7 +324,7 @@ class Mutex:
 
     def __init__(self, of: Class) -> None:
         if not isinstance(of, Class):
-            raise TypeError("a mutex is of a ww.Class")
+            raise unexpected("a ww.Class", of)
         self._class, self._library = of, of._library
         # That by which it is held, or was held last; at first one that never begins.
         self._alone: Any = of._nobody  # a Context or a TaskContext
@@ -340,6 +368,8 @@ class Mutex:
         """Acquires it, at most for `timeout` seconds, or with blocking=False only if it is free; returns whether it did."""
         if not blocking and timeout != -1:
             raise ValueError("a call that doesn't block has no timeout")
+        if timeout != -1:
+            _until(timeout)
         if not blocking and _mine.holds(self):
             return False
         if timeout < 0 and timeout != -1:
@@ -431,8 +461,8 @@ class Context(Holder):
 
     def __init__(self, of: Class, timeout: Optional[float] = None, resumes: Optional[Suspended] = None) -> None:
         super().__init__(of, timeout)
-        if resumes is not None and resumes._class is not of:
-            raise _wrong("what is suspended is of another class")
+        if resumes is not None:
+            Suspended._check(resumes, of)
         self._resumes = resumes
         self._thread: Optional[int] = None
         self._of_task: Optional[TaskContext] = None
@@ -544,7 +574,7 @@ class Context(Holder):
         read. A later lock of what it reads waits for the others: nobody writes it in between."""
         self._check(*mutexes)
         if not all(isinstance(it, SharedMutex) for it in mutexes):
-            raise TypeError("only a ww.SharedMutex is read")
+            raise unexpected("a ww.SharedMutex", next(it for it in mutexes if not isinstance(it, SharedMutex)))
         self._lock_until([it for it in mutexes if it not in self], _until(timeout), "lock_shared_until")
 
     def _lock_until(self, mutexes: Iterable[Mutex], until: Optional[int], name: str = "lock_until") -> None:
@@ -605,9 +635,7 @@ class Context(Holder):
     def label(self, number: int) -> None:
         """Others find the context by this number of 64 bits (Context.why), until it ends."""
         self._check()
-        if not 0 <= number < 2**64:
-            raise ValueError("a label is a number of 64 bits")
-        told(self._library.ww_acquire_label(self._at, number))
+        told(self._library.ww_acquire_label(self._at, whole("a label", number, 2**64)))
 
     def why(self) -> Why:
         """What it collided with: to be asked after a lock call failed, before anything else is released."""

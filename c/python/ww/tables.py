@@ -8,7 +8,7 @@ import functools
 import threading
 from typing import Any, Callable, Dict, List, NamedTuple, Optional, TypeVar, Union
 
-from .library import Deadlock, Library, Time, at_caller, told
+from .library import UNRUN, Deadlock, Library, Time, at_caller, check_body, told, unexpected, whole
 from .mutexes import Class, Suspended, _Call, _ending, _Exit, _in_slices, _is_main, _until, _wrong
 
 _T = TypeVar("_T")
@@ -71,7 +71,7 @@ def _bytes(key: Key) -> bytes:
     if isinstance(key, str):
         return key.encode()
     if not isinstance(key, bytes):
-        raise TypeError(f"{key!r} is no key: bytes, or a str")
+        raise unexpected("a key of bytes, or a str", key)
     return key
 
 
@@ -81,9 +81,8 @@ class Table:
 
     def __init__(self, of: Class, keys: int = 0) -> None:
         if not isinstance(of, Class):
-            raise TypeError("a table is of a ww.Class")
-        if not 0 <= keys < 2**32:
-            raise ValueError("a table has up to 4,294,967,295 keys")
+            raise unexpected("a ww.Class", of)
+        keys = whole("a number of keys", keys, 2**32)
         self._class, self._library, self._at = of, _with_calls(of._library), _AT()
         told(self._library.ww_table_open(ctypes.byref(self._at), of._at, keys))
         self._its_end = _ending(functools.partial(self._library.ww_table_close, self._at), of._its_end)
@@ -101,11 +100,16 @@ class Table:
             while True:
                 try:
                     result = body(transaction)
+                    if result.__class__ in UNRUN:
+                        check_body(body, result)
                     if not transaction._got_deadlock:
                         return result
                 except Deadlock:
                     if not transaction._got_deadlock:
                         raise
+                except TypeError:
+                    check_body(body, ...)
+                    raise
                 transaction.unlock_all()
 
     def users(self, key: Optional[Key] = None) -> List[KeyUser]:
@@ -134,11 +138,9 @@ class Transaction:
     runs a loop of asyncio, it raises RuntimeError."""
 
     def __init__(self, table: Table, owner: int, timeout: Optional[float], resumes: Optional[Suspended]) -> None:
-        if not 0 <= owner < 2**64:
-            raise ValueError("an owner is a number of 64 bits")
-        if resumes is not None and resumes._class is not table._class:
-            raise _wrong("what is suspended is of another class")
-        self.owner = owner
+        if resumes is not None:
+            Suspended._check(resumes, table._class)
+        self.owner = owner if owner.__class__ is int and 0 <= owner < 2**64 else whole("an owner", owner, 2**64)
         self._table, self._library, self._timeout = table, table._library, timeout
         self._resumes = Suspended(table._class) if resumes is None else resumes
         self._at = self._library.context()
@@ -248,8 +250,8 @@ class Transaction:
     def unlock_to(self, mark: int) -> None:
         """Releases all keys but the oldest, so that it has as many as at the mark."""
         self._check()
-        if mark < 0:
-            raise ValueError("a mark is what mark() returned")
+        if mark.__class__ is not int or mark < 0:
+            mark = whole("a mark", mark, 2**32)
         self._library.ww_table_unlock_to(self._table._at, self._at, mark)
         self._got_deadlock &= bool(mark)
 

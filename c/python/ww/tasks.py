@@ -15,7 +15,7 @@ import time
 import weakref
 from typing import Any, Callable, Dict, Iterable, List, Optional, Set, Tuple
 
-from .library import Already, Deadlock, Library, at_caller, told
+from .library import Already, Deadlock, Library, at_caller, told, unexpected
 from .mutexes import Class, Holder, Mutex, SharedMutex, _ending, _until
 
 
@@ -342,7 +342,7 @@ class TaskContext(Holder):
         """As lock, for each a SharedMutex, which it reads from now on, as Context.read."""
         self._check(*mutexes)
         if not all(isinstance(it, SharedMutex) for it in mutexes):
-            raise TypeError("only a ww.SharedMutex is read")
+            raise unexpected("a ww.SharedMutex", next(it for it in mutexes if not isinstance(it, SharedMutex)))
         await self._lock_all([it for it in mutexes if it not in self], "_shared", _until(timeout))
 
     async def _lock_all(self, mutexes: Iterable[Mutex], shared: str, until: Optional[int]) -> None:

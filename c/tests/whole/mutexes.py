@@ -4,6 +4,7 @@ mutexes.py libww.so"""
 import contextlib
 import ctypes
 import errno
+import functools
 import gc
 import inspect
 import os
@@ -194,6 +195,68 @@ def refuses_classes():
     for words in ((2, 8, 4), (-1, 8, 4), (ww.WAIT_DIE, 2**24 + 1, 4), (ww.WAIT_DIE, -1, 4), (ww.WAIT_DIE, 8, 4095), (ww.WAIT_DIE, 8, 2**32)):
         assert fault_of(made, *words) == errno.EINVAL
     assert is_raised(TypeError, ww.Mutex, None)
+
+
+def says_what_came():
+    """In one sentence: what was expected, and what came instead, which isn't called, and changes nothing."""
+    buffers, others = made(), made()
+    a, b, table = ww.Mutex(buffers), ww.Mutex(others), ww.Table(buffers)
+
+    async def asynchronous(_):
+        pass
+
+    async def yields_by_turns(_):
+        yield
+
+    def yields(_):
+        yield
+
+    def fails(_):
+        raise TypeError("its own")
+
+    def returns_one(context):
+        return yields(context)
+
+    def why_of(kind, call, *words, **named):
+        try:
+            call(*words, **named)
+        except kind as error:
+            assert error.__cause__ is None and error.__suppress_context__ == (error.__context__ is not None)
+            return str(error)
+        raise AssertionError(f"{call} raises no {kind}")
+
+    for run in buffers.run, table.run:
+        for body in (3, None, asynchronous, yields, yields_by_turns, functools.partial(yields)):
+            assert why_of(TypeError, run, body) == f"a plain function of the context is expected, not {body!r}"
+        for seen in (fails, lambda _: len(3)):
+            assert is_raised(TypeError, run, seen)
+        assert list(run(returns_one)) == [None] and run(lambda _: 8) == 8
+        assert why_of(TypeError, run, len, timeout="1") == "a number of seconds is expected, not '1'"
+    with buffers.context() as context:
+        for call in (context.lock, context.try_lock, context.unlock, context.read, context.downgrade):
+            for wrong in ((a, a), [a], ww.Mutex, ww.Mutex.lock if hasattr(ww.Mutex, "lock") else len, 5, None):
+                assert why_of(TypeError, call, wrong) == f"a ww.Mutex is expected, not {wrong!r}" + ": unpack it by *" * isinstance(wrong, (tuple, list))
+            assert f"another class than the context's, '': {b!r}" in why_of(OSError, call, b)
+        assert "of another class" in why_of(OSError, context.lock, a, b) and a not in context
+        assert why_of(TypeError, context.read, a) == f"a ww.SharedMutex is expected, not {a!r}"
+        assert why_of(TypeError, context.label, "1") == "a label is expected, not '1'" and is_raised(ValueError, context.label, -1)
+        assert why_of(TypeError, context.lock, a, timeout="1") == "a number of seconds is expected, not '1'" and a not in context
+        context.lock(a)
+        assert why_of(TypeError, ww.Place(0, 0, "holds").is_at, (a,)).startswith("a ww.Mutex is expected")
+    for call in (ww.Mutex, ww.SharedMutex, ww.Table, ww.Suspended):
+        assert why_of(TypeError, call, ww.Class) == f"a ww.Class is expected, not {ww.Class!r}"
+    assert why_of(TypeError, a.acquire, timeout="1") == "a number of seconds is expected, not '1'"
+    assert why_of(TypeError, ww.Class, library=sys.argv[1], name=3) == "a name that is a str is expected, not 3"
+    for named in ({"mutexes": "3"}, {"contexts": "3"}):
+        assert why_of(TypeError, ww.Class, library=sys.argv[1], **named) == "a whole number is expected, not '3'"
+    for call in (buffers.context, table.transaction):
+        assert why_of(TypeError, call, resumes=context) == f"a ww.Suspended is expected, not {context!r}"
+    assert why_of(TypeError, ww.Table, buffers, "8") == "a number of keys is expected, not '8'"
+    assert why_of(TypeError, table.transaction, "me") == "an owner is expected, not 'me'"
+    with table.transaction() as transaction:
+        assert why_of(TypeError, transaction.lock, ("k", "l")) == "a key of bytes, or a str is expected, not ('k', 'l'): unpack it by *"
+        assert why_of(TypeError, transaction.unlock_to, None) == "a mark is expected, not None"
+    assert not a.locked() and buffers.stats().contexts == 0 and not table.users()
 
 
 def refuses_mutexes(kind):
@@ -846,6 +909,7 @@ def forks():
 
 signal.signal(signal.SIGINT, signal.default_int_handler)
 refuses_classes()
+says_what_came()
 says_why()
 reports_to()
 is_a_lock()

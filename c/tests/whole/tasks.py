@@ -202,6 +202,34 @@ async def reads(kind):
     assert not plain.locked()
 
 
+async def says_what_came():
+    """In one sentence: what was expected, and what came instead."""
+    buffers = made(ww.WOUND_WAIT)
+
+    def plain(_):
+        pass
+
+    async def yields(_):
+        yield
+
+    async def fails(_):
+        raise TypeError("its own")
+
+    for body in (3, plain, yields, lambda context: [context]):
+        try:
+            await buffers.run_async(body)
+            assert False
+        except TypeError as error:
+            assert str(error) == f"an async function of the context is expected, not {body!r}", error
+    for body, why in ((fails, "its own"), (lambda: None, "takes 0 positional arguments")):
+        try:
+            await buffers.run_async(body)
+            assert False
+        except TypeError as error:
+            assert why in str(error)
+    assert buffers.stats().contexts == 0
+
+
 async def holds_one(kind):
     """`async with mutex`, as asyncio.Lock: no count is lost, a cancel leaves it as it was, and a task that holds it already is told."""
     buffers = made(kind)
@@ -820,6 +848,7 @@ def main():
     tells_who_begins_anew()
     asyncio.run(waits_in_turn())
     asyncio.run(begins_within())
+    asyncio.run(says_what_came())
     asyncio.run(releases_once())
     asyncio.run(a_thread_wakes_it())
     asyncio.run(one_is_dropped())
