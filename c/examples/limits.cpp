@@ -28,7 +28,7 @@ static int transfer(account &from, account &to, long amount)
 		to.lock.assert_held();
 		from.money -= amount;
 		to.money += amount;
-	}, 60s);
+	}, 1h);
 	return done.error();
 }
 

@@ -70,19 +70,17 @@ fn by_threads() {
     assert_eq!(lock(0), Err(Error::TimedOut));
     assert_eq!(told(), wait(Wait::Mutex, Err(Error::TimedOut)));
     // One who waits without a limit.
+    let before = Boxes::counts().lock_waits;
     let waits = thread::spawn(|| {
         let by_run = Boxes::run(|tx| tx.lock(&BOXES[0]).map(|_| ()));
         (by_run, told())
     });
-    while Boxes::counts().lock_waits < 2 {
+    // Its first wait is one for no time.
+    while Boxes::counts().lock_waits < before + 2 {
         thread::yield_now();
     }
-    thread::sleep(Duration::from_millis(5));
     drop(held);
-    let (by_run, seen) = waits.join().unwrap();
-    assert_eq!(by_run, Ok(()));
-    // Its first wait, for no time, may have got it.
-    assert!(seen.is_empty() || seen == wait(Wait::Mutex, Ok(())));
+    assert_eq!(waits.join().unwrap(), (Ok(()), wait(Wait::Mutex, Ok(())).to_vec()));
     let write = || soon().run(|tx| tx.write(&SHARED).map(|_| ()));
     assert!(write().is_ok() && told().is_empty());
     thread::scope(|scope| {

@@ -9,6 +9,7 @@ use ww_mutex::typed::{Context, Refused};
 use ww_mutex::{class, Canceller, Class, Error, Mutex, Tx};
 
 const SOON: Duration = Duration::from_millis(20);
+const HOUR: Duration = Duration::from_secs(3600);
 
 #[test]
 fn a_deadline_ends_each_wait() {
@@ -116,7 +117,9 @@ fn a_canceller_calls_waits_off() {
         let threads: Vec<_> = (0..3)
             .map(|_| scope.spawn(|| Boxes::options().cancelled_by(&canceller).run(|tx| tx.lock(&m).map(|_| ()))))
             .collect();
-        thread::sleep(SOON);
+        while Boxes::counts().lock_waits < 3 {
+            thread::yield_now();
+        }
         assert!(threads.iter().all(|t| !t.is_finished()));
         canceller.cancel();
         for waiting in threads {
@@ -138,7 +141,9 @@ fn a_canceller_calls_off_the_wait_for_a_context() {
     let context = Context::<Boxes>::begin().unwrap();
     thread::scope(|scope| {
         let waiting = scope.spawn(|| Boxes::options().cancelled_by(&canceller).run(|_| Ok(())));
-        thread::sleep(SOON);
+        while Boxes::counts().context_waits < 1 {
+            thread::yield_now();
+        }
         assert!(!waiting.is_finished());
         canceller.cancel();
         assert_eq!(waiting.join().unwrap(), Err(Error::Cancelled));
@@ -163,9 +168,10 @@ fn who_can_be_cancelled_gets_a_context_too() {
                 }
             });
         }
-        thread::sleep(SOON);
-        let late = Duration::from_secs(20);
-        let told = Boxes::options().cancelled_by(&canceller).timeout(late).run(|_| Ok(()));
+        while Boxes::counts().context_waits < 4 {
+            thread::yield_now();
+        }
+        let told = Boxes::options().cancelled_by(&canceller).timeout(HOUR).run(|_| Ok(()));
         is_over.store(true, Relaxed);
         assert_eq!(told, Ok(()));
     });
@@ -182,7 +188,7 @@ fn a_class_ends_its_waits() {
     thread::scope(|scope| {
         let mut waiting = vec![
             scope.spawn(|| Boxes::run(lock)),
-            scope.spawn(|| Boxes::options().timeout(Duration::from_secs(600)).run(lock)),
+            scope.spawn(|| Boxes::options().timeout(HOUR).run(lock)),
             scope.spawn(|| Boxes::options().cancelled_by(&canceller).run(lock)),
         ];
         while Boxes::counts().lock_waits < 3 {
@@ -197,7 +203,7 @@ fn a_class_ends_its_waits() {
             assert_eq!(it.join().unwrap(), Err(Error::Cancelled));
         }
         assert_eq!(Boxes::run(lock), Err(Error::Cancelled));
-        assert!(m.try_lock_for(Duration::from_secs(600)).is_none());
+        assert!(m.try_lock_for(HOUR).is_none());
     });
     drop(held);
     // What needn't wait goes on.
@@ -232,7 +238,9 @@ fn a_back_off_is_called_off() {
         begins.recv().unwrap();
         let Ok((_, held)) = tx.lock(&a) else { panic!() };
         goes.send(()).unwrap();
-        thread::sleep(SOON);
+        while Boxes::counts().lock_waits < 1 {
+            thread::yield_now();
+        }
         canceller.cancel();
         assert_eq!(waiting.join().unwrap(), (Err(Error::Cancelled), 1));
         drop(held);

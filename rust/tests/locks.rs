@@ -5,7 +5,6 @@ use std::panic::{catch_unwind, AssertUnwindSafe};
 use std::ptr;
 use std::sync::{Arc, Barrier};
 use std::thread;
-use std::time::Duration;
 use ww_mutex::typed::{Context, Refused};
 use ww_mutex::{class, ArcMutexGuard, Canceller, Class, Error, Kind, Mutex, MutexGuard, Options};
 
@@ -247,7 +246,9 @@ fn one_context_more_than_there_may_be_waits() {
         let m = Arc::clone(&m);
         thread::spawn(move || Boxes::run(|tx| tx.lock_arc(&m).map(|mut value| *value += 1)))
     };
-    thread::sleep(Duration::from_millis(20));
+    while Boxes::counts().context_waits < 1 {
+        thread::yield_now();
+    }
     assert!(!other.is_finished());
     drop(context);
     assert_eq!(other.join().unwrap(), Ok(()));

@@ -153,22 +153,22 @@ fn a_forgotten_guard_is_released_by_its_context() {
 fn a_mutex_may_go_while_its_context_releases_it() {
     class!(struct Boxes: WoundWait, mutexes = 1, contexts = 1);
     let (gives, gone) = channel::<Mutex<Boxes, u64>>();
-    let drops = thread::spawn(move || gone.into_iter().for_each(drop));
+    let (tells, told) = channel();
+    let drops = thread::spawn(move || {
+        for mutex in gone {
+            drop(mutex);
+            tells.send(()).unwrap();
+        }
+    });
     for _ in 0..2_000 {
         let mut context = Context::begin().unwrap();
-        let begun = Instant::now();
-        let mutex = loop {
-            if let Ok(mutex) = Mutex::try_new(0) {
-                break mutex;
-            }
-            assert!(begun.elapsed() < Duration::from_secs(60), "its place is lost");
-            thread::yield_now();
-        };
+        let mutex = Mutex::try_new(0).expect("its place is free");
         assert!(Mutex::<Boxes, u64>::try_new(1).is_err());
         let Ok((_, guard)) = context.start().lock(&mutex) else { panic!() };
         mem::forget(guard);
         gives.send(mutex).unwrap();
         drop(context);
+        told.recv().unwrap();
     }
     drop(gives);
     drops.join().unwrap();

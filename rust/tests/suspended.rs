@@ -82,7 +82,9 @@ fn limits_and_panics() {
     let canceller = Canceller::new();
     thread::scope(|scope| {
         let waits = scope.spawn(|| age.run(Boxes::options().cancelled_by(&canceller), |_| Ok(())));
-        thread::sleep(Duration::from_millis(5));
+        while Boxes::counts().lock_waits == 0 {
+            thread::yield_now();
+        }
         canceller.cancel();
         assert!(cfg!(feature = "debug-library") || waits.join().unwrap() == Err(Error::Cancelled));
     });

@@ -13,7 +13,7 @@ use std::pin::{pin, Pin};
 use std::sync::atomic::{AtomicBool, AtomicU64, Ordering::Relaxed};
 use std::sync::{Arc, OnceLock};
 use std::task::{Context as Polling, Poll, RawWaker, RawWakerVTable, Wake, Waker};
-use std::time::{Duration, Instant};
+use std::time::Duration;
 use std::{fs, hint, mem, ptr, thread};
 use ww_mutex::task::{Context, Guard, Tx};
 use ww_mutex::{class, transaction, Class, Error, Mutex};
@@ -528,7 +528,9 @@ fn a_context_is_handed_on() {
     assert!(!flags[1].is_set() && flags[2].is_set());
     let Poll::Ready(Ok(got)) = poll(c.as_mut(), &flags[2]) else { panic!() };
     let waiting = thread::spawn(|| Boxes::run(|tx| Ok(tx.attempts())));
-    thread::sleep(Duration::from_millis(20));
+    while Boxes::counts().context_waiters < 1 {
+        thread::yield_now();
+    }
     drop(got);
     assert_eq!(waiting.join().unwrap(), Ok(1));
     nothing_is_left::<Boxes>(&[], 1);
@@ -578,18 +580,15 @@ fn whoever_waits_for_a_context_sleeps() {
     class!(struct Boxes: WoundWait);
     static BOXES: [Mutex<Boxes, u64>; 2] = [Mutex::new(0), Mutex::new(0)];
     static IS_IN_USE: AtomicBool = AtomicBool::new(false);
-    static HAS_SLEPT: AtomicBool = AtomicBool::new(false);
     static WAITS: OnceLock<(PathBuf, u64)> = OnceLock::new();
     fn has_slept() -> bool {
         WAITS.get().is_some_and(|(thread, before)| sleeps_of(thread) >= before + 10)
     }
     fn clone(_: *const ()) -> RawWaker {
         IS_IN_USE.store(true, Relaxed);
-        let began = Instant::now();
-        while !has_slept() && began.elapsed() < Duration::from_secs(10) {
+        while !has_slept() {
             thread::sleep(Duration::from_millis(1));
         }
-        HAS_SLEPT.store(has_slept(), Relaxed);
         RawWaker::new(ptr::null(), Waker::noop().vtable())
     }
     static CLONES: RawWakerVTable = RawWakerVTable::new(clone, |_| {}, |_| {}, |_| {});
@@ -610,7 +609,7 @@ fn whoever_waits_for_a_context_sleeps() {
         });
         assert!(pin!(tx.lock(&BOXES[1])).poll(&mut Polling::from_waker(&waker)).is_pending());
     });
-    assert!(HAS_SLEPT.load(Relaxed) && !BOXES[0].is_locked());
+    assert!(!BOXES[0].is_locked());
     drop(held);
 }
 
@@ -940,7 +939,6 @@ fn a_task_sleeps() {
     class!(struct Boxes: WoundWait);
     static BOX: Mutex<Boxes, u64> = Mutex::new(0);
     let held = BOX.lock();
-    let begun = Instant::now();
     let waiting = thread::spawn(|| {
         let polls = AtomicU64::new(0);
         let mut add = pin!(async {
@@ -956,9 +954,12 @@ fn a_task_sleeps() {
         block_on(counted).unwrap();
         polls.into_inner()
     });
+    while Boxes::counts().lock_waits < 1 {
+        thread::yield_now();
+    }
     thread::sleep(Duration::from_millis(200));
     drop(held);
-    assert!(waiting.join().unwrap() <= 3 && begun.elapsed() < Duration::from_secs(20));
+    assert!(waiting.join().unwrap() <= 3);
 }
 
 #[test]

@@ -10,24 +10,10 @@ use std::cell::RefCell;
 use std::future::Future;
 use std::panic;
 use std::sync::atomic::{AtomicUsize, Ordering::SeqCst};
-use std::sync::mpsc::{channel, RecvTimeoutError};
 use std::sync::Arc;
 use std::task::{Context as Polling, Wake, Waker};
-use std::thread;
-use std::time::Duration;
 use ww_mutex::task::{Context, Tx};
 use ww_mutex::{class, typed, Class, Mutex, MutexGuard};
-
-/// Does it in a thread of its own: one that doesn't come back fails the test, and doesn't hold it up.
-fn comes_back(what: impl FnOnce() + Send + 'static) {
-    let (tells, told) = channel();
-    let thread = thread::spawn(move || {
-        what();
-        tells.send(()).unwrap();
-    });
-    assert!(told.recv_timeout(Duration::from_secs(20)) != Err(RecvTimeoutError::Timeout), "it doesn't come back");
-    thread.join().unwrap();
-}
 
 /// Calls a function, which counts for itself.
 struct Calls<F: Fn()>(F);
@@ -51,40 +37,38 @@ fn a_waker_may_use_the_context_that_calls_it() {
     class!(struct Boxes: WoundWait);
     static BOXES: [Mutex<Boxes, u64>; 5] = [const { Mutex::new(0) }; 5];
     static CALLS: AtomicUsize = AtomicUsize::new(0);
-    comes_back(|| {
-        let context = || &mut *Box::leak(Box::new(Context::<Boxes>::new()));
-        let (tx, other): (&'static Tx<Boxes>, &'static Tx<Boxes>) =
-            (block_on(context().attempt()).unwrap(), block_on(context().attempt()).unwrap());
-        let uses = || {
-            Calls::waker(move || {
-                drop(tx.try_lock(&BOXES[3])); // None, while a lock call of the context waits.
-                CALLS.fetch_add(1, SeqCst);
-            })
-        };
-        let calls = |wanted| assert_eq!(CALLS.load(SeqCst), wanted);
-        // The guard goes that the other context waits for.
-        let guard = block_on(tx.lock(&BOXES[0])).unwrap();
-        let second = block_on(other.lock(&BOXES[1])).unwrap();
-        let mut waits = Box::pin(other.lock(&BOXES[0]));
-        assert!(waits.as_mut().poll(&mut Polling::from_waker(&uses())).is_pending());
-        drop(guard);
-        calls(1);
-        drop(waits);
-        // The older one, which holds something, wounds the other one, which waits for a third one.
-        let own = block_on(tx.lock(&BOXES[4])).unwrap();
-        let third = BOXES[2].lock();
-        let mut waits = Box::pin(other.lock(&BOXES[2]));
-        assert!(waits.as_mut().poll(&mut Polling::from_waker(&uses())).is_pending());
-        let mut wounds = Box::pin(tx.lock(&BOXES[1]));
-        assert!(wounds.as_mut().poll(&mut Polling::from_waker(Waker::noop())).is_pending());
-        calls(2);
-        // That one goes for which another call of its context waits.
-        let mut next = Box::pin(tx.lock(&BOXES[3]));
-        assert!(next.as_mut().poll(&mut Polling::from_waker(&uses())).is_pending());
-        drop(wounds);
-        calls(3);
-        drop((next, waits, own, second, third));
-    });
+    let context = || &mut *Box::leak(Box::new(Context::<Boxes>::new()));
+    let (tx, other): (&'static Tx<Boxes>, &'static Tx<Boxes>) =
+        (block_on(context().attempt()).unwrap(), block_on(context().attempt()).unwrap());
+    let uses = || {
+        Calls::waker(move || {
+            drop(tx.try_lock(&BOXES[3])); // None, while a lock call of the context waits.
+            CALLS.fetch_add(1, SeqCst);
+        })
+    };
+    let calls = |wanted| assert_eq!(CALLS.load(SeqCst), wanted);
+    // The guard goes that the other context waits for.
+    let guard = block_on(tx.lock(&BOXES[0])).unwrap();
+    let second = block_on(other.lock(&BOXES[1])).unwrap();
+    let mut waits = Box::pin(other.lock(&BOXES[0]));
+    assert!(waits.as_mut().poll(&mut Polling::from_waker(&uses())).is_pending());
+    drop(guard);
+    calls(1);
+    drop(waits);
+    // The older one, which holds something, wounds the other one, which waits for a third one.
+    let own = block_on(tx.lock(&BOXES[4])).unwrap();
+    let third = BOXES[2].lock();
+    let mut waits = Box::pin(other.lock(&BOXES[2]));
+    assert!(waits.as_mut().poll(&mut Polling::from_waker(&uses())).is_pending());
+    let mut wounds = Box::pin(tx.lock(&BOXES[1]));
+    assert!(wounds.as_mut().poll(&mut Polling::from_waker(Waker::noop())).is_pending());
+    calls(2);
+    // That one goes for which another call of its context waits.
+    let mut next = Box::pin(tx.lock(&BOXES[3]));
+    assert!(next.as_mut().poll(&mut Polling::from_waker(&uses())).is_pending());
+    drop(wounds);
+    calls(3);
+    drop((next, waits, own, second, third));
 }
 
 /// The same in the thread of a context of threads.
@@ -96,22 +80,20 @@ fn a_waker_may_use_its_threads_context() {
         static REST: RefCell<Option<typed::Acquiring<'static, Boxes>>> = const { RefCell::new(None) };
         static KEPT: RefCell<Option<MutexGuard<'static, Boxes, u64>>> = const { RefCell::new(None) };
     }
-    comes_back(|| {
-        let context = Box::leak(Box::new(typed::Context::<Boxes>::begin().unwrap()));
-        let Ok((rest, guard)) = context.start().lock(&BOXES[0]) else { panic!() };
+    let context = Box::leak(Box::new(typed::Context::<Boxes>::begin().unwrap()));
+    let Ok((rest, guard)) = context.start().lock(&BOXES[0]) else { panic!() };
+    REST.set(Some(rest));
+    let waker = Calls::waker(|| {
+        let Ok((rest, guard)) = REST.take().unwrap().lock(&BOXES[1]) else { panic!() };
         REST.set(Some(rest));
-        let waker = Calls::waker(|| {
-            let Ok((rest, guard)) = REST.take().unwrap().lock(&BOXES[1]) else { panic!() };
-            REST.set(Some(rest));
-            KEPT.set(Some(guard));
-        });
-        let mut waits = Box::pin(BOXES[0].lock_by_task());
-        assert!(waits.as_mut().poll(&mut Polling::from_waker(&waker)).is_pending());
-        drop(guard);
-        assert!(BOXES[1].is_locked());
-        drop(KEPT.take());
-        assert!(!BOXES[1].is_locked() && block_on(waits).is_ok());
+        KEPT.set(Some(guard));
     });
+    let mut waits = Box::pin(BOXES[0].lock_by_task());
+    assert!(waits.as_mut().poll(&mut Polling::from_waker(&waker)).is_pending());
+    drop(guard);
+    assert!(BOXES[1].is_locked());
+    drop(KEPT.take());
+    assert!(!BOXES[1].is_locked() && block_on(waits).is_ok());
 }
 
 /// A waker that panics ends nothing: who calls it goes on, and calls the others. By threads and tasks, in a release, in a lock call

@@ -483,9 +483,10 @@ static void ends() WW_NO_SAFETY_ANALYSIS
 	}
 	{
 		context x(c, ww::limits(std::chrono::hours::max(), WW_IGNORE_DUPLICATES));
+		const auto before = c.stats().lock_waits;
 		std::thread waits([&] { MUST(x.lock_all({ &b, &b, &a }) == -EINTR && !x.held()); });
 
-		while (!c.stats().lock_waits)
+		while (c.stats().lock_waits == before)
 			std::this_thread::yield();
 		c.cancel();
 		waits.join();
