@@ -4,11 +4,12 @@
  * (`awaits_`), and names the context by the seat's `ticket`, a number that no other value has, of any class:
  *
  *	ticket		its next state, and which step makes it
- *	0		T: the seat's user suspends the context, by a store, and nobody uses the seat any more
+ *	0		T: the seat's user suspends the context, by a store, and nobody uses the seat any more (suspends)
  *	T		0: a thread that has the value takes the ticket, to resume or to drop the context, by an exchange that finds T; that
- *			thread uses the seat from then on
+ *			thread uses the seat from then on (takes)
  *
- * So of the copies of a value at most one finds its ticket. The store of T releases what the former user wrote in the seat.
+ * So of the copies of a value at most one finds its ticket, which crates/ww_protocols proves of such steps in any order, by the names
+ * in brackets. The store of T releases what the former user wrote in the seat.
  */
 #define _GNU_SOURCE
 #define WW_NO_INLINE /* ww_mutex.h compiles none of its calls into this file */

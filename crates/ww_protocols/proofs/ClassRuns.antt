@@ -1,10 +1,12 @@
 -- Runs of few steps, of one seat and of threads and tasks 0, 1 and 2.
 use Rattle.std.proofs.Common.{◌≡◌, ◌≢◌, ◌<◌, inl, inr, ℕ, true, false, Option, Some, None, List, [], ◌∷◌, refl, sym, ap, ◌∙◌, subst, arith, true≢false}
 use native.Mathlib.Decide.{ℕ_discrete}
-use Rattle.ww_protocols.specs.Seat.{nothing, to_call, to_offer, set, claims, gives, goes_over, finds_own_free, uses_own, takes_own, leaves_own, Rule, claims_no_own, uses_its_own, takes_nobodys, uses_before_it_leaves, looks_as_it_joins, asks_who_waits, calls_who_waits, calls_the_next, looks_when_called}
-use Rattle.ww_protocols.specs.Class.{out, waits, due, at_nothing, at_its_seat, Class, opened, QueueStep, acts, joins, sees_used, has_looked, has_found, serves_threads, serves_tasks, calls, passes_on, drops, leaves_called, MayBeMade, after_step, ReachedWithout, begins, goes_on}
-use Rattle.ww_protocols.specs.Witness.{HasLent, HasOneThatWaits, HasPassedOn, SuchAreReached, HasTwoUsers, HasForgotten, HasUncalled, EachRuleMatters, HasNotYet, RestMatters}
+use Rattle.ww_protocols.specs.Seat.{nothing, to_call, to_offer, set, claims, gives, goes_over, finds_own_free, uses_own, takes_own, leaves_own, Rule, claims_no_own, uses_its_own, takes_nobodys, uses_before_it_leaves, suspends_what_it_uses, draws_a_new_one, finds_the_ticket, looks_as_it_joins, asks_who_waits, calls_who_waits, calls_the_next, looks_when_called}
+use Rattle.ww_protocols.specs.Class.{out, waits, due, at_nothing, at_its_seat, Class, opened, QueueStep, acts, suspends, takes, joins, sees_used, has_looked, has_found, serves_threads, serves_tasks, calls, passes_on, drops, leaves_called, MayBeMade, after_step, ReachedWithout, begins, goes_on}
+use Rattle.ww_protocols.specs.Seats.{HasWonTwice}
+use Rattle.ww_protocols.specs.Witness.{HasLent, HasResumed, HasOneThatWaits, HasPassedOn, SuchAreReached, HasTwoUsers, HasFreeSuspended, HasForgotten, HasUncalled, EachRuleMatters, HasNotYet, RestMatters}
 use Rattle.ww_protocols.proofs.Sets.{set_here, set_else, set_cases}
+use Rattle.ww_protocols.proofs.Sound.{ruled}
 
 abbrev after : Class → List QueueStep → Class
 after c [] = c
@@ -17,7 +19,7 @@ AllMay left_out c (step ∷ steps) = MayBeMade left_out c step × AllMay left_ou
 reached_on : (left_out : Option Rule) (c : Class) (steps : List QueueStep) → ReachedWithout left_out c → AllMay left_out c steps →
     ReachedWithout left_out (after c steps)
 reached_on left_out c [] r may = r
-reached_on left_out c (step ∷ steps) r may = reached_on left_out (after_step c step) steps (goes_on c step r may.0) may.1
+reached_on left_out c (step ∷ steps) r may = reached_on left_out (after_step c step) steps (r.0, r.1, r.2, goes_on c step r.3 may.0) may.1
 
 -- one seat: a thread's own; one that threads use; and one for which tasks are called
 abbrev of_own : Class
@@ -41,11 +43,32 @@ unfolding set ℕ_discrete
 lent = record {
   class_ = after of_own lent_steps;
   s = 0;
-  reached = reached_on None of_own lent_steps (begins 1 (λ _. true) (λ _. false))
+  reached = reached_on None of_own lent_steps (1, (λ _. true), (λ _. false), begins)
       (inr refl, ((refl, refl, inr refl), (refl, (refl, ((refl, inr refl), (inr refl, tt))))));
   user = (1, refl);
   owner = (2, refl);
   others = λ is. omega arith;
+}
+
+-- the first suspends its context, the second resumes it, and the third has a copy of the value
+nobody_else : (t : ℕ) → set (set (λ _. false) 0 true) 0 false t ≡ false
+nobody_else t = set_cases (set (λ _. false) 0 true) 0 false t (λ b. b ≡ false) (λ _. refl) (λ other. set_else (λ _. false) 0 true t other)
+
+none_there : {ticket : ℕ} → None ≡ Some ticket → ⊥
+none_there is = let z : ⊥ = cc in z
+
+resumed_by_another : HasResumed
+unfolding set ℕ_discrete
+resumed_by_another = record {
+  class_ = after of_threads (acts 0 (claims 0) ∷ []);
+  reached = reached_on None of_threads (acts 0 (claims 0) ∷ []) (1, (λ _. false), (λ _. false), begins) ((refl, inr refl), tt);
+  began = refl;
+  suspended = (inr refl, inr refl);
+  nobody = nobody_else;
+  resumed = inr refl;
+  goes_on = refl;
+  copy = inr refl;
+  copy_fails = λ may. none_there (ruled may);
 }
 
 seen : (s : ℕ) → s < 1 → set (λ _. true) 0 false s ≡ false
@@ -73,7 +96,7 @@ in_use_by free = true≢false free.0
 
 waited : (left_out : Option Rule) → ReachedWithout left_out (after of_tasks waits_steps)
 unfolding set ℕ_discrete
-waited left_out = reached_on left_out of_tasks waits_steps (begins 1 (λ _. false) (λ _. true)) (
+waited left_out = reached_on left_out of_tasks waits_steps (1, (λ _. false), (λ _. true), begins) (
   (refl, inr refl),
   (
     record { nobody_looks = refl; is_out = refl; stays = inl refl; looks_first = inr (inl refl) },
@@ -154,7 +177,7 @@ passed = record {
 }
 
 pub such_are_reached : SuchAreReached
-such_are_reached = (lent, one_that_waits, passed)
+such_are_reached = (lent, resumed_by_another, one_that_waits, passed)
 
 -- ---- without a rule
 
@@ -164,7 +187,7 @@ two_users : (rule : Rule) (steps : List QueueStep) → AllMay (Some rule) of_own
 two_users rule steps may one two = record {
   class_ = after of_own steps;
   s = 0;
-  reached = reached_on (Some rule) of_own steps (begins 1 (λ _. true) (λ _. false)) may;
+  reached = reached_on (Some rule) of_own steps (1, (λ _. true), (λ _. false), begins) may;
   one = (0, one);
   two = (1, two);
   others = λ is. omega arith;
@@ -207,6 +230,81 @@ unfolding set ℕ_discrete
 left = two_users uses_before_it_leaves left_steps
     (inr refl, ((refl, refl, inr refl), ((refl, inl refl), (inr refl, ((refl, refl, inr refl), (refl, (refl, tt))))))) refl refl
 
+-- the first uses its own seat, and the second suspends that and resumes it
+abbrev others_steps : List QueueStep
+others_steps = acts 0 (takes_own 0) ∷ acts 0 (finds_own_free 0) ∷ acts 0 (uses_own 0) ∷ suspends 1 0 7 ∷ takes 1 0 7 ∷ []
+
+anothers : HasTwoUsers (Some suspends_what_it_uses)
+unfolding set ℕ_discrete
+anothers = two_users suspends_what_it_uses others_steps
+    (inr refl, ((refl, refl, inr refl), (refl, ((inl refl, inr refl), (inr refl, tt))))) refl refl
+
+nobodys : HasFreeSuspended (Some suspends_what_it_uses)
+unfolding set ℕ_discrete
+nobodys = record {
+  class_ = after of_threads (suspends 0 0 7 ∷ []);
+  s = 0;
+  ticket = 7;
+  reached = reached_on (Some suspends_what_it_uses) of_threads (suspends 0 0 7 ∷ []) (1, (λ _. false), (λ _. false), begins)
+      ((inl refl, inr refl), tt);
+  suspended = refl;
+  free = (refl, refl);
+}
+
+-- the first has suspended its context
+abbrev away_steps : List QueueStep
+away_steps = acts 0 (claims 0) ∷ suspends 0 0 7 ∷ []
+
+away : (left_out : Option Rule) → ReachedWithout left_out (after of_threads away_steps)
+unfolding set ℕ_discrete
+away left_out = reached_on left_out of_threads away_steps (1, (λ _. false), (λ _. false), begins) ((refl, inr refl), ((inr refl, inr refl), tt))
+
+abbrev resumed_once : Class
+resumed_once = after_step (after of_threads away_steps) (takes 1 0 7)
+
+-- the second resumes it, and suspends it by the same ticket; then the third finds that, by a copy of the first value
+same_ticket : HasWonTwice (Some draws_a_new_one)
+unfolding set ℕ_discrete
+same_ticket = record {
+  class_ = after of_threads away_steps;
+  later = after_step resumed_once (suspends 1 0 7);
+  t = 1;
+  u = 2;
+  s = 0;
+  r = 0;
+  ticket = 7;
+  reached = away (Some draws_a_new_one);
+  first = inr refl;
+  between = goes_on resumed_once (suspends 1 0 7) begins (inr refl, inl refl);
+  second = inr refl;
+}
+
+-- the third takes the ticket that the second has taken
+not_there : HasWonTwice (Some finds_the_ticket)
+unfolding set ℕ_discrete
+not_there = record {
+  class_ = after of_threads away_steps;
+  later = resumed_once;
+  t = 1;
+  u = 2;
+  s = 0;
+  r = 0;
+  ticket = 7;
+  reached = away (Some finds_the_ticket);
+  first = inr refl;
+  between = begins;
+  second = inl refl;
+}
+
+-- so both use the seat
+abbrev both_steps : List QueueStep
+both_steps = acts 0 (takes_own 0) ∷ acts 0 (finds_own_free 0) ∷ acts 0 (uses_own 0) ∷ suspends 0 0 7 ∷ takes 0 0 7 ∷ takes 1 0 7 ∷ []
+
+both : HasTwoUsers (Some finds_the_ticket)
+unfolding set ℕ_discrete
+both = two_users finds_the_ticket both_steps
+    (inr refl, ((refl, refl, inr refl), (refl, ((inr refl, inr refl), (inr refl, (inl refl, tt)))))) refl refl
+
 -- one comes to wait, and doesn't look at the seat
 unlooked : HasForgotten (Some looks_as_it_joins)
 unfolding set ℕ_discrete
@@ -214,7 +312,7 @@ unlooked = (
   record {
     class_ = after of_threads (joins 0 due false ∷ []);
     s = 0;
-    reached = reached_on (Some looks_as_it_joins) of_threads (joins 0 due false ∷ []) (begins 1 (λ _. false) (λ _. false))
+    reached = reached_on (Some looks_as_it_joins) of_threads (joins 0 due false ∷ []) (1, (λ _. false), (λ _. false), begins)
         (record { nobody_looks = refl; is_out = refl; stays = inr refl; looks_first = inl refl }, tt);
     rest = record { nobody_looks = refl; all_settled = λ s _ t. refl };
     is_seat = omega arith;
@@ -234,7 +332,7 @@ unasked = (
   record {
     class_ = after of_threads unasked_steps;
     s = 0;
-    reached = reached_on (Some asks_who_waits) of_threads unasked_steps (begins 1 (λ _. false) (λ _. false)) (
+    reached = reached_on (Some asks_who_waits) of_threads unasked_steps (1, (λ _. false), (λ _. false), begins) (
       (refl, inr refl),
       (
         record { nobody_looks = refl; is_out = refl; stays = inr refl; looks_first = inr (inl refl) },
@@ -270,7 +368,7 @@ nobody_is t = set_cases {A = Option ℕ} (set (λ _. None) 1 (Some 0)) 1 None t 
 
 one_more : (rule : Rule) (step : QueueStep) → MayBeMade (Some rule) (after of_tasks waits_steps) step →
     ReachedWithout (Some rule) (after_step (after of_tasks waits_steps) step)
-one_more rule step may = goes_on (after of_tasks waits_steps) step (waited (Some rule)) may
+one_more rule step may = reached_on (Some rule) (after of_tasks waits_steps) (step ∷ []) (waited (Some rule)) (may, tt)
 
 -- the second leaves, and the third isn't called
 abbrev passed_over : Class
@@ -318,7 +416,7 @@ given_steps = acts 0 (claims 0) ∷ joins 1 waits true ∷ sees_used 1 0 ∷ has
 
 given : (left_out : Option Rule) → ReachedWithout left_out (after of_tasks given_steps)
 unfolding set ℕ_discrete
-given left_out = reached_on left_out of_tasks given_steps (begins 1 (λ _. false) (λ _. true)) (
+given left_out = reached_on left_out of_tasks given_steps (1, (λ _. false), (λ _. true), begins) (
   (refl, inr refl),
   (
     record { nobody_looks = refl; is_out = refl; stays = inl refl; looks_first = inr (inl refl) },
@@ -368,7 +466,7 @@ strange = (
 amid_a_look : HasNotYet
 amid_a_look = record {
   class_ = after of_tasks (joins 0 waits true ∷ []);
-  reached = reached_on None of_tasks (joins 0 waits true ∷ []) (begins 1 (λ _. false) (λ _. true))
+  reached = reached_on None of_tasks (joins 0 waits true ∷ []) (1, (λ _. false), (λ _. true), begins)
       (record { nobody_looks = refl; is_out = refl; stays = inl refl; looks_first = inr (inl refl) }, tt);
   is_seat = omega arith;
   free = (refl, refl);
@@ -398,6 +496,9 @@ each_rule_matters claims_no_own = claimed
 each_rule_matters uses_its_own = not_its_own
 each_rule_matters takes_nobodys = taken
 each_rule_matters uses_before_it_leaves = left
+each_rule_matters suspends_what_it_uses = (anothers, nobodys)
+each_rule_matters draws_a_new_one = same_ticket
+each_rule_matters finds_the_ticket = (both, not_there)
 each_rule_matters looks_as_it_joins = unlooked
 each_rule_matters asks_who_waits = unasked
 each_rule_matters calls_who_waits = strange

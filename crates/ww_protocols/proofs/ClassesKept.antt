@@ -3,26 +3,18 @@ use Rattle.std.proofs.Common.{◌≡◌, ◌≢◌, ◌<◌, inl, inr, ⊎_elim,
 use mathlib.Core.Logic.{dite}
 use native.Mathlib.Decide.{ℕ_discrete}
 use Rattle.ww_protocols.specs.Seat.{Debt, nothing, to_call, to_offer, ClassSeat, IsFree, set, SeatStep, claims, uses_own, MaySeat, next_seat}
-use Rattle.ww_protocols.specs.Class.{InQueue, out, waits, due, Class, LooksAt, at_nothing, at_its_seat, at_all, QueueStep, acts, serves_threads, serves_tasks, calls, passes_on, joins, sees_used, has_looked, has_found, drops, leaves, leaves_called, opens, closes, settled, also_to_call, looker, looks_so, unseen_so, Sleeps, LooksEnough, MayServeTasks, MayComeToWait, MayBeMade, after_step, begins, goes_on, ReachedByRules}
-use Rattle.ww_protocols.specs.Seats.{SeatsHaveOneUser, comes_to, NobodyUsesItYet, SeatsSayWhoseTheyAre, IsAtRest, IsAwaited, NoSeatIsLost, EachIs, AllDiffer, IsFreeForTasks, IsUnderWay, FreeSeatsAreAtMostTheCalls}
-use Rattle.ww_protocols.proofs.Sets.{set_here, set_else, set_cases, set_was}
-use Rattle.ww_protocols.proofs.Held.{nobody_has}
-use Rattle.ww_protocols.proofs.Sound.{IsSound, ruled, seat_on, free_is_sound}
+use Rattle.ww_protocols.specs.Class.{InQueue, out, waits, due, Class, LooksAt, at_nothing, at_its_seat, at_all, opened, QueueStep, acts, suspends, takes, serves_threads, serves_tasks, calls, passes_on, joins, sees_used, has_looked, has_found, drops, leaves, leaves_called, opens, closes, suspended, resumed, settled, also_to_call, looker, looks_so, unseen_so, Sleeps, LooksEnough, MayServeTasks, MayComeToWait, MayBeMade, after_step, ReachedByRules}
+use Rattle.ww_protocols.specs.Seats.{SeatsHaveOneUser, comes_to, NobodyUsesItYet, SeatsSayWhoseTheyAre, SuspendedSeatsAreKept, IsAtRest, IsAwaited, NoSeatIsLost, EachIs, AllDiffer, IsFreeForTasks, IsUnderWay, FreeSeatsAreAtMostTheCalls}
+use Rattle.ww_protocols.proofs.Sets.{set_here, set_else, set_cases, set_each, set_was}
+use Rattle.ww_protocols.proofs.Held.{not_both, nobody_has}
+use Rattle.ww_protocols.proofs.Sound.{IsSound, ruled, free_is_sound, unused, unused_yet, seat_on, suspended_on, resumed_on, settled_on}
+use Rattle.ww_protocols.proofs.Tickets.{led_on, same, ticket_kept, next_is}
 use Rattle.ww_protocols.proofs.Queue.{Owes, Called, LooksFor, Serves, ComesToOne, ComesToTasks, in_use, serves_on, none_looks, one_looks, called_else, not_for, for_another, slept, offered_to, awaited, restood, recalled, served_threads, served_tasks, opened_now, closed_now}
 
 record IsOrderly (c : Class) : Type 0 where
   sound : (s : ℕ) → IsSound (c.seat s)
   in_queue : (t s : ℕ) → c.call t ≡ Some s → c.stands t ≡ waits
   serves : (s : ℕ) → s < c.seats → Serves c.stands c.call s c.looks (c.unseen s) (c.is_open s) (IsFree (c.seat s)) (c.seat s).debt
-
--- ---- of seats, one of which changed
-
-at_each : (f : ℕ → ClassSeat) (s : ℕ) (seat : ClassSeat) (P : ℕ → ClassSeat → Type 0) → P s seat → ((r : ℕ) → r ≢ s → P r (f r)) →
-    (r : ℕ) → P r (set f s seat r)
-at_each f s seat P here there r = set_cases f s seat r (P r) (λ is. subst (λ k. P k seat) (sym is) here) (there r)
-
-settled_sound : (seat : ClassSeat) (t : ℕ) (it : Debt) → IsSound seat → IsSound (settled seat t it)
-settled_sound seat t it x = record { users = x.users; owners = x.owners; found = x.found }
 
 module _ (c : Class) (o : IsOrderly c) where
   abbrev At : ℕ → ClassSeat → Type 0
@@ -31,17 +23,32 @@ module _ (c : Class) (o : IsOrderly c) where
   -- a step of those that use seats
   acts_on : (s : ℕ) (step : SeatStep) → MaySeat None (c.seat s) step → IsOrderly (after_step c (acts s step))
   acts_on s step may = let new = next_seat (c.seat s) step in record {
-    sound = at_each c.seat s new (λ _. IsSound) (seat_on (c.seat s) (o.sound s) step may) (λ r _. o.sound r);
+    sound = set_each c.seat s new (λ _. IsSound) (seat_on (c.seat s) (o.sound s) step may) (λ r _. o.sound r);
     in_queue = o.in_queue;
-    serves = at_each c.seat s new At (λ is. serves_on (c.seat s) step may (o.serves s is)) (λ r _. o.serves r);
+    serves = set_each c.seat s new At (λ is. serves_on (c.seat s) step may (o.serves s is)) (λ r _. o.serves r);
   }
+
+  -- a step that leaves who waits what it was
+  passes_by : (s : ℕ) (new : ClassSeat) → IsSound new → At s new → (drawn : ℕ → Bool) → IsOrderly (record c { seat = set c.seat s new; drawn = drawn })
+  passes_by s new sound still drawn = record {
+    sound = set_each c.seat s new (λ _. IsSound) sound (λ r _. o.sound r);
+    in_queue = o.in_queue;
+    serves = set_each c.seat s new At still (λ r _. o.serves r);
+  }
+
+  suspends_on : (t s ticket : ℕ) → MayBeMade None c (suspends t s ticket) → IsOrderly (after_step c (suspends t s ticket))
+  suspends_on t s ticket may = passes_by s (suspended (c.seat s) t ticket) (suspended_on (c.seat s) (o.sound s) t ticket (ruled may.0)) (o.serves s)
+      (set c.drawn ticket true)
+
+  takes_on : (t s ticket : ℕ) → MayBeMade None c (takes t s ticket) → IsOrderly (after_step c (takes t s ticket))
+  takes_on t s ticket may = passes_by s (resumed (c.seat s) t) (resumed_on (c.seat s) (o.sound s) t ticket (ruled may)) (o.serves s) c.drawn
 
   -- a step that settles what one had to do of a seat
   settles_on : (t s : ℕ) (it : Debt) → At s (settled (c.seat s) t it) → IsOrderly (record c { seat = set c.seat s (settled (c.seat s) t it) })
   settles_on t s it still = let new = settled (c.seat s) t it in record {
-    sound = at_each c.seat s new (λ _. IsSound) (settled_sound (c.seat s) t it (o.sound s)) (λ r _. o.sound r);
+    sound = set_each c.seat s new (λ _. IsSound) (settled_on (c.seat s) (o.sound s) t it) (λ r _. o.sound r);
     in_queue = o.in_queue;
-    serves = at_each c.seat s new At still (λ r _. o.serves r);
+    serves = set_each c.seat s new At still (λ r _. o.serves r);
   }
 
   serves_threads_on : (t s : ℕ) → MayBeMade None c (serves_threads t s) → IsOrderly (after_step c (serves_threads t s))
@@ -229,9 +236,9 @@ module _ (c : Class) (o : IsOrderly c) where
 
   opens_on : (t s : ℕ) → IsOrderly (after_step c (opens t s))
   opens_on t s = let it = also_to_call ((c.seat s).debt t) in let new = settled (c.seat s) t it in record {
-    sound = at_each c.seat s new (λ _. IsSound) (settled_sound (c.seat s) t it (o.sound s)) (λ r _. o.sound r);
+    sound = set_each c.seat s new (λ _. IsSound) (settled_on (c.seat s) (o.sound s) t it) (λ r _. o.sound r);
     in_queue = o.in_queue;
-    serves = at_each c.seat s new (λ r seat. r < c.seats → Serves c.stands c.call r c.looks (c.unseen r) (set c.is_open s true r) (IsFree seat) seat.debt)
+    serves = set_each c.seat s new (λ r seat. r < c.seats → Serves c.stands c.call r c.looks (c.unseen r) (set c.is_open s true r) (IsFree seat) seat.debt)
         (λ is. subst (λ b. Serves c.stands c.call s c.looks (c.unseen s) b (IsFree (c.seat s)) new.debt) (sym (set_here c.is_open s true)) (opened_now (o.serves s is) t))
         (λ r other is. subst (λ b. Serves c.stands c.call r c.looks (c.unseen r) b (IsFree (c.seat r)) (c.seat r).debt)
         (sym (set_else c.is_open s true r other)) (o.serves r is));
@@ -248,6 +255,8 @@ module _ (c : Class) (o : IsOrderly c) where
 
   steps_on : (step : QueueStep) → MayBeMade None c step → IsOrderly (after_step c step)
   steps_on (acts s step) may = acts_on s step may
+  steps_on (suspends t s ticket) may = suspends_on t s ticket may
+  steps_on (takes t s ticket) may = takes_on t s ticket may
   steps_on (serves_threads t s) may = serves_threads_on t s may
   steps_on (serves_tasks t s) may = serves_tasks_on t s may
   steps_on (calls u s) may = calls_on u s may
@@ -266,9 +275,6 @@ module _ (c : Class) (o : IsOrderly c) where
   comes_on : (step : QueueStep) → MayBeMade None c step → (s : ℕ) → comes_to step ≡ Some s → (t : ℕ) → (c.seat s).user t ≡ false
   comes_on step may s is = go step may is
     where
-      same : (a b : ℕ) → Some a ≡ Some b → a ≡ b
-      same a b p = cc
-
       at : (r : ℕ) → Some r ≡ Some s → ((t : ℕ) → (c.seat r).user t ≡ false) → (t : ℕ) → (c.seat s).user t ≡ false
       at r is nobody = subst (λ k. (t : ℕ) → (c.seat k).user t ≡ false) (same r s is) nobody
 
@@ -276,17 +282,20 @@ module _ (c : Class) (o : IsOrderly c) where
       none p = let z : ⊥ = cc in absurd z
 
       go : (step : QueueStep) → MayBeMade None c step → comes_to step ≡ Some s → (t : ℕ) → (c.seat s).user t ≡ false
-      go (acts r (claims t)) may is = at r is (nobody_has (o.sound r).users may.0)
-      go (acts r (uses_own t)) may is = at r is (nobody_has (o.sound r).users ((o.sound r).found t may).2)
+      go (acts r (claims t)) may is = at r is (nobody_has (o.sound r).users (unused (c.seat r) (o.sound r) may.0))
+      go (acts r (uses_own t)) may is = at r is (nobody_has (o.sound r).users (unused (c.seat r) (o.sound r) ((o.sound r).found t may).2))
+      go (takes t r ticket) may is = at r is (nobody_has (o.sound r).users (unused_yet (c.seat r) (o.sound r) ticket (ruled may)))
       go _ may is = none is
 
-reached_is_orderly : (c : Class) → ReachedByRules c → IsOrderly c
-reached_is_orderly _ (begins seats are_own are_open) = record {
+opened_is_orderly : (seats : ℕ) (are_own are_open : ℕ → Bool) → IsOrderly (opened seats are_own are_open)
+opened_is_orderly seats are_own are_open = record {
   sound = λ s. free_is_sound (are_own s);
   in_queue = λ t s is. let z : ⊥ = cc in absurd z;
   serves = λ s _. record { if_due = λ t _ is. let z : ⊥ = cc in absurd z; if_waits = λ t _ _ asleep. let is = asleep.0 in let z : ⊥ = cc in absurd z };
 }
-reached_is_orderly _ (goes_on c step r may) = steps_on c (reached_is_orderly c r) step may
+
+reached_is_orderly : (c : Class) → ReachedByRules c → IsOrderly c
+reached_is_orderly c r = led_on IsOrderly steps_on (opened r.0 r.1 r.2) c r.3 (opened_is_orderly r.0 r.1 r.2)
 
 -- ---- the theorems
 
@@ -298,6 +307,33 @@ nobody_uses_it_yet c step s r may is = comes_on c (reached_is_orderly c r) step 
 
 pub seats_say_whose_they_are : SeatsSayWhoseTheyAre
 seats_say_whose_they_are c r s = let x = (reached_is_orderly c r).sound s in (x.users, x.owners)
+
+until_taken : (c : Class) (s ticket : ℕ) → (c.seat s).ticket ≡ Some ticket → ((t : ℕ) → (c.seat s).user t ≡ false) →
+    (step : QueueStep) → MayBeMade None c step → (((after_step c step).seat s).ticket ≡ Some ticket) ⊎ ((t : ℕ) × (step ≡ takes t s ticket))
+until_taken c s ticket is nobody = go
+  where
+    settles : (r t : ℕ) (it : Debt) → (set c.seat r (settled (c.seat r) t it) s).ticket ≡ Some ticket
+    settles r t it = ticket_kept c.seat r (settled (c.seat r) t it) refl s ∙ is
+
+    another : (r : ℕ) (seat : ClassSeat) → s ≢ r → (set c.seat r seat s).ticket ≡ Some ticket
+    another r seat other = ap (λ (it : ClassSeat). it.ticket) (set_else c.seat r seat s other) ∙ is
+
+    go : (step : QueueStep) → MayBeMade None c step → (((after_step c step).seat s).ticket ≡ Some ticket) ⊎ ((t : ℕ) × (step ≡ takes t s ticket))
+    go (acts r step) may = inl (ticket_kept c.seat r (next_seat (c.seat r) step) (next_is (c.seat r) step) s ∙ is)
+    go (suspends t r n) may = dite (ℕ_discrete s r) (λ here. not_both (ap (λ k. (c.seat k).user t) here ∙ ruled may.0) (nobody t))
+        (λ there. inl (another r (suspended (c.seat r) t n) there))
+    go (takes t r n) may = dite (ℕ_discrete s r)
+        (λ here. inr (t, ap (λ k. takes t k n) (sym here) ∙ ap (takes t s) (same n ticket (sym (ruled may) ∙ ap (λ k. (c.seat k).ticket) (sym here) ∙ is))))
+        (λ there. inl (another r (resumed (c.seat r) t) there))
+    go (serves_threads t r) may = inl (settles r t to_call)
+    go (serves_tasks t r) may = inl (settles r t nothing)
+    go (opens t r) may = inl (settles r t (also_to_call ((c.seat r).debt t)))
+    go _ may = inl is
+
+pub suspended_seats_are_kept : SuspendedSeatsAreKept
+suspended_seats_are_kept c r s ticket is = let x = (reached_is_orderly c r).sound s in
+    let nobody = nobody_has x.users (unused_yet (c.seat s) x ticket is) in
+    record { busy = x.stays ticket is; nobody = nobody; until_taken = until_taken c s ticket is nobody }
 
 owes_nothing : (c : Class) → IsAtRest c → (s : ℕ) → s < c.seats → (it : Debt) → it ≢ nothing → Owes (c.seat s).debt it → ⊥
 owes_nothing c rest s is it isnt owes = isnt (sym owes.1 ∙ rest.all_settled s is owes.0)
@@ -338,9 +374,6 @@ pub free_seats_are_at_most_the_calls : FreeSeatsAreAtMostTheCalls
 free_seats_are_at_most_the_calls c r rest sleeper seats different all = let it = go seats all in
     (it.0, they_differ seats it.0 different it.1, are_called seats it.0 it.1, as_many seats it.0 it.1)
   where
-    same : (a b : ℕ) → Some a ≡ Some b → a ≡ b
-    same a b p = cc
-
     go : (seats : List ℕ) → EachIs (IsFreeForTasks c) seats → (tasks : List ℕ) × CalledFor c seats tasks
     go [] _ = ([], tt)
     go (s ∷ seats) each = let one = (no_seat_is_lost c r rest s each.0.0 each.0.1).is_called sleeper.0 sleeper.1 each.0.2 in

@@ -14,6 +14,7 @@ pub mod SharedDataRuns
 pub mod Sets
 pub mod Held
 pub mod Sound
+pub mod Tickets
 pub mod Queue
 pub mod ClassesKept
 pub mod ClassRuns

@@ -27,6 +27,10 @@ module _ {A : Type 0} where
       (λ is. subst P (sym (set_here f t a) ∙ ap (set f t a) (sym is)) (here is))
       (λ isnt. subst P (sym (set_else f t a u isnt)) (there isnt))
 
+  -- and at each
+  pub set_each : (f : ℕ → A) (t : ℕ) (a : A) (P : ℕ → A → Type 0) → P t a → ((u : ℕ) → u ≢ t → P u (f u)) → (u : ℕ) → P u (set f t a u)
+  set_each f t a P here there u = set_cases f t a u (P u) (λ is. subst (λ k. P k a) (sym is) here) (there u)
+
   -- where the changed function has what it is asked for
   pub set_was : (f : ℕ → A) (t : ℕ) (a : A) (u : ℕ) (P : A → Type 0) → P (set f t a u) → ((u ≡ t) × P a) ⊎ ((u ≢ t) × P (f u))
   set_was f t a u P h = dite (ℕ_discrete u t)

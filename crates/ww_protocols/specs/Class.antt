@@ -1,6 +1,6 @@
 -- A class: its seats, and the two queues of those that found none of them free.
 use Rattle.std.specs.Prelude.{ℕ, ◌≡◌, ◌≢◌, ◌<◌, ◌⊎◌, Bool, true, false, Option, Some, None}
-use Rattle.ww_protocols.specs.Seat.{IsFree, Debt, nothing, to_call, to_offer, ClassSeat, SeatStep, free_seat, set, Rule, looks_as_it_joins, asks_who_waits, calls_who_waits, calls_the_next, looks_when_called, Unless, MaySeat, next_seat}
+use Rattle.ww_protocols.specs.Seat.{IsFree, Debt, nothing, to_call, to_offer, ClassSeat, SeatStep, free_seat, set, Rule, suspends_what_it_uses, draws_a_new_one, finds_the_ticket, looks_as_it_joins, asks_who_waits, calls_who_waits, calls_the_next, looks_when_called, Unless, MaySeat, next_seat}
 
 -- Where one stands: not in a queue; in it as a task; or as a thread, which is due any seat.
 pub data InQueue : Type 0 where
@@ -15,7 +15,7 @@ pub data LooksAt : Type 0 where
   at_all : LooksAt
 
 -- Besides seats and queues: which seats tasks may claim now; for which seat each task was called, until it drops that; who looks at the
--- seats one by one, with the queues locked, and which of them it has yet to see.
+-- seats one by one, with the queues locked, and which of them it has yet to see; which tickets values have had.
 pub record Class : Type 0 where
   pub seats : ℕ
   pub seat : ℕ → ClassSeat
@@ -24,8 +24,9 @@ pub record Class : Type 0 where
   pub call : ℕ → Option ℕ
   pub looks : Option ℕ
   pub unseen : ℕ → Bool
+  pub drawn : ℕ → Bool
 
--- nobody uses a seat, no thread has its own yet, and nobody waits
+-- nobody uses a seat, no thread has its own yet, nobody waits, and no context was suspended yet
 abbrev pub opened : ℕ → (ℕ → Bool) → (ℕ → Bool) → Class
 opened seats are_own are_open = record {
   seats = seats;
@@ -35,13 +36,16 @@ opened seats are_own are_open = record {
   call = λ _. None;
   looks = None;
   unseen = λ _. false;
+  drawn = λ _. false;
 }
 
 -- ---- the steps
 
--- Nobody else comes to a queue while somebody looks with the queues locked.
+-- Nobody else comes to a queue while somebody looks with the queues locked. Who takes a ticket has a value with it, or a copy.
 pub data QueueStep : Type 0 where
   acts : (s : ℕ) (step : SeatStep) → QueueStep
+  suspends : (t s ticket : ℕ) → QueueStep  -- store of the seat's ticket: nobody uses the seat any more
+  takes : (t s ticket : ℕ) → QueueStep  -- exchange: it finds the ticket, and sets 0; it resumes or drops the context, and uses the seat
   serves_threads : (t s : ℕ) → QueueStep  -- who has given the seat has handed it to a thread, or finds that none waits
   serves_tasks : (t s : ℕ) → QueueStep  -- and that no task need be called for it
   calls : (u s : ℕ) → QueueStep  -- `called` of the seat is set: the task is called for it
@@ -55,6 +59,13 @@ pub data QueueStep : Type 0 where
   leaves_called : (t s : ℕ) → QueueStep  -- `called` of the seat is set for the next one, or cleared: so does one that was called for it
   opens : (t s : ℕ) → QueueStep  -- `open` up: tasks may claim this seat, which is to be offered to them
   closes : (s : ℕ) → QueueStep  -- `open` down
+
+-- the seat, when its user has suspended the context; and when one has taken the ticket
+abbrev pub suspended : ClassSeat → ℕ → ℕ → ClassSeat
+suspended seat t ticket = record seat { user = set seat.user t false; ticket = Some ticket }
+
+abbrev pub resumed : ClassSeat → ℕ → ClassSeat
+resumed seat t = record seat { user = set seat.user t true; ticket = None }
 
 -- the seat, when one has done this much of what it had to do of it
 abbrev pub settled : ClassSeat → ℕ → Debt → ClassSeat
@@ -136,6 +147,9 @@ module _ (c : Class) where
   LooksEnough at_all = Unit {0}
 
 module _ (left_out : Option Rule) (c : Class) where
+  abbrev pub MaySuspend : ℕ → ℕ → ℕ → Type 0
+  MaySuspend t s ticket = Unless left_out suspends_what_it_uses ((c.seat s).user t ≡ true) × Unless left_out draws_a_new_one (c.drawn ticket ≡ false)
+
   pub record MayServeTasks (t s : ℕ) : Type 0 where
     pub has_to : (c.seat s).debt t ≡ to_call
     pub nobody_looks : c.looks ≡ None
@@ -149,6 +163,8 @@ module _ (left_out : Option Rule) (c : Class) where
 
   abbrev pub MayBeMade : QueueStep → Type 0
   MayBeMade (acts s step) = MaySeat left_out (c.seat s) step
+  MayBeMade (suspends t s ticket) = MaySuspend t s ticket
+  MayBeMade (takes t s ticket) = Unless left_out finds_the_ticket ((c.seat s).ticket ≡ Some ticket)
   MayBeMade (serves_threads t s) = ((c.seat s).debt t ≡ to_offer) × Unless left_out asks_who_waits (IsInUse c s ⊎ NobodyIsDue c)
   MayBeMade (serves_tasks t s) = MayServeTasks t s
   MayBeMade (calls u s) = (c.looks ≡ None) × Unless left_out calls_who_waits (Sleeps c u)
@@ -166,6 +182,8 @@ module _ (left_out : Option Rule) (c : Class) where
 module _ (c : Class) where
   abbrev pub after_step : QueueStep → Class
   after_step (acts s step) = record c { seat = set c.seat s (next_seat (c.seat s) step) }
+  after_step (suspends t s ticket) = record c { seat = set c.seat s (suspended (c.seat s) t ticket); drawn = set c.drawn ticket true }
+  after_step (takes t s ticket) = record c { seat = set c.seat s (resumed (c.seat s) t) }
   after_step (serves_threads t s) = record c { seat = set c.seat s (settled (c.seat s) t to_call) }
   after_step (serves_tasks t s) = record c { seat = set c.seat s (settled (c.seat s) t nothing) }
   after_step (calls u s) = record c { call = set c.call u (Some s) }
@@ -183,10 +201,14 @@ module _ (c : Class) where
   }
   after_step (closes s) = record c { is_open = set c.is_open s false }
 
--- a class that some steps lead to from its opening, where this rule may be left out
-pub data ReachedWithout (left_out : Option Rule) : Class → Type 0 where
-  begins : (seats : ℕ) (are_own are_open : ℕ → Bool) → ReachedWithout left_out (opened seats are_own are_open)
-  goes_on : (c : Class) (step : QueueStep) → ReachedWithout left_out c → MayBeMade left_out c step → ReachedWithout left_out (after_step c step)
+-- some steps lead from a class to this one, where this rule may be left out
+pub data IsReachedFrom (left_out : Option Rule) (from : Class) : Class → Type 0 where
+  begins : IsReachedFrom left_out from from
+  goes_on : (c : Class) (step : QueueStep) → IsReachedFrom left_out from c → MayBeMade left_out c step → IsReachedFrom left_out from (after_step c step)
+
+-- so they do from the opening of a class
+abbrev pub ReachedWithout : Option Rule → Class → Type 0
+ReachedWithout left_out c = (seats : ℕ) × (are_own : ℕ → Bool) × (are_open : ℕ → Bool) × IsReachedFrom left_out (opened seats are_own are_open) c
 
 -- by the rules
 abbrev pub ReachedByRules : Class → Type 0

@@ -1,5 +1,5 @@
--- One seat: its word `busy`, who uses it and whose own it is, and each access of these as a step.
-use Rattle.std.specs.Prelude.{ℕ, ◌≡◌, ◌⊎◌, Bool, true, false, Option, Some}
+-- One seat: its words `busy` and `ticket`, who uses it and whose own it is, and each access of `busy` as a step.
+use Rattle.std.specs.Prelude.{ℕ, ◌≡◌, ◌⊎◌, Bool, true, false, Option, Some, None}
 use native.Mathlib.Decide.{ℕ_discrete}
 
 -- What one has yet to do of a seat: nothing; to call a task for it; to offer it to threads, and then that.
@@ -13,6 +13,7 @@ pub record ClassSeat : Type 0 where
   pub is_own : Bool  -- IS_OWN, which stays: it is a thread's own, or nobody's yet
   pub busy : Bool  -- BUSY
   pub user : ℕ → Bool  -- who uses it
+  pub ticket : Option ℕ  -- the number by which its context is suspended
   pub is_taken : Bool  -- it is a thread's own now
   pub owner : ℕ → Bool  -- whose
   pub found_free : ℕ → Bool  -- who has read that its own seat is free, and is about to use it
@@ -27,6 +28,7 @@ free_seat is = record {
   is_own = is;
   busy = false;
   user = λ _. false;
+  ticket = None;
   is_taken = false;
   owner = λ _. false;
   found_free = λ _. false;
@@ -52,6 +54,9 @@ pub data Rule : Type 0 where
   uses_its_own : Rule  -- only the thread whose own such a seat is finds it free, to use it
   takes_nobodys : Rule  -- nobody takes as its own a seat that is a thread's own already
   uses_before_it_leaves : Rule  -- who has found its own seat free uses it before it leaves it
+  suspends_what_it_uses : Rule  -- only its user suspends a seat's context
+  draws_a_new_one : Rule  -- no other value has the ticket
+  finds_the_ticket : Rule  -- who takes a ticket finds it in the seat
   looks_as_it_joins : Rule  -- who comes to wait looks at the seats, unless somebody is due one
   asks_who_waits : Rule  -- who has given a seat looks whether somebody waits
   calls_who_waits : Rule  -- who is called waits as a task, and isn't called yet

@@ -1,5 +1,5 @@
-//! A seat has one user, and none is lost.
-ghost use Rattle.ww_protocols.specs.Seats.{SeatsHaveOneUser, NobodyUsesItYet, SeatsSayWhoseTheyAre, NoSeatIsLost, FreeSeatsAreAtMostTheCalls};
+//! A seat has one user, of the copies of a value by which its context is suspended one wins, and none is lost.
+ghost use Rattle.ww_protocols.specs.Seats.{SeatsHaveOneUser, NobodyUsesItYet, SeatsSayWhoseTheyAre, CopiesWinOnce, SuspendedSeatsAreKept, NoSeatIsLost, FreeSeatsAreAtMostTheCalls};
 
 /// In each reached class two users of one seat are one.
 pub fn seats_have_one_user()
@@ -11,9 +11,19 @@ pub fn nobody_uses_it_yet()
     ensures { NobodyUsesItYet }
 {}
 
-/// A seat is BUSY just where it has a user, and a thread's own is one thread's at a time.
+/// A seat whose context isn't suspended is BUSY just where it has a user, and a thread's own is one thread's at a time.
 pub fn seats_say_whose_they_are()
     ensures { SeatsSayWhoseTheyAre }
+{}
+
+/// A ticket by which a context was suspended is taken at most once, at whatever seat: of the copies of a value at most one wins.
+pub fn copies_win_once()
+    ensures { CopiesWinOnce }
+{}
+
+/// The seat of a suspended context is BUSY, nobody uses it, and its ticket stays until somebody takes that.
+pub fn suspended_seats_are_kept()
+    ensures { SuspendedSeatsAreKept }
 {}
 
 /// Of the seats that aren't threads' own: where nobody is in a call of a queue, none is free while a thread waits; and while a task
