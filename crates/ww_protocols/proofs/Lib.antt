@@ -7,9 +7,11 @@ pub mod Ways
 pub mod Times
 pub mod Memory
 pub mod Data
+pub mod Behind
 pub mod HallSteps
 pub mod SharedData
 pub mod SharedDataRuns
+pub mod SharedBehind
 -- seats
 pub mod Sets
 pub mod Held

@@ -1,6 +1,6 @@
 //! What is written under a lock is read under it, whatever the lock is; and under a shared one, by its protocol.
-ghost use Rattle.ww_protocols.specs.Data.{AccessesDoNotRace, ReadsGetTheLastWrite};
-ghost use Rattle.ww_protocols.specs.SharedData.{SharedAccessesDoNotRace, MarksAreStoredInOrder, ReadersGetTheLastWrite, ReadsStayTheSame, SharedDataIsHandedOver, SharedDataNeedsEachLook};
+ghost use Rattle.ww_protocols.specs.Data.{AccessesDoNotRace, ReadsGetTheLastWrite, OnlyItsLockHandsOver};
+ghost use Rattle.ww_protocols.specs.SharedData.{SharedAccessesDoNotRace, MarksAreStoredInOrder, ReadersGetTheLastWrite, ReadsStayTheSame, SharedDataIsHandedOver, SharedDataNeedsEachLook, OnlyTheseHandOver};
 
 /// Where each access to a place is made by the owner of the place's lock, of any two one happens before the other.
 pub fn accesses_do_not_race()
@@ -10,6 +10,11 @@ pub fn accesses_do_not_race()
 /// There each read is of the last write, if memory gives each read a write that is visible to it.
 pub fn reads_get_the_last_write()
     ensures { ReadsGetTheLastWrite }
+{}
+
+/// What one wrote another may not see yet, if it hasn't taken the very lock that the first released after that.
+pub fn only_its_lock_hands_over()
+    ensures { OnlyItsLockHandsOver }
 {}
 
 /// By the protocol of shared locks, of a write and another access to its place one happens before the other.
@@ -40,4 +45,9 @@ pub fn shared_data_is_handed_over()
 /// Where any one look is left out a read may be of an older write, though everything else is kept.
 pub fn shared_data_needs_each_look()
     ensures { SharedDataNeedsEachLook }
+{}
+
+/// What one wrote another may not see yet, but where a mutex, a desk or a mark passed from a move of the one to a later move of the other.
+pub fn only_these_hand_over()
+    ensures { OnlyTheseHandOver }
 {}
