@@ -1,7 +1,8 @@
 -- What memory may show behind a lock that isn't the writer's, or no lock.
 use Rattle.std.proofs.Common.{◌≡◌, ◌≢◌, ◌⊎◌, ⊎_elim, inl, inr, ℕ, zero, suc, ◌<◌, refl, sym, ap, ◌∙◌, arith}
 use Rattle.ww_protocols.specs.Memory.{Access, writes, reads, none, WritesAt}
-use Rattle.ww_protocols.specs.Data.{LockAct, takes, releases, accesses, access_of, IsDoneBy, HappensBefore, in_order, handed, through, one_then_another, MayReadTheOld, OnlyItsLockHandsOver}
+use Rattle.ww_protocols.specs.Data.{LockAct, takes, releases, accesses, access_of, IsDoneBy, HappensBefore, in_order, handed, through}
+use Rattle.ww_protocols.specs.StaleReads.{one_then_another, MayReadTheOld, OnlyItsLockHandsOver}
 
 -- who does it
 abbrev pub side : ℕ → ℕ

@@ -2,7 +2,8 @@
 use Rattle.std.proofs.Common.{◌≡◌, ◌⊎◌, ⊎_elim, inl, inr, ℕ, zero, suc, ◌<◌, refl, sym, ap, ◌∙◌, subst, arith}
 use Rattle.ww_protocols.specs.Hall.{Layout, Move, sits, stands_up, visits, quits, locks, unlocks, finds_free, finds_free_again, clears_mark, finds_no_mark}
 use Rattle.ww_protocols.specs.Memory.{writes, WritesAt}
-use Rattle.ww_protocols.specs.SharedData.{HallAct, moves, access_in, IsDoneIn, HappensBeforeIn, in_order, of_mutex, of_desk, of_mark, through, HandsItOver, by_mutex, by_look, by_last_look, by_own_desk, by_its_desk, by_desk, by_mark, one_then_another_in, MayReadTheOldIn, OnlyTheseHandOver}
+use Rattle.ww_protocols.specs.SharedData.{HallAct, moves, access_in, IsDoneIn, HappensBeforeIn, in_order, of_mutex, of_desk, of_mark, through}
+use Rattle.ww_protocols.specs.StaleReads.{HandsItOver, by_mutex, by_look, by_last_look, by_own_desk, by_its_desk, by_desk, by_mark, one_then_another_in, MayReadTheOldIn, OnlyTheseHandOver}
 use Rattle.ww_protocols.proofs.Behind.{side}
 
 module _ (l : Layout) (this that : Move) where

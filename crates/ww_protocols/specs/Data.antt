@@ -1,6 +1,6 @@
 -- Data under a lock: each read is of the last write, whatever locks are, if one thread at most has each at a time.
-use Rattle.std.specs.Prelude.{ℕ, zero, suc, ◌≡◌, ◌≢◌, ◌<◌, ◌⊎◌, Option, Some}
-use Rattle.ww_protocols.specs.Memory.{Access, none, writes, reads, IsMadeBy, AccessesAt, ReadsWhatIsVisible, wrote}
+use Rattle.std.specs.Prelude.{ℕ, suc, ◌≡◌, ◌<◌, ◌⊎◌, Option, Some}
+use Rattle.ww_protocols.specs.Memory.{Access, none, reads, IsMadeBy, AccessesAt, ReadsWhatIsVisible, wrote}
 
 -- Thread t takes lock n, or releases it; or it makes an access, or something else is done.
 pub data LockAct : Type 0 where
@@ -44,25 +44,3 @@ ReadsGetTheLastWrite = (lock_of : ℕ → ℕ) (owner : ℕ → ℕ → Option �
     let access : ℕ → Access = λ i. access_of (act i) in
     (first : ℕ → ℕ) → ReadsWhatIsVisible (HappensBefore act) access first →
     (j t x value : ℕ) → access j ≡ reads t x value → value ≡ wrote first access j x
-
--- ---- memory promises no more than that
-
--- One thread writes and then does this; then another does that, and reads.
-abbrev pub one_then_another : LockAct → LockAct → ℕ → LockAct
-one_then_another this that zero = accesses (writes 0 0 7)
-one_then_another this that (suc zero) = this
-one_then_another this that (suc (suc zero)) = that
-one_then_another this that (suc (suc (suc zero))) = accesses (reads 1 0 0)
-one_then_another this that (suc (suc (suc (suc i)))) = accesses none
-
--- memory may let it read what was there before the write
-abbrev pub MayReadTheOld : LockAct → LockAct → Type 0
-MayReadTheOld this that = let act = one_then_another this that in ReadsWhatIsVisible (HappensBefore act) (λ i. access_of (act i)) (λ _. 0)
-
--- It may, but where the one releases the very lock that the other takes.
-pub record OnlyItsLockHandsOver : Type 0 where
-  pub same_lock : (n : ℕ) → ¬ MayReadTheOld (releases 0 n) (takes 1 n)
-  pub another_lock : (n m : ℕ) → n ≢ m → MayReadTheOld (releases 0 n) (takes 1 m)
-  pub both_take : (n m : ℕ) → MayReadTheOld (takes 0 n) (takes 1 m)
-  pub both_release : (n m : ℕ) → MayReadTheOld (releases 0 n) (releases 1 m)
-  pub turned_round : (n m : ℕ) → MayReadTheOld (takes 0 n) (releases 1 m)

@@ -7,6 +7,7 @@ pub mod Ways
 pub mod Memory
 pub mod Data
 pub mod SharedData
+pub mod StaleReads
 -- seats
 pub mod Seat
 pub mod Class

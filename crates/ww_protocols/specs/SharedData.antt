@@ -1,5 +1,5 @@
 -- Data under a shared lock: each read is of the last write, and stays so while it is read.
-use Rattle.std.specs.Prelude.{ℕ, zero, suc, ◌≡◌, ◌≢◌, ◌<◌, ◌≤◌, ◌⊎◌}
+use Rattle.std.specs.Prelude.{ℕ, suc, ◌≡◌, ◌≢◌, ◌<◌, ◌≤◌, ◌⊎◌}
 use Rattle.ww_protocols.specs.Hall.{Layout, Hall, Move, sits, stands_up, visits, quits, locks, unlocks, sets_mark, finds_free, finds_free_again, clears_mark, finds_no_mark, MayMove, hall_after, IsReachedHall}
 use Rattle.ww_protocols.specs.Readers.{IsReading, IsWriting, Omission, IsReachedWithout}
 use Rattle.ww_protocols.specs.Memory.{Access, writes, reads, none, IsMadeBy, AccessesAt, ReadsWhatIsVisible, wrote}
@@ -142,32 +142,3 @@ pub record HasStaleSharedRead (look : Omission) : Type 0 where
 
 abbrev pub SharedDataNeedsEachLook : Type 0
 SharedDataNeedsEachLook = (look : Omission) → HasStaleSharedRead look
-
--- ---- memory promises no more than that
-
--- By which move context c hands over what it wrote, and by which later one another context, e, takes that over.
-pub data HandsItOver (l : Layout) (c e : ℕ) : Move → Move → Type 0 where
-  by_mutex : (m : ℕ) → HandsItOver l c e (unlocks m) (locks m)
-  by_look : (m : ℕ) → HandsItOver l c e (unlocks m) (finds_free m)
-  by_last_look : (m : ℕ) → HandsItOver l c e (unlocks m) (finds_free_again m)
-  by_own_desk : HandsItOver l c e stands_up (visits c)
-  by_its_desk : HandsItOver l c e (quits e) sits
-  by_desk : (d : ℕ) → HandsItOver l c e (quits d) (visits d)
-  by_mark : (d m : ℕ) → HandsItOver l c e (clears_mark d (l.mark m)) (finds_no_mark m d)
-
--- One context writes and then makes this move; then another makes that, and reads.
-abbrev pub one_then_another_in : Move → Move → ℕ → HallAct
-one_then_another_in this that zero = accesses (writes 0 0 7)
-one_then_another_in this that (suc zero) = moves 0 this
-one_then_another_in this that (suc (suc zero)) = moves 1 that
-one_then_another_in this that (suc (suc (suc zero))) = accesses (reads 1 0 0)
-one_then_another_in this that (suc (suc (suc (suc i)))) = accesses none
-
--- memory may let it read what was there before the write
-abbrev pub MayReadTheOldIn : Layout → Move → Move → Type 0
-MayReadTheOldIn l this that = ReadsOfARun l (one_then_another_in this that) (λ _. 0)
-
--- It may just where the one move doesn't hand over to the other.
-abbrev pub OnlyTheseHandOver : Type 0
-OnlyTheseHandOver = (l : Layout) (this that : Move) →
-    (HandsItOver l 0 1 this that → ¬ MayReadTheOldIn l this that) × ((¬ HandsItOver l 0 1 this that) → MayReadTheOldIn l this that)

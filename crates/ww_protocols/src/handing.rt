@@ -1,6 +1,7 @@
 //! What is written under a lock is read under it, whatever the lock is; and under a shared one, by its protocol.
-ghost use Rattle.ww_protocols.specs.Data.{AccessesDoNotRace, ReadsGetTheLastWrite, OnlyItsLockHandsOver};
-ghost use Rattle.ww_protocols.specs.SharedData.{SharedAccessesDoNotRace, MarksAreStoredInOrder, ReadersGetTheLastWrite, ReadsStayTheSame, SharedDataIsHandedOver, SharedDataNeedsEachLook, OnlyTheseHandOver};
+ghost use Rattle.ww_protocols.specs.Data.{AccessesDoNotRace, ReadsGetTheLastWrite};
+ghost use Rattle.ww_protocols.specs.SharedData.{SharedAccessesDoNotRace, MarksAreStoredInOrder, ReadersGetTheLastWrite, ReadsStayTheSame, SharedDataIsHandedOver, SharedDataNeedsEachLook};
+ghost use Rattle.ww_protocols.specs.StaleReads.{OnlyItsLockHandsOver, OnlyTheseHandOver};
 
 /// Where each access to a place is made by the owner of the place's lock, of any two one happens before the other.
 pub fn accesses_do_not_race()
