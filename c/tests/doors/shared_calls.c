@@ -1290,6 +1290,18 @@ static void all_of_a_class_are_read(uint32_t count)
 	MUST(!ww_class_free(&whole));
 }
 
+/* What a context has read stays so, however often it read: here a read that fails comes behind the last one. */
+static void reads_are_more_than_32_bits_count(void)
+{
+	begin_both();
+	MUST(!reads(&m, &x) && !writes(&n, &y));
+	x.own->slot->reads = UINT32_MAX;
+	MUST(!reads(&m, &x) && ww_shared_mutex_lock_shared_until(&n, &x, &past) == -ETIMEDOUT && !ww_shared_mutex_trylock(&m, &y));
+	ww_acquire_end_reads(&x);
+	unlocks(&n, &y);
+	end_both();
+}
+
 static void of(struct ww_class *class)
 {
 	c = class;
@@ -1313,6 +1325,7 @@ static void of(struct ww_class *class)
 	whoever_was_not_told_awaits_nothing();
 	others_are_not_read();
 	numbers_stay_while_read();
+	reads_are_more_than_32_bits_count();
 	if (!c->is_wait_die) {
 		who_has_it_waits_for_its_readers();
 		mutexes_stay_while_tasks_come_to_read();
