@@ -29,7 +29,7 @@ fn is_free<C: Class, T>(mutex: &SharedMutex<C, T>) -> bool {
 #[test]
 #[cfg_attr(feature = "debug-library", ignore = "that makes up Deadlocks")]
 fn readers_and_a_writer() {
-    class!(struct Boxes: WoundWait; struct Others: WaitDie);
+    class!(struct Boxes: WoundWait, contexts = 4; struct Others: WaitDie, contexts = 4);
     static ONE: SharedMutex<Boxes, u64> = SharedMutex::new(7);
     static OTHER: SharedMutex<Others, u64> = SharedMutex::new(7);
     writes_after_readers(&ONE);
@@ -127,7 +127,7 @@ fn a_downgrade_amid_a_wait() {
 #[test]
 #[cfg_attr(feature = "debug-library", ignore = "that makes up Deadlocks")]
 fn a_reader_waits_for_a_writer() {
-    class!(struct Boxes: WoundWait);
+    class!(struct Boxes: WoundWait, contexts = 4);
     static ONE: SharedMutex<Boxes, u64> = SharedMutex::new(7);
     let flag = Arc::new(Flag::default());
     let (mut older, mut younger) = (Context::<Boxes>::new(), Context::<Boxes>::new());
@@ -290,7 +290,7 @@ fn what_came_first_may_be_what_is_read() {
 #[test]
 #[cfg_attr(feature = "debug-library", ignore = "that makes up Deadlocks")]
 fn a_dropped_read_leaves_its_mutex() {
-    class!(struct Boxes: WoundWait);
+    class!(struct Boxes: WoundWait, contexts = 4);
     static ONE: SharedMutex<Boxes, u64> = SharedMutex::new(7);
     static OTHER: SharedMutex<Boxes, u64> = SharedMutex::new(7);
     let flag = Arc::new(Flag::default());
