@@ -327,7 +327,7 @@ static uint64_t turn_of(const struct ww_pool *p, uint64_t now, uint64_t place)
 static void wait_for_permit(struct ww_pool *p, uint64_t now, uint64_t until, bool heeds)
 {
 	struct ww_crowd *crowd = &p->crowd;
-	struct ww_turn me = { 0 }, **at = &crowd->first;
+	struct ww_turn me = { .link = crowd->end };
 	uint64_t before = crowd->sought;
 
 	*crowd->end = &me;
@@ -348,11 +348,8 @@ static void wait_for_permit(struct ww_pool *p, uint64_t now, uint64_t until, boo
 		pthread_mutex_lock(&p->queue);
 		now = ww_now();
 	} while (is_crowded(p) && now < until && !take_permit(p, now));
-	while (*at != &me)
-		at = &(*at)->next;
-	*at = me.next;
-	if (crowd->end == &me.next)
-		crowd->end = at;
+	*me.link = me.next;
+	*(me.next ? &me.next->link : &crowd->end) = me.link;
 	call_one(p, now);
 }
 

@@ -50,7 +50,7 @@ struct ww_permit {
 };
 /* A thread that waits for a permit. */
 struct ww_turn {
-	struct ww_turn *next;
+	struct ww_turn *next, **link; /* the next waiter, and the pointer that points to this one */
 	uint32_t is_called; /* whether the thread was called since it last fell asleep: the futex word on which it sleeps */
 };
 struct ww_crowd {

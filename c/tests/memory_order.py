@@ -507,6 +507,7 @@ PLAIN = {
     "it->is_called": "queue: ",
     "me->is_called": "queue: ",
     "me->next": "queue: ",
+    "me->link": "queue: ",
     "crowd->since": "queue: ",
     "crowd->sought": "queue: ",
     "crowd->held": "queue: ",

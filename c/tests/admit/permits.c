@@ -146,7 +146,7 @@ static void come(uint32_t many)
 	crowd->sought += many;
 	crowd->waiting += many;
 	for (; many; many--, last_of_others++) {
-		*last_of_others = (struct ww_turn){ 0 };
+		*last_of_others = (struct ww_turn){ .link = crowd->end };
 		*crowd->end = last_of_others;
 		crowd->end = &last_of_others->next;
 	}
@@ -154,16 +154,14 @@ static void come(uint32_t many)
 static void go(uint32_t many)
 {
 	struct ww_crowd *crowd = &c.pool->crowd;
-	struct ww_turn **at = &crowd->first, *last = last_of_others - 1;
+	struct ww_turn *first = last_of_others - many, *last = last_of_others - 1;
 
 	crowd->waiting -= many;
 	last_of_others -= many;
-	while (many && *at != last_of_others)
-		at = &(*at)->next;
-	if (many && crowd->end == &last->next)
-		crowd->end = at;
-	if (many)
-		*at = last->next;
+	if (many) {
+		*first->link = last->next;
+		*(last->next ? &last->next->link : &crowd->end) = first->link;
+	}
 }
 
 /* This thread's lease is over. */
@@ -597,6 +595,7 @@ static void the_next_one(void)
 	asleep = two_are_over;
 	called = 0;
 	MUST(sleeps() == 1 && has(0) && called == 1);
+	MUST(c.pool->crowd.first == others && others->link == &c.pool->crowd.first);
 	go(1);
 	MUST(!ww_class_free(&c));
 }
