@@ -10,11 +10,24 @@
  *
  * So of the copies of a value at most one finds its ticket, which crates/ww_protocols proves of such steps in any order, by the names
  * in brackets. The store of T releases what the former user wrote in the seat.
+ *
+ * A poll that resumes a context takes the ticket first, and then waits by the context. So nothing in the seat names the value, which
+ * may move meanwhile; `seat_` of the seek says that this poll waits.
+ *
+ *	the context	ticket	the value	what comes next
+ *	suspended	T	T		waits: a poll takes the ticket; goes on: there is nothing to wait for
+ *	waits		0	zeros		goes on: the mutex is free, or ww_acquire_end_wait, which gives up the wait, but not the age;
+ *						suspended, with another ticket: a cancel, or a poll without a waker;
+ *						ended: ww_acquire_end
+ *	goes on		0	zeros		any call
+ *
+ * While the context waits, it counts among the suspended ones, so that it can be suspended again, and as a waiter of the mutex.
  */
 #define _GNU_SOURCE
 #define WW_NO_INLINE /* ww_mutex.h compiles none of its calls into this file */
 #include "../lock/loop.h"
 #include "../lock/mutex.h"
+#include "poll.h"
 #include "ww_retry.h"
 
 /* ---- tickets ---- */
@@ -132,6 +145,8 @@ int ww_acquire_suspend(struct ww_acquire_ctx *x, struct ww_retry *retry)
 
 /* ---- resuming ---- */
 
+static void stop_counting(struct ww_mutex *m) { __atomic_fetch_sub(&m->waiters, 1, __ATOMIC_SEQ_CST); }
+
 /*
  * The mutex at which the context got -EDEADLK, found by its number alone, which counts the caller as a waiter from now on; NULL if
  * the mutex is gone. A thread that destroys the mutex holds the same lock (ww_end_mutex). The memory of a mutex by number stays.
@@ -147,7 +162,7 @@ static struct ww_mutex *count_at_contended(const ww_seat *s, uint32_t number)
 		__atomic_fetch_add(&m->waiters, 1, __ATOMIC_SEQ_CST);
 	pthread_mutex_unlock(&n->lock);
 	if (m && ww_is_gone(s->pool, m, s->puts)) {
-		__atomic_fetch_sub(&m->waiters, 1, __ATOMIC_SEQ_CST);
+		stop_counting(m);
 		m = NULL;
 	}
 	return m;
@@ -171,33 +186,87 @@ static int await_told(struct ww_acquire_ctx *x, uint32_t number, const struct ti
 		r = 0;
 	}
 	if (m)
-		__atomic_fetch_sub(&m->waiters, 1, __ATOMIC_SEQ_CST);
+		stop_counting(m);
+	return r;
+}
+
+/* Takes the context that the value names; or returns -EINVAL, and leaves a context that has ended. */
+static int take(struct ww_acquire_ctx *x, struct ww_class *c, const struct ww_retry *retry, const struct timespec *until)
+{
+	struct ww_pool *p = __atomic_load_n(&c->pool, __ATOMIC_ACQUIRE);
+	ww_seat *s;
+
+	of_this_copy_alone(p);
+	s = is_time(until) && p && !p->gone ? take_ticket(p, retry) : NULL;
+	if (!s) {
+		NOTE_MISUSE(c, "ww_acquire_resume", is_time(until) ? used_before : "the time is none");
+		return ww_begin_by(x, NULL, -EINVAL);
+	}
+	of_seat(x, p, s);
+	NOTE(CONTEXT_RESUMED, .context = x);
+	return 0;
+}
+
+/* Ends a resume whose wait returned r. */
+static int resumed(struct ww_acquire_ctx *x, struct ww_retry *retry, uint32_t awaits, int r)
+{
+	if (r) {
+		leave(x, retry, awaits);
+	} else {
+		count_out(x->own);
+		*retry = (struct ww_retry){ 0 };
+	}
 	return r;
 }
 
 int ww_acquire_resume(struct ww_acquire_ctx *x, struct ww_class *c, struct ww_retry *retry, const struct timespec *until)
 {
-	struct ww_pool *p = __atomic_load_n(&NEEDED(c)->pool, __ATOMIC_ACQUIRE);
 	uint32_t awaits = NEEDED(retry)->awaits_;
-	ww_seat *s;
-	int r;
 
 	if (!retry->ticket_)
-		return ww_acquire_init_until(NEEDED(x), c, until);
-	of_this_copy_alone(p);
-	s = is_time(until) && p && !p->gone ? take_ticket(p, retry) : NULL;
-	if (!s) {
-		NOTE_MISUSE(c, "ww_acquire_resume", is_time(until) ? used_before : "the time is none");
-		return ww_begin_by(NEEDED(x), NULL, -EINVAL);
-	}
-	of_seat(NEEDED(x), p, s);
-	NOTE(CONTEXT_RESUMED, .context = x);
-	r = awaits ? await_told(x, awaits - 1, until) : 0;
-	if (r) {
-		leave(x, retry, awaits);
-		return r;
-	}
+		return ww_acquire_init_until(NEEDED(x), NEEDED(c), until);
+	return take(NEEDED(x), NEEDED(c), retry, until) ? -EINVAL : resumed(x, retry, awaits, awaits ? await_told(x, awaits - 1, until) : 0);
+}
+
+/* ---- resuming by polls ---- */
+
+static void stop_resuming(struct ww_poller *it, ww_seat *s)
+{
+	(void)it;
+	stop_counting(s->asked);
 	count_out(s);
+}
+
+static struct ww_poller resumes = { stop_resuming };
+
+/* Before the wait begins, value and seek are as after -EINPROGRESS, since another thread may go on with the context by then. */
+int ww_acquire_resume_poll(struct ww_acquire_ctx *x, struct ww_class *c, struct ww_retry *retry, struct ww_seek *seek,
+			   const struct ww_waker *waker)
+{
+	bool waits = seek && seek->seat_ && !seek->of_ && x->own == seek->seat_ && is_polled(x) && x->own->poller == &resumes;
+	struct ww_mutex *m = waits ? x->own->asked : NULL;
+	uint32_t awaits = m ? m->number + 1 : NEEDED(retry)->awaits_;
+	int r;
+
+	if (!waits && !retry->ticket_)
+		return ww_acquire_init_poll(NEEDED(x), NEEDED(c), seek, waker);
+	if (!waits && take(NEEDED(x), NEEDED(c), retry, NULL))
+		return -EINVAL;
+	if (!waits && awaits)
+		m = count_at_contended(x->own, awaits - 1);
+	if (!m)
+		return resumed(x, retry, awaits, 0);
 	*retry = (struct ww_retry){ 0 };
-	return 0;
+	if (seek)
+		*seek = (struct ww_seek){ .seat_ = x->own };
+	r = ww_may_poll("ww_acquire_resume_poll", m, x, TO_AWAIT, &resumes);
+	r = r ? r : ww_poll_on(m, x, (struct ww_how){ .visits = true, .waker = seek ? waker : NULL });
+	if (r == -EINPROGRESS)
+		return r;
+	if (seek)
+		*seek = (struct ww_seek){ 0 };
+	if (!r)
+		(void)unlock_by(m, x->own);
+	stop_counting(m);
+	return resumed(x, retry, awaits, r);
 }

@@ -20,7 +20,7 @@
  */
 #ifndef WW_RETRY_H
 #define WW_RETRY_H
-#include "ww_mutex.h"
+#include "ww_poll.h"
 
 #ifdef __cplusplus
 extern "C" {
@@ -50,6 +50,14 @@ WW_MUST_CHECK int ww_acquire_suspend(struct ww_acquire_ctx *ctx, struct ww_retry
  */
 WW_MUST_CHECK int ww_acquire_resume(struct ww_acquire_ctx *ctx, struct ww_class *ww_class, struct ww_retry *retry,
 				    const struct timespec *monotonic) WW_NONNULL_(1, 2, 3);
+/*
+ * As ww_acquire_resume, by a poll of ww_poll.h. Zeros begin a context as ww_acquire_init_poll does. Without a waker, or without a seek,
+ * it doesn't wait, or ends its wait. After -EINPROGRESS the value is zeros: the context goes on in `ctx`, where it waits.
+ * ww_acquire_end_wait gives up that wait, and the context may lock anything, or be suspended again; ww_acquire_end ends the context.
+ * -EINTR, or -ETIMEDOUT without a waker: the value names what is suspended, as after any error.
+ */
+WW_MUST_CHECK int ww_acquire_resume_poll(struct ww_acquire_ctx *ctx, struct ww_class *ww_class, struct ww_retry *retry,
+					 struct ww_seek *seek, const struct ww_waker *waker) WW_NONNULL_(1, 2, 3);
 /* The next resume doesn't wait for the contended mutex: for tasks, and for callers that waited in vain and lock other mutexes first. */
 static inline __attribute__((unused)) void ww_retry_at_once(struct ww_retry *retry) { retry->awaits_ = 0; }
 /* Ends the suspended context; zeros name none. -EINVAL: a copy was resumed or dropped. */
@@ -58,6 +66,7 @@ int ww_retry_drop(struct ww_retry *retry) WW_NONNULL_(1);
 #if defined(WW_DEBUG) && !defined(WW_CLASS_H)
 #define ww_acquire_suspend(...) (WW_HERE_, ww_acquire_suspend(__VA_ARGS__))
 #define ww_acquire_resume(...) (WW_HERE_, ww_acquire_resume(__VA_ARGS__))
+#define ww_acquire_resume_poll(...) (WW_HERE_, ww_acquire_resume_poll(__VA_ARGS__))
 #define ww_retry_drop(...) (WW_HERE_, ww_retry_drop(__VA_ARGS__))
 #endif
 

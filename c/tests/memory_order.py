@@ -314,7 +314,7 @@ TABLE = {
         "has_user": "load sc", "ww_has_users": "load sc", "ww_shared_mutex_is_locked": "load sc", "count_waiter": "fetch_add sc, fetch_add sc",
         "lock_by_any": "fetch_add sc, fetch_sub sc", "put_number": "load sc, fetch_and sc", "ww_is_gone": "load sc",
         "wait_first": "fetch_add sc, fetch_sub sc", # as who waits: see ww_is_gone
-        "count_at_contended": "fetch_add sc, fetch_sub sc", "await_told": "fetch_sub sc", # likewise
+        "count_at_contended": "fetch_add sc", "stop_counting": "fetch_sub sc", # likewise
         "ww_number_take": "store rlx, fetch_add rel",
         "is_slot": "load rlx", # which it always is
         "is_of_number": "load rlx", # likewise
@@ -344,7 +344,7 @@ TABLE = {
         "ww_class_stats": "load acq", "show_class": "load acq",
         "ww_class_free": "load acq, store rel", "is_open": "load rlx", "ww_acquire_init": "load acq", "begin_by_any": "load acq", "ww_acquire_init_poll": "load acq", "ww_mutex_lock": "load acq",
         "ww_mutex_trylock": "load acq", "ww_end_mutex": "store rel", "ww_number_take": "store rel",
-        "ww_acquire_resume": "load acq",
+        "take": "load acq",
         "is_made": "load sc", "ww_make_seat": "store sc", # of a seat: who cancels the class says so before it looks, and who waits looks behind this
     },
     # The proved library's, of which a lock's owner sees at least what it wrote there itself. A reader looks as that library does.

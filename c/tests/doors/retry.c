@@ -136,6 +136,81 @@ static void waits_first(void)
 	ww_acquire_fini(&old);
 }
 
+static void counts(void *loop, void *task)
+{
+	MUST(!loop);
+	++*(unsigned *)task;
+}
+
+/* A context of which nobody waits or is counted any more, but by what is suspended. */
+static void leaves_nothing(const struct ww_acquire_ctx *x, uint32_t suspended)
+{
+	MUST(!(b.waiters & 0xffffff) && c.pool->suspended == suspended && (!x->own || !x->acquired));
+}
+
+/* By polls it waits without a thread. What ends the wait leaves the value, or the context, and always the age. */
+static void resumes_by_polls(void)
+{
+	static struct ww_class other_class = { .name = "other" };
+	unsigned woken = 0;
+	const struct ww_waker waker = { counts, NULL, &woken };
+	struct ww_acquire_ctx old, young, other;
+	struct ww_retry retry = none, copy;
+	struct ww_seek seek = { 0 }, another = { 0 };
+
+	MUST(!ww_acquire_resume_poll(&other, &c, &retry, &seek, &waker)); /* zeros */
+	MUST(!ww_acquire_suspend(&other, &retry) && (copy = retry, true)); /* nothing to wait for */
+	MUST(ww_acquire_resume_poll(&other, &other_class, &retry, &seek, &waker) == -EINVAL && !other.own && retry.ticket_);
+	MUST(!ww_acquire_resume_poll(&other, &c, &retry, NULL, NULL) && !memcmp(&retry, &none, sizeof none));
+	MUST(ww_acquire_resume_poll(&young, &c, &copy, &seek, &waker) == -EINVAL && !young.own);
+	leaves_nothing(&other, 0);
+	ww_acquire_fini(&other);
+
+	ww_acquire_init(&old, &c);
+	ww_acquire_init(&young, &c);
+	is_told(&young, &old, &b);
+	ww_mutex_unlock(&a);
+	MUST(!ww_acquire_suspend(&young, &retry) && (copy = retry, true));
+	MUST(ww_acquire_resume_poll(&young, &c, &retry, &seek, &waker) == -EINPROGRESS && !memcmp(&retry, &none, sizeof none));
+	MUST(ww_acquire_resume_poll(&other, &c, &copy, &another, &waker) == -EINVAL && ww_acquire_resume(&other, &c, &copy, NULL) == -EINVAL);
+	MUST(ww_retry_drop(&copy) == -EINVAL && !ww_retry_drop(&retry) && ww_mutex_destroy(&b) == -EBUSY && ww_class_free(&c) == -EBUSY);
+	MUST(ww_mutex_lock_poll(&a, &young, &waker) == -EBUSY && ww_mutex_lock_poll(&b, &young, &waker) == -EBUSY);
+	MUST(ww_shared_mutex_await_poll(&young, &waker) == -EBUSY && ww_acquire_suspend(&young, &copy) == -EBUSY && !woken);
+	MUST(ww_acquire_resume_poll(&young, &c, &retry, &seek, &waker) == -EINPROGRESS && ww_poll_take_back(&young, &seek));
+	MUST(ww_acquire_resume_poll(&young, &c, &retry, &seek, &waker) == -EINPROGRESS && !woken);
+	/* without a waker it ends the wait, and the value names the context */
+	MUST(ww_acquire_resume_poll(&young, &c, &retry, &seek, NULL) == -ETIMEDOUT && !young.own && retry.ticket_ && !seek.seat_);
+	leaves_nothing(&young, 1);
+	MUST(ww_acquire_resume_poll(&young, &c, &retry, NULL, &waker) == -ETIMEDOUT && ww_acquire_resume_poll(&young, &c, &retry, NULL, NULL) == -ETIMEDOUT);
+	/* a cancel, too */
+	woken = 0;
+	MUST(ww_acquire_resume_poll(&young, &c, &retry, &seek, &waker) == -EINPROGRESS && !ww_acquire_cancel(&young) && woken == 1);
+	MUST(ww_acquire_resume_poll(&young, &c, &retry, &seek, &waker) == -EINTR && !young.own && retry.ticket_);
+	leaves_nothing(&young, 1);
+	/* by another call the context goes on */
+	MUST(ww_acquire_resume_poll(&young, &c, &retry, &seek, &waker) == -EINPROGRESS && !ww_acquire_end_wait(&young) && !ww_mutex_lock(&a, &young));
+	ww_mutex_unlock(&a);
+	leaves_nothing(&young, 0);
+	MUST(!ww_acquire_suspend(&young, &retry) && !ww_acquire_resume_poll(&young, &c, &retry, &seek, &waker) && ww_mutex_is_locked(&b));
+	ww_mutex_unlock(&b);
+	/* it waits until the mutex is free, and keeps its age: it is younger than the one that has the mutex still */
+	is_told(&young, &old, &b);
+	ww_mutex_unlock(&a);
+	woken = 0;
+	MUST(!ww_acquire_suspend(&young, &retry) && ww_acquire_resume_poll(&young, &c, &retry, &seek, &waker) == -EINPROGRESS);
+	ww_mutex_unlock(&b);
+	MUST(woken == 1 && !ww_acquire_resume_poll(&young, &c, &retry, &seek, &waker) && !ww_mutex_is_locked(&b));
+	leaves_nothing(&young, 0);
+	/* it ends amid the wait */
+	is_told(&young, &old, &b);
+	ww_mutex_unlock(&a);
+	MUST(!ww_acquire_suspend(&young, &retry) && ww_acquire_resume_poll(&young, &c, &retry, &seek, &waker) == -EINPROGRESS);
+	MUST(!ww_acquire_end(&young) && !young.own && in_use() == 1 && !ww_retry_drop(&retry));
+	leaves_nothing(&young, 0);
+	ww_mutex_unlock(&b);
+	ww_acquire_fini(&old);
+}
+
 /* The contended mutex is gone, and another one has its number, by which nobody waits. */
 static void is_gone(bool by_number, bool in_same_place)
 {
@@ -162,7 +237,8 @@ static void is_gone(bool by_number, bool in_same_place)
 			MUST(!ww_mutex_destroy(next) && (number = next->number, true));
 	MUST(!ww_mutex_lock(next, &other));
 	soon = in_ms(10000);
-	MUST(!ww_acquire_resume(&young, &c, &retry, &soon) && !(next->waiters & 0xffff));
+	MUST(by_number ? !ww_acquire_resume_poll(&young, &c, &retry, NULL, NULL) : !ww_acquire_resume(&young, &c, &retry, &soon));
+	MUST(!(next->waiters & 0xffff));
 	MUST(by_number ? !ww_number_unlock(number, &other) && !ww_number_put(number, &c) : (ww_mutex_unlock(next), !ww_mutex_destroy(next)));
 	ww_acquire_fini(&other);
 	ww_acquire_fini(&young);
@@ -378,6 +454,7 @@ static void of_class(uint32_t contexts, bool is_wait_die)
 	if (!is_wait_die) {
 		keeps_its_age();
 		waits_first();
+		resumes_by_polls();
 		for (unsigned k = 0; k < 3; k++)
 			is_gone(k == 2, k);
 	}

@@ -22,8 +22,9 @@
  *	d	destroys m where nobody has it or waits for it, and makes it anew
  *	C	cancels the class: ends i( and what is i, by a poll too
  *	S	suspends the context	R	resumes that; X: drops it: of several that do so one does, and for the others all up to ) is left out
- *	r	the next lock backs off by a value, from which the context goes on; f: it gives up, and all up to ) is left out, but
- *		the context is suspended and resumed, between which 8 happens	Y	destroys m and makes it anew, twice: the second time at once
+ *	r	the next lock backs off by a value, from which the context goes on, by polls if the lock is; rr: and ends that wait; f: it gives
+ *		up, and all up to ) is left out, but the context is suspended and resumed, between which 8 happens
+ *	Y	destroys m and makes it anew, twice: the second time at once
  *	c	cancels; k: or that has ended, or hasn't begun	1-9	something has happened	~1	waits for that, which orders	_1	which doesn't	=1	it has
  *	s w	waits until somebody waits for a context or a permit, unless 4 has happened; until somebody waits for m
  *	e E	the lease of the thread's permit is over; at the next look the crowd is of no use
@@ -609,9 +610,31 @@ static void suspend(struct user *u, struct ww_retry *retry)
 	leave(u->x->own);
 	MUST(!ww_acquire_suspend(u->x, retry));
 }
-static bool resume(struct user *u, struct ww_retry retry)
+/* Where it ends the wait, the context goes on all the same. */
+static int resume_by_polls(struct user *u, struct ww_retry *retry, bool ends)
 {
-	int r = ww_acquire_resume(u->x, &c, &retry, NULL);
+	struct ww_seek seek = { 0 };
+
+	for (;;) {
+		struct polled *it = &polled[il_me()][polls[il_me()]++];
+		int r;
+
+		MUST(polls[il_me()] <= POLLS);
+		it->due = ONE;
+		r = ww_acquire_resume_poll(u->x, &c, retry, &seek, &(struct ww_waker){ is_called, NULL, it });
+		if (r != -EINPROGRESS)
+			it->due = NOT_AT_ALL;
+		if (r == -EINPROGRESS && !ends)
+			il_await(&it->calls);
+		else if (r != -EINPROGRESS)
+			return r;
+		else
+			return take_back(u, 0, it), ww_acquire_end_wait(u->x);
+	}
+}
+static bool resume(struct user *u, struct ww_retry retry, const char *how)
+{
+	int r = strchr(how, 'y') ? resume_by_polls(u, &retry, strstr(how, "rr")) : ww_acquire_resume(u->x, &c, &retry, NULL);
 
 	MUST(!r || r == -EINVAL);
 	counts_refused(r);
@@ -625,9 +648,9 @@ static void suspends(struct user *u)
 	label_of_value = u->label;
 	suspend(u, &value);
 }
-static bool resumes(struct user *u)
+static bool resumes(struct user *u, const char *how)
 {
-	bool is = resume(u, value);
+	bool is = resume(u, value, how);
 
 	if (is)
 		u->label = label_of_value;
@@ -653,7 +676,7 @@ static void end_context(struct user *u)
 	u->x = &u->own[u->x == &u->own[1]];
 }
 
-static void give_up(struct user *u)
+static void give_up(struct user *u, const char *how)
 {
 	struct ww_retry mine = { 0 };
 
@@ -662,13 +685,14 @@ static void give_up(struct user *u)
 			unlock(u, k);
 	suspend(u, &mine);
 	il_set(&happened[8]);
-	MUST(resume(u, mine));
+	MUST(resume(u, mine, how));
 	end_context(u);
 }
 
 /* All that it held by its context it holds again, and this one. */
-static void back_off(struct user *u, unsigned slow, bool by_value)
+static void back_off(struct user *u, unsigned slow, const char *how)
 {
+	bool by_value = strchr(how, 'r');
 	struct ww_retry mine = { 0 };
 	bool again[3];
 	int r = -EDEADLK;
@@ -681,7 +705,7 @@ static void back_off(struct user *u, unsigned slow, bool by_value)
 
 		if (by_value) {
 			suspend(u, &mine);
-			MUST(resume(u, mine));
+			MUST(resume(u, mine, how));
 			mine = (struct ww_retry){ 0 };
 		}
 		if (numbered || by_value)
@@ -741,11 +765,11 @@ static int lock(struct user *u, char letter, const char *how)
 	if (strchr(how, 'g') && r && !tries)
 		asks_why(u);
 	if (r == -EDEADLK && strchr(how, 'f')) {
-		give_up(u);
+		give_up(u, how);
 		return r;
 	}
 	if (r == -EDEADLK) {
-		back_off(u, k, strchr(how, 'r'));
+		back_off(u, k, how);
 		return 0;
 	}
 	MUST(!r || tries || (r == -ETIMEDOUT && (ends || strpbrk(how, "xj"))) || (r == -EINTR && strchr(how, 'i')) ||
@@ -1008,7 +1032,7 @@ void il_thread(const char *at)
 		else if (strchr("abm", *at))
 			at = lock(&u, *at, how) ? past(at, strpbrk(how, "hf") ? ')' : (char)toupper(*at)) : at;
 		else if (*at == 'R')
-			at = resumes(&u) ? at : past(at, ')');
+			at = resumes(&u, how) ? at : past(at, ')');
 		else if (*at == 'H')
 			at = goes_on(&u) ? at : past(at, ')');
 		else if (strchr("ABM", *at))
@@ -1096,6 +1120,12 @@ const struct il_program il_programs[] = {
 	{ "suspend-slow-die", { "(arbAB)", "(braBA)" }, CONTEXTS(4) | WAIT_DIE, WHOLE },
 	{ "suspend-number", { "(arbAB)", "(braBA)" }, CONTEXTS(4) | NUMBERED, WHOLE },
 	{ "suspend-gone", { "(m1~2aAM3)", "~1(a2fmMA)", "~3_8Y" }, CONTEXTS(4), 2 },
+	{ "suspend-poll", { "(arybAB)", "(bryaBA)" }, CONTEXTS(4), 2 },
+	{ "suspend-poll-die", { "(arybAB)", "(bryaBA)" }, CONTEXTS(4) | WAIT_DIE, 2 },
+	{ "suspend-poll-number", { "(arybAB)", "(braBA)" }, CONTEXTS(4) | NUMBERED, 2 },
+	{ "suspend-poll-ends", { "(arrybAB)", "(bryaBA)" }, CONTEXTS(4), 2 },
+	{ "suspend-poll-gone", { "(m1~2aAM3)", "~1(a2fymMA)", "~3_8Y" }, CONTEXTS(4), 2 },
+	{ "suspend-poll-drop", { "(aAS1()", "~1yRaA)", "~1X" }, CONTEXTS(2), WHOLE },
 	{ "suspend-task", { "y(1sS2", "~3~2X", "~1y(3)" }, TASKS | NARROW, 2 },
 	{ "own", { "()()", "()()" }, CONTEXTS(1) | OWN, WHOLE_INSIDE },
 	{ "own-2", { "()()", "()()", "()" }, CONTEXTS(1) | OWN, 2 },
