@@ -917,19 +917,21 @@ fn a_transaction_in_a_transaction() {
         })
     });
     assert!(poll(pending.as_mut(), &Arc::default()).is_pending());
-    // By a thread that was in none.
+    // By a thread that was in none. More may begin at a time meanwhile: then all that may are begun once more.
     let begin_all = || thread::spawn(|| contexts::<Boxes>(896)).join().unwrap();
-    let all = begin_all();
-    let waits = |more, runs| {
-        let most = Boxes::counts().task_contexts;
-        assert!(once(more, runs).is_pending() || Boxes::counts().task_contexts > most);
+    let mut all = begin_all();
+    let waits = |all: &mut Vec<_>, more, runs| {
+        let still_begins = || {
+            all.extend(begin_all());
+            once(more, runs).is_ready()
+        };
+        assert!(std::iter::repeat_with(still_begins).take(896).any(|begins| !begins));
     };
-    waits(0, false);
+    waits(&mut all, 0, false);
     drop(pending);
-    let last = begin_all();
-    waits(1, false);
-    waits(1, true);
-    drop((all, last));
+    waits(&mut all, 1, false);
+    waits(&mut all, 1, true);
+    drop(all);
     many();
 }
 
