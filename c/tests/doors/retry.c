@@ -468,9 +468,11 @@ static void of_class(uint32_t contexts, bool is_wait_die)
 	misuses();
 	forks();
 	ww_acquire_init(&x, &c);
-	MUST(!ww_acquire_suspend(&x, &retry) && (copy = retry, true) && !ww_acquire_resume(&x, &c, &retry, NULL));
+	MUST(!ww_acquire_suspend(&x, &retry) && !ww_mutex_destroy(&a) && !ww_mutex_destroy(&b) && ww_class_free(&c) == -EBUSY);
+	copy = retry;
+	MUST(!ww_acquire_resume(&x, &c, &retry, NULL));
 	ww_acquire_fini(&x);
-	MUST(!ww_mutex_destroy(&a) && !ww_mutex_destroy(&b) && !in_use() && !ww_class_free(&c));
+	MUST(!in_use() && !ww_class_free(&c));
 	MUST(ww_acquire_resume(&x, &c, &copy, NULL) == -EINVAL && ww_retry_drop(&copy) == -EINVAL);
 	MUST(!ww_class_open(&c) && ww_acquire_resume(&x, &c, &copy, NULL) == -EINVAL && !ww_class_free(&c));
 }
