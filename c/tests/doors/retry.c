@@ -321,6 +321,34 @@ static void leaves_no_age(void)
 	ww_acquire_fini(&last);
 }
 
+static void *begins(void *arg)
+{
+	ww_acquire_init(arg, &c);
+	return NULL;
+}
+
+/* Who is suspended before it locks anything has an age of its own, though its seat rests: so it is younger than what began before it. */
+static void draws_its_age(void)
+{
+	const struct ww_waker waker = { is_woken, NULL, &b };
+	struct ww_acquire_ctx x, between;
+	struct ww_retry retry = none;
+
+	ww_acquire_init(&x, &c);
+	ww_acquire_begin_tries(&x);
+	MUST(!ww_mutex_lock(&a, &x) && !ww_acquire_end_try(&x));
+	ww_acquire_fini(&x);
+	in_thread(begins, &between);
+	ww_acquire_init(&x, &c);
+	MUST(!ww_acquire_suspend(&x, &retry) && !ww_acquire_resume(&x, &c, &retry, NULL));
+	MUST(!ww_mutex_lock(&a, &between) && !ww_mutex_lock(&b, &x));
+	MUST(ww_mutex_lock_poll(&b, &between, &waker) == -EINPROGRESS && !ww_acquire_end_wait(&between));
+	ww_mutex_unlock(&a);
+	ww_mutex_unlock(&b);
+	ww_acquire_fini(&between);
+	ww_acquire_fini(&x);
+}
+
 /* Half may be suspended. Then others begin as before; and what is suspended in place of another value drops that. */
 static void has_a_bound(void)
 {
@@ -460,8 +488,10 @@ static void of_class(uint32_t contexts, bool is_wait_die)
 	}
 	outlives_threads();
 	shares_no_age();
-	if (is_wait_die)
+	if (is_wait_die) {
 		leaves_no_age();
+		draws_its_age();
+	}
 	has_a_bound();
 	if (!contexts)
 		is_not_admitted();

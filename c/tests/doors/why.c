@@ -197,6 +197,7 @@ int main(void)
 		ww_mutex_init(&m, &c);
 		ww_shared_mutex_init(&s, &c);
 		two_meet();
+	two_meet(); /* by the same seats, but of what others counted by these nothing counts */
 		if (!kind)
 			three_meet();
 		readers_meet();
