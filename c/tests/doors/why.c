@@ -104,6 +104,7 @@ static void two_meet(void)
 	ww_mutex_unlock(&a);
 	ww_mutex_unlock(&b);
 	MUST(!ww_acquire_why(&young, &why) && is(&why.at, &b, 0, WW_NOBODY) && !ww_acquire_cycle(&young, path, 4));
+	MUST(!ww_acquire_count(&old, &counts) && counts.waits == 1 && !counts.back_offs);
 	end_all();
 }
 
