@@ -149,6 +149,31 @@ static void readers_meet(void)
 
 static void is_woken(void *loop, void *task) { MUST(!loop && task); }
 
+static void *begins(void *arg)
+{
+	ww_acquire_init(arg, &c);
+	return NULL;
+}
+
+/* Who has a label has an age of its own, though its seat rests: in Wait-Die what began before it waits for it, and gets no -EDEADLK. */
+static void labelled_has_its_age(void)
+{
+	const struct ww_waker waker = { is_woken, NULL, &b };
+
+	ww_acquire_init(&old, &c);
+	ww_acquire_begin_tries(&old);
+	MUST(!ww_mutex_lock(&a, &old) && !ww_acquire_end_try(&old));
+	ww_acquire_fini(&old);
+	end_thread(begin_thread(begins, &third));
+	ww_acquire_init(&young, &c);
+	MUST(!ww_acquire_label(&young, YOUNG) && !ww_mutex_lock(&a, &third) && !ww_mutex_lock(&b, &young));
+	MUST(ww_mutex_lock_poll(&b, &third, &waker) == -EINPROGRESS && !ww_acquire_end_wait(&third));
+	ww_mutex_unlock(&a);
+	ww_mutex_unlock(&b);
+	ww_acquire_fini(&third);
+	ww_acquire_fini(&young);
+}
+
 /* A label ends with its context, and goes on with one that is suspended. */
 static void labels_end(void)
 {
@@ -203,6 +228,8 @@ int main(void)
 			three_meet();
 		readers_meet();
 		labels_end();
+		if (c.is_wait_die)
+			labelled_has_its_age();
 		MUST(!ww_mutex_destroy(&a) && !ww_mutex_destroy(&b) && !ww_mutex_destroy(&m) && !ww_shared_mutex_destroy(&s));
 		MUST(!ww_mutex_users(&a, NULL, 0) && !ww_class_free(&c));
 	}

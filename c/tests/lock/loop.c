@@ -352,6 +352,26 @@ static void *interrupts(void *arg)
 	return arg;
 }
 
+/* A list that backs off by itself, and then fails, leaves the loop with the back-off that it had to make before. */
+static void list_leaves_that_it_was_told(void)
+{
+	ww_acquire_init(&older, &wait_die);
+	MUST(!ww_mutex_lock(&taken, &older));
+	ww_acquire_init(&x, &wait_die);
+	comes_to(TOLD_BARE);
+	ww_acquire_flags(&x, WW_INTERRUPTIBLE);
+	MUST(!ww_acquire_cancel(&x) && ww_mutex_lock_all(&x, (struct ww_mutex *[]){ &held, &taken }, 2) == -EINTR);
+	MUST(state_of() == TOLD_BARE && x.contending_lock == &it && !held.ctx);
+	ww_acquire_flags(&x, 0);
+	ww_acquire_unlock_all(&x);
+	ww_mutex_unlock(&it);
+	ww_mutex_unlock(&taken);
+	MUST(!ww_mutex_lock(&it, &x) && it.ctx == &x);
+	ww_acquire_unlock_all(&x);
+	ww_acquire_fini(&x);
+	ww_acquire_fini(&older);
+}
+
 /* A list that fails while it owes a mutex leaves nothing of that. */
 static void list_owes_no_more(void)
 {
@@ -382,6 +402,7 @@ int main(void)
 	is_told_once();
 	asks_the_library();
 	owes_no_slot();
+	list_leaves_that_it_was_told();
 	list_owes_no_more();
 	for (unsigned k = 0; k < 5; k++)
 		MUST(!ww_mutex_destroy(all[k]));
