@@ -44,6 +44,7 @@
  *	quiet_until		crowd		who ends the crowd, under `queue`; others read it		crowd-ends
  *	permits quiet		crowd		who takes a permit or ends the crowd, under `queue`		crowd-waits-own
  *	since held waited	crowd		who begins the crowd or ends a lease, under `queue`		crowd
+ *	leased backed_off	crowd		who ends a lease, or looks whether a limit is of use, under `queue`	crowd
  *	seat ends		permit		who takes the permit and puts it back, under `queue`		crowd-stale
  *	awaits			seat		its user							ring
  *	target label		seat		its user							why

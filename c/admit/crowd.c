@@ -4,14 +4,14 @@
  *
  * 1. A crowd begins when a thread spends an eighth of its time in waits for locks, and doesn't sleep elsewhere, that is, outside
  * this library. A thread that does sleep elsewhere needs no permit, since it leaves its processor to others.
- * 2. There is one permit at first, and at most one for each processor, unless the program sets how many. How many are best is
- * measured (limiter.c).
+ * 2. There is one permit at first, or, once contexts have turned out to be long, one for each processor; and never more than that,
+ * unless the program sets how many. How many are best is measured (limiter.c).
  * 3. A permit lasts for a lease, in which its thread begins as many contexts as it likes. Each thread that waits for a permit
  * sleeps until its turn should come. The thread that has waited longest is called for a permit that is put back.
  * 4. A crowd ends if nobody waits for a permit, if the threads of two leases on end slept elsewhere, or if a limit is of no use.
  * Where each thread has a processor, a limit is of no use if no limit is better, or if contexts are so long that fewer save no
  * cache lines. Elsewhere a limit is of no use if with a permit for each processor threads hardly wait for locks; or, if contexts
- * are long, less than half of their time.
+ * are long, if threads wait less than half of their time, and contexts seldom back off.
  * 5. After a crowd no crowd begins for 16 ms, and after each further one for twice as long, up to half a second. A crowd that
  * lasted longer than half a second sets this back to 16 ms.
  *
@@ -38,9 +38,9 @@
 enum { MEETING = 1000, LONG_CONTEXT = 8 * MEETING };
 /*
  * A thread sums up its waits until they reach a SAMPLE. They are many if they took one part in MANY_WAITS of its time meanwhile,
- * and few if they took less than one part in FEW_WAITS.
+ * and few if they took less than one part in FEW_WAITS. Contexts often back off if one in OFTEN does, on average.
  */
-enum { SAMPLE = 32000, MANY_WAITS = 8, FEW_WAITS = 128 };
+enum { SAMPLE = 32000, MANY_WAITS = 8, FEW_WAITS = 128, OFTEN = 16 };
 /* A thread counts as awake after so many looks on end, at samples or leases, that found that it hadn't slept elsewhere. */
 enum { AWAKE = 2 };
 /* A crowd ends once the threads of so many leases on end have slept elsewhere. */
@@ -49,6 +49,11 @@ enum { SLEEPERS = 2 };
 enum { QUIET = 16000000, LONGEST_QUIET = 512000000 };
 /* Contexts count as long after so long without a lease that showed short ones. Waits are summed up for half of it before they count. */
 enum { LONG_WINDOW = 16000000 };
+/*
+ * For how many windows of the limiter long contexts have the largest width at first. The contexts that had begun before the crowd
+ * end only in these, one after another, so an earlier window would tell nothing of that width.
+ */
+enum { LONG_HOLDS = 8 };
 /*
  * A thread with a permit begins so many contexts without a look at the clock, if the contexts between its last two looks took less
  * than a sixteenth of its lease together.
@@ -106,18 +111,30 @@ void ww_reset_crowd(struct ww_pool *p)
 	__atomic_store_n(&crowd->quiet_until, p->class_->permits == WW_NO_CROWD ? UINT64_MAX : 0, __ATOMIC_RELAXED);
 }
 
+/*
+ * Lets the limiter measure anew: from the smallest width on, or, if contexts are long, from the largest one, which leaves no
+ * processor idle. The queue is locked.
+ */
+static void open_limiter(struct ww_pool *p, bool is_long)
+{
+	uint32_t said = p->class_->permits, least = said ? said : 1, most = said ? said : processors_of(p);
+
+	ww_limiter_open(&p->crowd.limiter, least, is_long ? most : least, least, most, MANY_PERMITS);
+	if (is_long)
+		p->crowd.limiter.holds = LONG_HOLDS;
+	p->crowd.is_long = is_long;
+}
+
 COLD static void begin_crowd(struct ww_pool *p, uint64_t now)
 {
 	struct ww_crowd *crowd = &p->crowd;
-	uint32_t said = p->class_->permits, least = said ? said : 1, most = said ? said : processors_of(p);
 
 	pthread_mutex_lock(&p->queue);
 	if (!is_crowded(p)) {
-		ww_limiter_open(&p->crowd.limiter, least, least, least, most, MANY_PERMITS);
-		crowd->is_long = false;
+		open_limiter(p, false);
 		crowd->sleepers = 0;
 		crowd->since = crowd->looked = now;
-		crowd->was_short = crowd->waited = crowd->held = 0;
+		crowd->was_short = crowd->waited = crowd->held = crowd->leased = crowd->backed_off = 0;
 		__atomic_store_n(&crowd->begun, 0, __ATOMIC_RELAXED);
 		set_crowded(p, true);
 	}
@@ -181,37 +198,51 @@ static void end_crowd(struct ww_pool *p, uint64_t now)
 	ww_call_waiting(p, true);
 }
 
+/* How often the contexts of this thread's own seat have backed off. */
+static uint64_t back_offs_of(const struct ww_pool *p)
+{
+	const ww_seat *own = own_seat(p);
+
+	return own ? __atomic_load_n(&own->back_offs, __ATOMIC_RELAXED) : 0;
+}
+
 /*
  * Learns from this thread's lease, which has ended. Contexts are long, by the time for which the thread had a processor, if no
  * lease has shown short ones for LONG_WINDOW, and the thread didn't mostly wait in this one, as threads do in a convoy of contexts
  * that began before the crowd. The queue is locked.
  */
-static void count_ended_lease(struct ww_crowd *crowd, const struct ww_my_permit *had, uint64_t now)
+static void count_ended_lease(struct ww_pool *p, const struct ww_my_permit *had, uint64_t now)
 {
+	struct ww_crowd *crowd = &p->crowd;
 	uint64_t held = now - had->taken;
 
 	crowd->sleepers = sleeps_elsewhere() ? crowd->sleepers + 1 : 0;
 	crowd->held += held;
 	crowd->waited += had->waited;
+	crowd->leased += had->begun;
+	crowd->backed_off += back_offs_of(p) - had->back_offs;
 	if (had->begun * LONG_CONTEXT >= ww_mine.ran - had->ran)
 		crowd->was_short = now;
-	else if (2 * had->waited < held && now - crowd->was_short > LONG_WINDOW)
-		crowd->is_long = true;
+	else if (!crowd->is_long && 2 * had->waited < held && now - crowd->was_short > LONG_WINDOW)
+		open_limiter(p, true);
 }
 
 /*
- * Whether threads with permits wait long enough for a limit to be of use when each processor has a permit: one part in FEW_WAITS of
- * their time. If contexts are long it is half of their time, since a limit then only keeps processors idle if threads wait less.
- * The queue is locked.
+ * Whether a limit may be of use where each processor has a permit. Then threads wait for locks for one part in FEW_WAITS of their
+ * time. If contexts are long, a limit mostly keeps processors idle; so threads have to wait for half of their time, or contexts have
+ * to back off often, since then fewer contexts would do less in vain. The sums begin anew while the limiter tries another width for
+ * long contexts, since what threads do by fewer permits tells nothing of the largest width. The queue is locked.
  */
 static bool sum_up_waits(struct ww_crowd *crowd, uint64_t now)
 {
-	bool does = crowd->waited * (crowd->is_long ? 2 : FEW_WAITS) >= crowd->held;
+	bool is_tried = crowd->is_long && crowd->limiter.tries, does = FEW_WAITS * crowd->waited >= crowd->held;
 
-	if (now - crowd->looked < LONG_WINDOW / 2)
+	if (now - crowd->looked < LONG_WINDOW / 2 && !is_tried)
 		return true;
+	if (crowd->is_long)
+		does = is_tried || 2 * crowd->waited >= crowd->held || OFTEN * crowd->backed_off >= crowd->leased;
 	crowd->looked = now;
-	crowd->waited = crowd->held = 0;
+	crowd->waited = crowd->held = crowd->leased = crowd->backed_off = 0;
 	return does;
 }
 
@@ -228,10 +259,8 @@ static bool look_whether_of_use(struct ww_pool *p, uint64_t now)
 	if (crowd->sleepers >= SLEEPERS)
 		return false;
 	limiter->is_bounded = is_short_of_processors(p);
-	if (crowd->is_long) {
-		limiter->width = limiter->most;
-		return limiter->is_bounded && somebody_waits && sum_up_waits(crowd, now);
-	}
+	if (crowd->is_long && !(limiter->is_bounded && somebody_waits))
+		return false;
 	if (limiter->is_bounded && limiter->kept == limiter->most && !sum_up_waits(crowd, now))
 		return false;
 	return ww_limiter_look(limiter, now, (uint32_t)__atomic_load_n(&crowd->begun, __ATOMIC_RELAXED),
@@ -287,6 +316,7 @@ static bool take_permit(struct ww_pool *p, uint64_t now)
 		return false;
 	ww_mine.permit = (struct ww_my_permit){
 		.id = p->id, .it = it, .taken = now, .ends = now + lease, .seen = now, .brief = lease / 16,
+		.back_offs = back_offs_of(p),
 	};
 	if (it)
 		*it = (struct ww_permit){ .ends = ww_mine.permit.ends, .seat = own_seat(p) };
@@ -367,7 +397,7 @@ COLD static bool find_permit(struct ww_pool *p, uint64_t until, bool heeds, bool
 		look_at_sleeps();
 	pthread_mutex_lock(&p->queue);
 	if (had_one)
-		count_ended_lease(&p->crowd, &had, now);
+		count_ended_lease(p, &had, now);
 	if (had_one && had.it->ends == had.ends) /* no other thread has taken it since */
 		*had.it = (struct ww_permit){ .ends = now };
 	ww_mine.permit = (struct ww_my_permit){ .id = p->id };

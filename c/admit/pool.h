@@ -63,11 +63,12 @@ struct ww_crowd {
 	struct ww_limiter limiter;		     /* this and all below is changed under the lock `queue` */
 	struct ww_permit permits[MANY_PERMITS];
 	uint32_t sleepers;			     /* how many leases on end had threads that slept elsewhere */
-	bool is_long;				     /* contexts are long: the crowd goes on while threads wait for locks long enough */
+	bool is_long;				     /* contexts are long: the limiter has begun with the largest width */
 	uint64_t was_short;			     /* when the last lease ended whose contexts were short */
 	uint64_t since;				     /* when the crowd began */
 	uint64_t looked;			     /* when the sums of waits and leases were last looked at */
 	uint64_t held, waited; /* how long the leases were that have ended since, and how long their threads waited in them */
+	uint64_t leased, backed_off; /* how many contexts began in these leases, and how often contexts backed off */
 	uint64_t quiet;				     /* how long no crowd begins after the next one that is of no use */
 };
 

@@ -31,6 +31,7 @@ struct ww_mine {
 		uint32_t begun, reported; /* how many contexts it has begun in this lease, and how many of them the crowd has counted */
 		uint64_t waited;	/* how long the thread has waited for locks in this lease */
 		uint64_t ran;		/* for how long the thread had had a processor when this lease began */
+		uint64_t back_offs;	/* how often the contexts of its own seat had backed off by then */
 	} permit;
 	uint32_t too_long;	  /* how many of the thread's last waits took too long to stay awake: see wait.c */
 	uint64_t waited, counted; /* the sum of the thread's waits, and since when it is summed up: see crowd.c */

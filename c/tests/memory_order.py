@@ -420,7 +420,7 @@ TABLE = {
     # Counts, which order nothing; and glances of the debug library. What a waiter in its list did before is ordered by its lock.
     "sought": {"open_seats_of": "store rlx", "ww_reset_crowd": "store rlx", "ww_class_stats": "load rlx, load rlx, load rlx"},
     "waits": {"ww_class_stats": "load rlx"},
-    "back_offs": {"ww_class_stats": "load rlx"},
+    "back_offs": {"ww_class_stats": "load rlx", "back_offs_of": "load rlx"},
     # Said before a waiter is woken, which looks at it after it took its token away, or was taken out of the queue under its lock; or
     # before those that wait for a permit are called, which look at it under its lock.
     "ends_waits": {"make_pool": "store sc", "ww_ends_waits": "load sc", "ww_class_cancel": "store sc"},
@@ -512,6 +512,8 @@ PLAIN = {
     "crowd->sought": "queue: ",
     "crowd->held": "queue: ",
     "crowd->waited": "queue: ",
+    "crowd->leased": "queue: ",
+    "crowd->backed_off": "queue: ",
     "it->seat": "queue: is_over",
     "it->ends": "queue: is_over",
     "it->next": "by: ww_event_wake",

@@ -891,41 +891,59 @@ static void begins_by_who_is_awake(void)
 }
 
 /*
- * Contexts are long by what a lease has shown, if its thread didn't mostly wait.  Then there are as many permits as there may be, if
- * threads outnumber processors, one waits for a permit, and those with permits mostly wait; else there is no crowd any more.
+ * Contexts are long by what a lease has shown, if its thread didn't mostly wait. Then there are as many permits as there may be, for
+ * some windows of the limiter. The crowd ends unless threads outnumber processors, a thread waits for a permit, and those with
+ * permits mostly wait or often back off. But what threads do while the limiter tries another width ends no crowd of long contexts.
  */
 static void ends_if_contexts_are_long(void)
 {
 	enum { HELD = 1000000000 }; /* so long that it doesn't matter when this thread goes on */
+	enum back_offs { NONE, EARLIER, FEW, OFTEN };
 	static const struct {
 		uint64_t each, waited, others; /* nanoseconds */
-		bool is_short, one_waits, is_long, goes_on;
+		bool is_short, one_waits;
+		enum back_offs back_offs;
+		bool tries;
+		uint32_t width; /* of long contexts it isn't 1 */
+		bool goes_on;
 	} cases[] = {
-		{ 4000, 0, 0, true, true, false, true },
-		{ 16000, 0, HELD, true, true, true, true },
-		{ 16000, 0, 0, true, true, true, false },
-		{ 16000, 0, HELD, true, false, true, false },
-		{ 16000, 0, HELD, false, true, true, false },
-		{ 64000, HELD / 5 * 3, 0, true, true, false, true },
-		{ 64000, HELD / 5 * 2, HELD, true, true, true, true },
+		{ 4000, 0, 0, true, true, NONE, false, 1, true },
+		{ 16000, 0, HELD, true, true, NONE, false, 4, true },
+		{ 16000, 0, 0, true, true, NONE, false, 4, false },
+		{ 16000, 0, HELD, true, false, NONE, false, 4, false },
+		{ 16000, 0, HELD, false, true, NONE, false, 4, false },
+		{ 64000, HELD / 5 * 3, 0, true, true, NONE, false, 1, true },
+		{ 64000, HELD / 5 * 2, HELD, true, true, NONE, false, 4, true },
+		{ 16000, 0, 0, true, true, OFTEN, false, 4, true },
+		{ 16000, 0, 0, true, true, FEW, false, 4, false },
+		{ 16000, 0, 0, true, true, EARLIER, false, 4, false },
+		{ 16000, 0, 0, true, true, NONE, true, 2, true },
 	};
 
 	for (size_t k = 0; k < sizeof cases / sizeof *cases; k++) {
+		uint32_t begun = (uint32_t)(HELD / cases[k].each), by = cases[k].back_offs == FEW ? begun / 20 : begun / 12;
 		struct ww_crowd *crowd;
 
 		opens(&c, 1);
-		c.pool->processors = 1;
-		ww_threads = cases[k].is_short ? 2 : 0;
+		c.pool->processors = 4;
+		ww_threads = cases[k].is_short ? 5 : 0;
 		crowd = &c.pool->crowd;
-		c.pool->crowd.limiter.most = 4;
-		crowd->was_short = crowd->held = crowd->looked = 0;
+		crowd->limiter.most = 4;
+		crowd->was_short = crowd->held = crowd->looked = crowd->leased = crowd->backed_off = 0;
 		crowd->waited = cases[k].others;
 		MUST(!sleeps() && has(0));
 		lease_ends();
+		if (cases[k].tries) {
+			crowd->is_long = crowd->limiter.tries = true;
+			crowd->limiter.width = 2;
+			crowd->limiter.kept = 4;
+		}
 		ww_mine.permit.taken = ww_now() - HELD;
-		ww_mine.permit.begun = ww_mine.permit.reported = (uint32_t)(HELD / cases[k].each);
+		ww_mine.permit.begun = ww_mine.permit.reported = begun;
 		ww_mine.permit.waited = 0;
 		ww_mine.permit.ran -= HELD;
+		own_seat(c.pool)->back_offs += cases[k].back_offs ? by : 0;
+		ww_mine.permit.back_offs += cases[k].back_offs == EARLIER ? by : 0;
 		ww_note_wait(c.pool, ww_now(), cases[k].waited);
 		ww_mine.awake = 0, ww_mine.elsewhere = 0;
 		come(cases[k].one_waits);
@@ -933,8 +951,8 @@ static void ends_if_contexts_are_long(void)
 		begins_and_ends(&c);
 		go(cases[k].one_waits);
 		ww_threads = 1;
-		MUST(crowd->is_long == cases[k].is_long && is_crowded(c.pool) == cases[k].goes_on);
-		MUST(c.pool->crowd.limiter.width == (cases[k].is_long ? 4 : 1) && !ww_class_free(&c));
+		MUST(crowd->is_long == (cases[k].width > 1) && is_crowded(c.pool) == cases[k].goes_on);
+		MUST(crowd->limiter.width == cases[k].width && (cases[k].width != 4 || crowd->limiter.holds > 1) && !ww_class_free(&c));
 	}
 }
 
