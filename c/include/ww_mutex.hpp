@@ -121,6 +121,7 @@ class limits {
 
 public:
 	limits(ww_flags flags = {}) noexcept : flags_(flags) {}
+	template <class Number, class = std::enable_if_t<std::is_arithmetic_v<Number>>> limits(Number) = delete; // a time has a unit: 60s
 	template <class Rep, class Period> limits(std::chrono::duration<Rep, Period> timeout, ww_flags flags = {}) : flags_(flags)
 	{
 		until_ = at(std::chrono::steady_clock::now().time_since_epoch() + bounded(timeout));
