@@ -121,6 +121,7 @@ class limits {
 
 public:
 	limits(ww_flags flags = {}) noexcept : flags_(flags) {}
+	template <class Number, class = std::enable_if_t<std::is_arithmetic_v<Number>>> limits(Number) = delete; // a time has a unit: 60s
 	template <class Rep, class Period> limits(std::chrono::duration<Rep, Period> timeout, ww_flags flags = {}) : flags_(flags)
 	{
 		until_ = at(std::chrono::steady_clock::now().time_since_epoch() + bounded(timeout));
@@ -285,12 +286,15 @@ public:
 		return has_value();
 	}
 	int error() const noexcept { return error_; }
-	T &operator*() & noexcept { return *value_; }
-	const T &operator*() const & noexcept { return *value_; }
-	T &&operator*() && noexcept { return std::move(*value_); }
-	T *operator->() noexcept { return &*value_; }
+	T &operator*() & noexcept { return asserted(), *value_; }
+	const T &operator*() const & noexcept { return asserted(), *value_; }
+	T &&operator*() && noexcept { return asserted(), std::move(*value_); }
+	T *operator->() noexcept { return asserted(), &*value_; }
 	template <class U> T value_or(U &&otherwise) const & { return value_.value_or(std::forward<U>(otherwise)); }
 	template <class U> T value_or(U &&otherwise) && { return std::move(value_).value_or(std::forward<U>(otherwise)); }
+
+private:
+	void asserted() const noexcept { assert(has_value() && "the callable wasn't called: error() says why"); }
 };
 template <> class [[nodiscard]] result<void> {
 	int error_;

@@ -346,6 +346,21 @@ static void reports()
 	MUST(!status_of_child(runs_one_twice));
 }
 
+// A result without a value ends the program where the value is read.
+static void reads_no_value()
+{
+	const auto reads_it = [] {
+		mutex_class c(mutex_class::wound_wait, "of a child");
+		mutex a(c);
+
+		fclose(stderr);
+		std::_Exit(*ww::lock_all(c, { &a, &a }, [] { return 0; }));
+	};
+	const int status = status_of_child(reads_it);
+
+	MUST(WIFSIGNALED(status) && WTERMSIG(status) == SIGABRT);
+}
+
 // A child ends as others do, whatever threads held that aren't there, and also where memory goes that is held.
 static void forks()
 {
@@ -630,6 +645,7 @@ int main()
 	lists(ww_class);
 	backs_off(ww_class);
 	forks();
+	reads_no_value();
 	reports();
 	tries();
 	arrays();

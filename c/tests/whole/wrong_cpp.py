@@ -24,12 +24,12 @@ struct padded { char first; int second; };
 # What is wrong; the words of the error, or of the warning of the analysis; the wrong lines, and the right ones.
 LIST = "auto r = ww::lock_all(boxes, { &a.lock, &b.lock }, "
 PROGRAMS = [
-    ("a number where a time was meant", "no matching ", LIST + "[] {}, 500); (void)r;", LIST + "[] {}, 500ms); (void)r;"),
-    ("a number where flags were meant", "no matching ", LIST + "[] {}, 1); (void)r;",
+    ("a number where a time was meant", "a time has a unit", LIST + "[] {}, 500); (void)r;", LIST + "[] {}, 500ms); (void)r;"),
+    ("a number where flags were meant", "a time has a unit", LIST + "[] {}, 1); (void)r;",
      LIST + "[] {}, WW_IGNORE_DUPLICATES | WW_INTERRUPTIBLE); (void)r;"),
     ("a number of flags beside a time", "no matching ", LIST + "[] {}, ww::limits(1s, 2)); (void)r;",
      LIST + "[] {}, ww::limits(1s, WW_INTERRUPTIBLE)); (void)r;"),
-    ("a context with a number", "no matching ", "ww::context x(boxes, 2);", "ww::context x(boxes, WW_INTERRUPTIBLE);"),
+    ("a context with a number", "a time has a unit", "ww::context x(boxes, 2);", "ww::context x(boxes, WW_INTERRUPTIBLE);"),
     ("a callable that returns whether it succeeded", "returns 0 or the first error",
      "auto r = ww::lock_by(boxes, [](ww::context &x) { return x.lock(a.lock) == 0; }, [] {}); (void)r;",
      "auto r = ww::lock_by(boxes, [](ww::context &x) { return x.lock(a.lock); }, [] {}); (void)r;"),
