@@ -16,7 +16,7 @@ HELD = re.compile(rf"{MUTEX} is held by {WHO}(?: since (.*))?")
 REPORTED = re.compile(rf'{WHO} waits at (.*) for {MUTEX} of class "(.*)", which {WHO} holds')
 # Of gdb.
 OF_GDB = re.compile(r'class "(.*)" \((?:Wound-Wait|Wait-Die)\): .*')
-THREAD = re.compile(r"  ((?:thread|task|a thread|an unknown thread|suspended context)\b.*?)(?: at (\S+, .*?))?((?:, timestamp \d+|, without a context)+)")
+THREAD = re.compile(r"  ((?:thread|task|a thread|an unknown thread|suspended context)\b.*?)(?: at (\S+, .*?))?((?:, (?:also )?(?:timestamp \d+|without a context))+)")
 ALSO = r'(?:, mutex \d+(?: ".*")? at \w+)?'
 HOLDS = re.compile(rf"    (holds|reads) (.*?){ALSO}")
 WAITS = re.compile(rf"    waits (?:(\S+ s|since .*) )?for (?:(what .*) reads|(.*?){ALSO}, which (?:nobody|(.*)) holds)")

@@ -77,14 +77,16 @@ class Thread:
         except gdb.error:
             pass
         libraries = [gdb.solib_name(frame.pc()) or "" for frame in frames]
-        ours = [k for k, frame in enumerate(frames) if re.match("<?ww_", frame.name() or "") or "/libww" in libraries[k]]
+        ours = [k for k, frame in enumerate(frames) if re.match(r"ww_\w+$", frame.name() or "") or "/libww" in libraries[k]]
         frames, libraries = frames[ours[-1] + 1 if ours else 0 :], libraries[ours[-1] + 1 if ours else 0 :]
         called = ""
         for frame, library in zip(frames, libraries):
-            line = frame.find_sal()
-            if line.symtab and not re.search(r"/(libc|libpthread|ld-linux)[-.]", library) and not line.symtab.filename.startswith("/rustc/"):
-                return f"{frame.name()}, {os.path.basename(line.symtab.filename)}:{line.line}" + f" in {called}" * bool(called)
-            called = re.sub(r"^_*(GI_+)?(libc_)?|[@<].*", "", frame.name() or "")
+            line, name = frame.find_sal(), frame.name() or ""
+            is_binding = re.match(r"<?ww(_mutex)?::", name)  # of Rust or C++, whose callers' closures it calls
+            is_systems = re.search(r"/(libc|libpthread|ld-linux)[-.]", library) or re.match("<?(std|core|alloc)::", name)
+            if line.symtab and not is_systems and not is_binding:
+                return f"{name}, {os.path.basename(line.symtab.filename)}:{line.line}" + f" in {called}" * bool(called)
+            called = "" if is_binding else re.sub(r"^_*(GI_+)?(libc_)?|@.*|<.*>", "", name)
         own = [frame for frame, library in zip(frames, libraries) if not library] or frames
         return f"{own[0].name() or hex(own[0].pc())}, whose line isn't known" if own else ""
 
@@ -328,7 +330,10 @@ class Look:
     def ago(self, since):
         if not since:
             return ""
-        return f" {max(self.time - since, 0) / 1e9:.1f} s" if self.time else f" since {since / 1e9:.3f} s of the monotonic clock"
+        if self.time:
+            return f" {max(self.time - since, 0) / 1e9:.1f} s"
+        newest = max(seat.since for it in self.classes for seat in it.used.values())
+        return f" since {(newest - since) / 1e9:.1f} s before the newest wait"  # a core file doesn't say when it was written
 
 
 def why_nobody_backs_off(cycle):
@@ -377,7 +382,7 @@ def print_class(look, it, only):
         alike[kind] = alike.get(kind, 0) + 1
         if only is not None and not any(only in (*seat.holds, *seat.reads(), seat.awaits) for seat in seats) or alike[kind] > 3:
             continue
-        print(f"  {seats[0]}{place}, {', '.join(sorted({seat.begun() for seat in seats}))}")
+        print(f"  {seats[0]}{place}, {', also '.join(sorted({seat.begun() for seat in seats}))}")
         print("\n".join(lines))
     for kind, count in alike.items():
         if count > 3:
@@ -481,7 +486,7 @@ def about_context(value, it):
 
 def about_class(value, it):
     many = sum(seat.awaits >= 0 for seat in it.used.values())
-    return f'class "{it.name}": {it.taken} mutexes, {many} wait; so far ' + ", ".join(f"{count} {what}" for what, count in it.counts.items())
+    return f'class "{it.name}": {it.taken} mutexes, {many} wait; in all ' + ", ".join(f"{count} {what}" for what, count in it.counts.items())
 
 
 ABOUT = {"ww_mutex": about_mutex, "ww_acquire_ctx": about_context, "ww_class": about_class}
