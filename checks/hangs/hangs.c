@@ -83,6 +83,7 @@ static void ring(void)
 
 	for (int k = 0; k < 3; k++)
 		ww_mutex_init(&fork_[k], &forks);
+	ww_mutex_name(&fork_[2], "the third fork");
 	for (size_t k = 0; k < 3; k++)
 		thread("eater", eats, k);
 	until(&forks, 3);

@@ -1,5 +1,12 @@
-"""Sourced by gdb behind libww-gdb.py: which rows of the library's table may be wrong, and the same is shown."""
-right_table = table
+"""Sourced by gdb behind libww-gdb.py: which rows of the library's tables may be wrong, and the same is shown."""
+right_table, right_memory = table, memory
+
+
+def memory(at, size):
+    """What a wrong number asks for may be more than there is, of which gdb would end."""
+    if size > 1 << 26:
+        raise ValueError("too much")
+    return right_memory(at, size)
 
 
 def shown():
@@ -21,3 +28,4 @@ for name in names:
             break
     else:
         print("not seen:", name.replace(" ", "_"))
+print("each was tried")
