@@ -10,14 +10,16 @@ SEAT = re.compile(r"seat (\S+) (\d+) (\d+)")
 # Of the debug library.
 WHO = r"(thread \d+|the user of context \d+)"
 USED = re.compile(r'class "(.*)": .* in use, .*')
-USES = re.compile(WHO + r": (?:(context \d+)|a lock (without a context)) began at (.*?)(?:; suspended at (.*)|; waits at (.*) for mutex (\d+))?")
-HELD = re.compile(rf"mutex (\d+) is held by {WHO}(?: since (.*))?")
-REPORTED = re.compile(rf'{WHO} waits at (.*) for mutex (\d+) of class "(.*)", which {WHO} holds')
+MUTEX = r'mutex (\d+(?: ".*")?)'  # by its number, and its name, if it has one
+USES = re.compile(WHO + rf": (?:(context \d+)|a lock (without a context)) began at (.*?)(?:; suspended at (.*)|; waits at (.*) for {MUTEX})?")
+HELD = re.compile(rf"{MUTEX} is held by {WHO}(?: since (.*))?")
+REPORTED = re.compile(rf'{WHO} waits at (.*) for {MUTEX} of class "(.*)", which {WHO} holds')
 # Of gdb.
 OF_GDB = re.compile(r'class "(.*)" \((?:Wound-Wait|Wait-Die)\): .*')
-THREAD = re.compile(r"  ((?:thread|task|a thread|an unknown thread|suspended context)\b.*?)(?: at (\S+, .*?))?((?:, timestamp \d+|, without a context)+)")
-HOLDS = re.compile(r"    (holds|reads) (.*?)(?:, mutex \d+ at \w+)?")
-WAITS = re.compile(r"    waits (?:(\S+ s|since .*) )?for (?:(what .*) reads|(.*?)(?:, mutex \d+ at \w+)?, which (?:nobody|(.*)) holds)")
+THREAD = re.compile(r"  ((?:thread|task|a thread|an unknown thread|suspended context)\b.*?)(?: at (\S+, .*?))?((?:, (?:also )?(?:timestamp \d+|without a context))+)")
+ALSO = r'(?:, mutex \d+(?: ".*")? at \w+)?'
+HOLDS = re.compile(rf"    (holds|reads) (.*?){ALSO}")
+WAITS = re.compile(rf"    waits (?:(\S+ s|since .*) )?for (?:(what .*) reads|(.*?){ALSO}, which (?:nobody|(.*)) holds)")
 MORE = re.compile(r"  and \d+ more threads at .*")
 BACKS_OFF = re.compile(r"  (.*) backs off as soon as it runs")
 

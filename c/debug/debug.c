@@ -128,6 +128,19 @@ static void report_copy(const struct ww_mutex *m, const char *call)
 		ww_fault(m->pool->class_, call, NULL, a_copy);
 }
 
+/* A mutex that has no number yet gets one, as by its first lock. Of what `name` was before, a reader may see one half. */
+void ww_mutex_name(struct ww_mutex *m, const char *name)
+{
+	if (!pool_at(NEEDED(m)) && ww_number_at_first(m)) {
+		ww_fault(NULL, "ww_mutex_name", NULL, "the mutex isn't initialized");
+		return;
+	}
+	report_copy(m, "ww_mutex_name");
+	WRITE_ONCE(holding_of(m)->name, NULL);
+	WRITE_ONCE(holding_of(m)->puts, puts_of(&m->pool->numbers, m->number));
+	WRITE_ONCE(holding_of(m)->name, name);
+}
+
 bool ww_debug_refuses(const char *call, const struct ww_mutex *m, const struct ww_acquire_ctx *x)
 {
 	const char *why = !is_context(x) ? "the context was never begun" :

@@ -73,10 +73,12 @@ WW_HIDDEN void ww_debug_check_context(const struct ww_acquire_ctx *x);
 /* ---- watch.c ---- */
 
 /*
- * What is known of a mutex that is held, by the mutex's number: the number, plus 1, of the seat that holds it, the thread that
- * acquired it, and where.
+ * What is known of a mutex, by the mutex's number: its name, or NULL, and how often the number had been put back when the mutex was
+ * named (ww_mutex_name). While it is held: the number, plus 1, of the seat that holds it, the thread that acquired it, and where.
  */
 struct holding {
+	const char *name;
+	uint32_t puts;
 	uint32_t seat;
 	uint64_t thread;
 	struct place acquired;
@@ -134,6 +136,20 @@ static inline struct watch *holder_with(const struct ww_pool *p, uint32_t number
 	return seat ? &p->debug->seats[seat - 1] : NULL;
 }
 
+/*
+ * The name of the mutex that has this number now, or an empty text; and what a format with NAMED takes for it. There is no such number
+ * if a wait, whose number is read here, has ended meanwhile.
+ */
+static inline const char *name_of_mutex(const struct ww_pool *p, uint32_t number)
+{
+	const struct holding *it = number < p->numbers.locks ? &p->debug->mutexes[number] : NULL;
+	const char *name = it ? READ_ONCE(it->name) : NULL;
+
+	return name && READ_ONCE(it->puts) == puts_of(&p->numbers, number) ? name : "";
+}
+#define NAMED "%s%s%s"
+#define NAME(name) *(name) ? " \"" : "", name, *(name) ? "\"" : ""
+
 static inline bool is_seat_used(const struct watch *s) { return READ_ONCE(s->thread) || READ_ONCE(s->stamp); }
 
 /* The thread that calls by the seat now; 0 for a task. */
@@ -169,7 +185,7 @@ WW_HIDDEN const ww_seat *ww_any_seat_with(enum has what, uintptr_t value);
 
 /* Writes a line that says what a context reads, if the mutex of this number is its reader slot's; and a line that describes a wait. */
 WW_HIDDEN void ww_print_reads(const struct ww_pool *p, uint32_t number, FILE *to);
-WW_HIDDEN void ww_print_wait(const struct watch *s, FILE *to);
+WW_HIDDEN void ww_print_wait(const ww_seat *s, FILE *to);
 /*
  * Whether anything of the class is in use; and a text that says what, which the caller frees, or NULL. The list of classes is
  * locked.

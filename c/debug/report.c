@@ -103,7 +103,7 @@ static void trace(FILE *to)
 	}
 	free(names);
 	if (count && !is_named && !__atomic_exchange_n(&is_said, true, __ATOMIC_RELAXED))
-		fputs("[link with -rdynamic: then these have the names of functions]\n", to);
+		fputs("[link with -rdynamic: then these have the names of functions, except static ones]\n", to);
 #endif
 }
 

@@ -136,7 +136,7 @@ static char *text_of_deadlock(const struct ww_pool *of, unsigned count)
 	FILE *to = open_memstream(&words, &size);
 
 	for (; to && count && (next = next_wait(of, s)); count--, s = next) {
-		ww_print_wait(watch_of(s), to);
+		ww_print_wait(s, to);
 		fprintf(to, " of class \"%s\", which thread %ld holds", name_of(s->pool->class_),
 			READ_ONCE(watch_of(next)->tid));
 		ww_print_reads(s->pool, READ_ONCE(watch_of(s)->wants) - 1, to);
@@ -186,8 +186,8 @@ static void look_for_long_wait(void)
 
 	if (holder && !mine.seen && seconds_of_patience() && ww_has_come(&mine.is_long))
 		ww_warn(ONCE, p->class_, "a wait", &holder->began,
-			  "it has lasted %u seconds; mutex %u is held by what %sbegan at", seconds_of_patience(), number,
-			  has_ended(holder) ? "a thread that has ended left; it " : "");
+			  "it has lasted %u seconds; mutex %u" NAMED " is held by what %sbegan at", seconds_of_patience(), number,
+			  NAME(name_of_mutex(p, number)), has_ended(holder) ? "a thread that has ended left; it " : "");
 }
 
 static uint64_t *handed(const struct ww_seats *of) { return &of->pool->debug->handed[of == &of->pool->tasks]; }

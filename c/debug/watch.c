@@ -2,13 +2,26 @@
 #define _GNU_SOURCE
 #include "parts.h"
 #ifdef WW_DEBUG
+#include "../admit/layout.h"
 #include <sys/syscall.h>
 #include <unistd.h>
+
+/* What a debugger finds of the debug library besides: this table begins as that of admit/layout.c. */
+static const struct {
+	struct ww_open *const *open;
+	struct ww_mine *const *owners;
+	struct ww_row rows[6];
+} layout __attribute__((section(".ww_layout_debug"))) = {
+	&ww_all_open, NULL, {
+		AT(ww_pool, debug), AT(debug, mutexes), SIZE(holding), AT(holding, name), AT(holding, puts), AT(ww_numbers, puts),
+	},
+};
 
 int ww_debug_open(struct ww_pool *p)
 {
 	size_t seats = seats_of(p) * sizeof(struct watch), mutexes = p->numbers.locks * sizeof(struct holding);
 
+	__asm__ volatile("" ::"r"(&layout)); /* so that the linker keeps it */
 	p->debug = calloc(1, sizeof *p->debug + seats + mutexes);
 	if (!p->debug)
 		return -ENOMEM;
@@ -188,24 +201,26 @@ void ww_print_reads(const struct ww_pool *p, uint32_t number, FILE *to)
 	fputs(" reads mutex", to);
 	for (uint32_t n = 0; n < p->numbers.locks; n++)
 		if (has_mark(slot, n)) {
-			fprintf(to, "%s %u", before, n);
+			fprintf(to, "%s %u" NAMED, before, n, NAME(name_of_mutex(p, n)));
 			before = ",";
 		}
 	fprintf(to, "; for that it holds mutex %u", number);
 }
 
-static void print_want(const struct watch *s, const char *before, FILE *to)
+static void print_want(const struct ww_pool *of, const struct watch *s, const char *before, FILE *to)
 {
+	uint32_t number = READ_ONCE(s->wants) - 1;
+
 	fprintf(to, "%swaits at ", before);
 	ww_print_place(&s->waits, to);
-	fprintf(to, " for mutex %u", READ_ONCE(s->wants) - 1);
+	fprintf(to, " for mutex %u" NAMED, number, NAME(name_of_mutex(of, number)));
 }
 
-void ww_print_wait(const struct watch *s, FILE *to)
+void ww_print_wait(const ww_seat *s, FILE *to)
 {
 	fputc('\n', to);
-	print_user(s, to);
-	print_want(s, " ", to);
+	print_user(watch_of(s), to);
+	print_want(s->pool, watch_of(s), " ", to);
 }
 
 static void print_use(const struct ww_pool *of, uint32_t k, FILE *to)
@@ -221,7 +236,7 @@ static void print_use(const struct ww_pool *of, uint32_t k, FILE *to)
 		fprintf(to, "; suspended at ");
 		ww_print_place(&s->suspended, to);
 	} else if (READ_ONCE(s->wants)) {
-		print_want(s, "; ", to);
+		print_want(of, s, "; ", to);
 	}
 }
 
@@ -231,7 +246,7 @@ static void print_mutex(const struct ww_pool *p, uint32_t number, FILE *to)
 
 	if (!holder)
 		return;
-	fprintf(to, "\nmutex %u is held by ", number);
+	fprintf(to, "\nmutex %u" NAMED " is held by ", number, NAME(name_of_mutex(p, number)));
 	print_user(holder, to);
 	fputs(" since ", to);
 	ww_print_place(&p->debug->mutexes[number].acquired, to);

@@ -385,5 +385,8 @@ size_t ww_acquire_size(void);
 #include "ww_mutex_inline.h" /* what is compiled into callers */
 #ifdef WW_DEBUG
 #include "ww_mutex_debug.h" /* the debug library's calls, and what reports the line of each call */
+#else
+/* What the debug library's call, by which its reports name the mutex, is without that library: nothing. */
+__attribute__((__unused__)) static inline void ww_mutex_name(struct ww_mutex *lock, const char *name) { (void)lock, (void)name; }
 #endif
 #endif

@@ -152,6 +152,7 @@ public:
 	// It takes its number now. So where the class has too few, the program ends here with a message, and no lock of it returns
 	// -ENOSPC later: for objects that are made at run time.
 	mutex(mutex_class &c, numbered_t WW_AND_FROM_) noexcept { ww_mutex_init(&it_, &c.it_); }
+	void name(const char *text WW_AND_FROM_) noexcept { ww_mutex_name(&it_, text); } // see ww_mutex_debug.h
 	~mutex()
 	{
 		WW_NOWHERE_;

@@ -40,6 +40,12 @@ extern "C" {
  */
 void ww_class_print(struct ww_class *ww_class, FILE *to) WW_NONNULL_(1, 2);
 /*
+ * Names the mutex in all that this library reports and gdb shows.  The library keeps the pointer: the text must stay as it is until the
+ * mutex is destroyed or gets another name, and no other thread is in ww_class_print.  NULL takes the name away.  Without WW_DEBUG the call
+ * compiles to nothing.
+ */
+void ww_mutex_name(struct ww_mutex *lock, const char *name) WW_NONNULL_(1);
+/*
  * Writes a table, as the kernel's lock_stat: for each line that locks how often it waited, how long in all and how long at most,
  * and how often a context backed off there; and the line at which the mutex of the longest wait had been acquired.  If the
  * environment has WW_LOCK_STAT, the library writes the table to standard error as the program ends.
@@ -71,6 +77,7 @@ void ww_debug_line_(const char *file, int line);
 #ifndef WW_CLASS_H
 #define WW_HERE_ ww_debug_at_(__FILE__, __LINE__)
 #define ww_mutex_init(...) (WW_HERE_, ww_mutex_init(__VA_ARGS__))
+#define ww_mutex_name(...) (WW_HERE_, ww_mutex_name(__VA_ARGS__))
 #define ww_mutex_destroy(...) (WW_HERE_, ww_mutex_destroy(__VA_ARGS__))
 #define ww_mutex_end_(...) (WW_HERE_, ww_mutex_end_(__VA_ARGS__))
 #define ww_acquire_init(...) (WW_HERE_, ww_acquire_init(__VA_ARGS__))

@@ -6,7 +6,8 @@
     (gdb) print MUTEX               also a context or a class
 
 gdb loads this file by itself beside libww.so, if `info auto-load python-scripts` names it; else `source FILE` does. It calls nothing
-in the program, and reads the library's own table of offsets, which is a section of its own (admit/layout.c).
+in the program, and reads the library's own table of offsets, which is a section of its own (admit/layout.c). Without gdb it has no
+commands: tools/top puts functions of its own in the place of those that ask gdb, and reads a program that runs.
 """
 import os
 import re
@@ -15,7 +16,15 @@ import struct
 import threading
 import time
 
-import gdb
+try:
+    import gdb
+except ImportError:
+    gdb = None
+Unreadable = gdb.MemoryError if gdb else OSError
+MOST = 1 << 16  # so many in a queue at most, since a list of a program that runs may be in a circle when it is read
+
+
+# ---- what is asked of gdb ----
 
 
 def memory(at, size):
@@ -35,7 +44,14 @@ def is_core():
     return bool(connection) and connection.type == "core"
 
 
-# ---- threads ----
+def layouts():
+    """The begin and end of each section that has a table of offsets."""
+    sections = re.findall(r"0x(\w+) - 0x(\w+) is \.ww_layout", gdb.execute("info files", to_string=True))
+    return sorted({(int(begin, 16), int(end, 16)) for begin, end in sections})
+
+
+def threads_of_program():
+    return [Thread(it) for it in sorted(gdb.selected_inferior().threads(), key=lambda it: it.num) if it.is_valid()]
 
 
 class Thread:
@@ -51,7 +67,7 @@ class Thread:
         return self.words
 
     def place(self):
-        """Where the program's own code is: the innermost line of it outside libww, or an empty text."""
+        """Where the program's own code is: the innermost line of it outside libww, and what it calls there; or an empty text."""
         self.thread.switch()
         frames, frame = [], gdb.newest_frame()
         try:
@@ -61,12 +77,16 @@ class Thread:
         except gdb.error:
             pass
         libraries = [gdb.solib_name(frame.pc()) or "" for frame in frames]
-        ours = [k for k, frame in enumerate(frames) if re.match("<?ww_", frame.name() or "") or "/libww" in libraries[k]]
+        ours = [k for k, frame in enumerate(frames) if re.match(r"ww_\w+$", frame.name() or "") or "/libww" in libraries[k]]
         frames, libraries = frames[ours[-1] + 1 if ours else 0 :], libraries[ours[-1] + 1 if ours else 0 :]
+        called = ""
         for frame, library in zip(frames, libraries):
-            line = frame.find_sal()
-            if line.symtab and not re.search(r"/(libc|libpthread|ld-linux)[-.]", library) and not line.symtab.filename.startswith("/rustc/"):
-                return f"{frame.name()}, {os.path.basename(line.symtab.filename)}:{line.line}"
+            line, name = frame.find_sal(), frame.name() or ""
+            is_binding = re.match(r"<?ww(_mutex)?::", name)  # of Rust or C++, whose callers' closures it calls
+            is_systems = re.search(r"/(libc|libpthread|ld-linux)[-.]", library) or re.match("<?(std|core|alloc)::", name)
+            if line.symtab and not is_systems and not is_binding:
+                return f"{name}, {os.path.basename(line.symtab.filename)}:{line.line}" + f" in {called}" * bool(called)
+            called = "" if is_binding else re.sub(r"^_*(GI_+)?(libc_)?|@.*|<.*>", "", name)
         own = [frame for frame, library in zip(frames, libraries) if not library] or frames
         return f"{own[0].name() or hex(own[0].pc())}, whose line isn't known" if own else ""
 
@@ -79,11 +99,20 @@ def table(begin, end):
     return {name.rstrip(b"\0").decode(): value for name, value in struct.iter_unpack("<28sI", memory(begin + 16, end - begin - 16))}
 
 
+def tables():
+    """The tables of each copy of libww in the process, by the address of its list of classes; the debug library has two tables."""
+    found = {}
+    for begin, end in layouts():
+        owners, at = found.get(word(begin), (0, {}))
+        found[word(begin)] = (owners or word(begin + 8), at | table(begin, end))
+    return found
+
+
 class Library:
     """A copy of libww in the process, with its table."""
 
-    def __init__(self, begin, end, threads):
-        self.open, self.owners, self.at = word(begin), word(begin + 8), table(begin, end)
+    def __init__(self, opened, owners, at, threads):
+        self.open, self.owners, self.at = opened, owners, at
         self.threads, self.by_lwp, self.mine = threads, {it.lwp: it for it in threads}, {}
         for k in range(self.at["MANY_OWN"]):
             self.learn(word(self.owners + 8 * k))
@@ -112,11 +141,12 @@ class Class:
         self.struct = self.of("ww_pool.class_")
         self.name = text(word(self.struct + self.at["ww_class.name"])) or hex(self.struct)
         self.is_wait_die = word(self.struct + self.at["ww_class.is_wait_die"], "I")
-        self.mutexes, self.locks, self.taken = (word(self.numbers + self.at["ww_numbers." + it], "I") for it in ("mutexes", "locks", "taken"))
+        self.locks, self.taken = (word(self.numbers + self.at["ww_numbers." + it], "I") for it in ("locks", "taken"))
         self.lies_at, self.held = word(self.numbers + self.at["ww_numbers.lies_at"]), dict(self.owner_words())
         count = word(pool + self.at["ww_pool.threads"] + self.at["ww_seats.count"], "I") + self.of("ww_pool.own_seats", "I")
         size = self.at["sizeof ww_seat"]
         whole, self.used = memory(self.seats, count * size), {}
+        self.counts = self.so_far(whole, count)
         for k in range(count):
             if struct.unpack_from("<I", whole, k * size + self.at["ww_seat.busy"])[0] & self.at["BUSY"]:
                 self.used[k] = Seat(self, k, whole[k * size : (k + 1) * size])
@@ -129,6 +159,13 @@ class Class:
 
     def of(self, field, form="Q"):
         return word(self.pool + self.at[field], form)
+
+    def so_far(self, seats, count):
+        """What happened since the class was opened, as ww_class_stats counts it."""
+        size, sought = self.at["sizeof ww_seat"], self.at["ww_seats.sought"]
+        waits, back_offs = (sum(struct.unpack_from("<Q", seats, k * size + self.at[it])[0] for k in range(count)) for it in ("ww_seat.waits", "ww_seat.back_offs"))
+        for_context = sum(word(self.pool + self.at["ww_pool." + it] + sought) for it in ("threads", "tasks"))
+        return {"waits": waits, "back-offs": back_offs, "waits for a context": for_context, "waits for a permit": self.of("ww_pool.crowd.sought")}
 
     def owner_words(self):
         """Of each mutex that is held: its number, and the seat and the timestamp in its owner word (crates/ww_word)."""
@@ -145,25 +182,38 @@ class Class:
         """Those who wait for a context: the thread of each, or None for a task."""
         lines = self.pool + self.at["ww_pool." + of] + self.at["ww_seats.lines"]
         for k in range(self.at["SERVED"]):
-            it = word(lines + k * self.at["sizeof ww_line"] + self.at["ww_line.first"])
-            while it:
+            it, count = word(lines + k * self.at["sizeof ww_line"] + self.at["ww_line.first"]), 0
+            while it and count < MOST:
                 yield self.library.by_stack(it) if of == "threads" else None
-                it = word(it + self.at["ww_seek.next_"])
+                it, count = word(it + self.at["ww_seek.next_"]), count + 1
+
+    def address(self, number):
+        """Where the mutex of this number is; 0: nowhere."""
+        return word(self.lies_at + 8 * number)
 
     def reader(self, number):
         """The seat of a reader whose slot has this number, or None."""
-        mutex = word(self.lies_at + 8 * number) if number < self.mutexes else 0
+        mutex = self.address(number)
         try:
             is_slot = mutex and word(mutex + self.at["ww_mutex.waiters"], "I") & self.at["IS_SLOT"]
             return self.used.get(word(mutex + self.at["ww_slot.seat"], "I")) if is_slot else None
-        except gdb.MemoryError:
+        except Unreadable:
             return None
+
+    def said(self, number):
+        """What the program calls the mutex (ww_mutex_name), of which the debug library alone knows; a number that was put back has no name."""
+        if "ww_pool.debug" not in self.at:
+            return ""
+        it = word(self.of("ww_pool.debug") + self.at["debug.mutexes"]) + self.at["sizeof holding"] * number
+        puts = word(word(self.numbers + self.at["ww_numbers.puts"]) + 4 * number, "I")
+        return text(word(it + self.at["holding.name"])) if word(it + self.at["holding.puts"], "I") == puts else ""
 
     def mutex(self, number):
         if reader := self.reader(number):
             return f"what {reader} reads"
-        at = word(self.lies_at + 8 * number) if number < self.mutexes else 0
-        return " ".join(filter(None, [name_of(at) or "mutex", str(number), f"at {at:#x}" if at else ""])).replace(" ", ", mutex " if name_of(at) else " ", 1)
+        at, said = self.address(number), self.said(number)
+        name = name_of(at)
+        return f"{name}, " * bool(name) + f"mutex {number}" + f' "{said}"' * bool(said) + f" at {at:#x}" * bool(at)
 
     def holder(self, number):
         return self.used.get(self.held.get(number, (None, 0))[0])
@@ -201,8 +251,7 @@ class Seat:
             number = self.get("ww_seat.user")
             self.thread = next((it for mine, it in library.mine.items() if it and word(mine + at["ww_mine.thread"]) == number), None)
         elif not self.thread and not self.is_task:
-            lies = [word(self.of.lies_at + 8 * it) for it in self.holds if it < self.of.mutexes]
-            contexts = [word(it + at["ww_mutex.ctx"]) for it in lies if it]
+            contexts = [word(it + at["ww_mutex.ctx"]) for it in map(self.of.address, self.holds) if it]
             self.is_guess = True
             self.thread = next(filter(None, map(library.by_stack, contexts)), None)
 
@@ -210,8 +259,8 @@ class Seat:
         slot = self.get("ww_seat.slot")
         if not slot or not word(slot + self.of.at["ww_mutex.ctx"]):
             return []
-        marks = memory(slot + self.of.at["ww_slot.marks"], (self.of.mutexes + 63) // 64 * 8)
-        return [it for it in range(self.of.mutexes) if marks[it // 8] >> it % 8 & 1] if any(marks) else []
+        marks = memory(slot + self.of.at["ww_slot.marks"], (self.of.locks + 63) // 64 * 8)
+        return [it for it in range(self.of.locks) if marks[it // 8] >> it % 8 & 1] if any(marks) else []
 
     def key(self):
         return self.thread or self
@@ -258,9 +307,8 @@ class Look:
     now = None
 
     def __init__(self):
-        sections = re.findall(r"0x(\w+) - 0x(\w+) is \.ww_layout", gdb.execute("info files", to_string=True))
-        threads = [Thread(it) for it in sorted(gdb.selected_inferior().threads(), key=lambda it: it.num) if it.is_valid()]
-        libraries = [Library(int(begin, 16), int(end, 16), threads) for begin, end in sorted({*sections})]
+        threads = threads_of_program()
+        libraries = [Library(opened, *of, threads) for opened, of in tables().items()]
         self.classes, self.is_there = [it for library in libraries for it in library.classes], bool(libraries)
         self.time = None if is_core() else time.clock_gettime_ns(time.CLOCK_MONOTONIC)
 
@@ -282,7 +330,10 @@ class Look:
     def ago(self, since):
         if not since:
             return ""
-        return f" {max(self.time - since, 0) / 1e9:.1f} s" if self.time else f" since {since / 1e9:.3f} s of the monotonic clock"
+        if self.time:
+            return f" {max(self.time - since, 0) / 1e9:.1f} s"
+        newest = max(seat.since for it in self.classes for seat in it.used.values())
+        return f" since {(newest - since) / 1e9:.1f} s before the newest wait"  # a core file doesn't say when it was written
 
 
 def why_nobody_backs_off(cycle):
@@ -296,17 +347,17 @@ def why_nobody_backs_off(cycle):
     return ""
 
 
-def print_cycle(cycle, is_core, is_old):
-    print(f"CYCLE of {len(cycle)}:")
+def lines_of_cycle(cycle, is_core, is_old):
+    yield f"CYCLE of {len(cycle)}:"
     for seat, holder in cycle:
-        print(f"  {seat} waits for {seat.of.mutex(seat.awaits)}, which {holder} holds")
+        yield f"  {seat} waits for {seat.of.mutex(seat.awaits)}, which {holder} holds"
     if why := why_nobody_backs_off(cycle):
         lasts = "a core file doesn't show whether it lasts" if is_core else "`ww waits -again` shows whether it lasts"
         forever = "a second later these were the same waits, so it lasts forever, unless a wait has a time limit or is cancelled"
-        print(f"  no class detects it, since {why}; {forever if is_old else lasts}")
+        yield f"  no class detects it, since {why}; {forever if is_old else lasts}"
         return
     wrong = {True: [seat for seat, holder in cycle if seat.stamp > holder.stamp], False: [holder for seat, holder in cycle if seat.stamp < holder.stamp]}
-    print(f"  {', '.join(map(str, wrong[bool(cycle[0][0].of.is_wait_die)]))} backs off as soon as it runs")
+    yield f"  {', '.join(map(str, wrong[bool(cycle[0][0].of.is_wait_die)]))} backs off as soon as it runs"
 
 
 def print_class(look, it, only):
@@ -331,7 +382,7 @@ def print_class(look, it, only):
         alike[kind] = alike.get(kind, 0) + 1
         if only is not None and not any(only in (*seat.holds, *seat.reads(), seat.awaits) for seat in seats) or alike[kind] > 3:
             continue
-        print(f"  {seats[0]}{place}, {', '.join(sorted({seat.begun() for seat in seats}))}")
+        print(f"  {seats[0]}{place}, {', also '.join(sorted({seat.begun() for seat in seats}))}")
         print("\n".join(lines))
     for kind, count in alike.items():
         if count > 3:
@@ -367,24 +418,20 @@ def forget(*_):
     _look = None
 
 
-for changes in (gdb.events.cont, gdb.events.exited, gdb.events.new_objfile, gdb.events.memory_changed, gdb.events.stop):
-    changes.connect(forget)
-
-
 def run_on(seconds):
     """The program runs on, until it gets a signal that it doesn't see."""
     threading.Timer(seconds, os.kill, (gdb.selected_inferior().pid, signal.SIGINT)).start()
     gdb.execute("continue", to_string=True)
 
 
-class Command(gdb.Command):
+class Command(gdb.Command if gdb else object):
     """libww: ww waits shows who holds mutexes, and who waits for them."""
 
     def __init__(self):
         super().__init__("ww", gdb.COMMAND_STATUS, prefix=True)
 
 
-class Waits(gdb.Command):
+class Waits(gdb.Command if gdb else object):
     """ww waits [-again] [CLASS or MUTEX]: who holds mutexes of libww, and who waits for them since when; -again looks twice."""
 
     def __init__(self):
@@ -411,7 +458,7 @@ class Waits(gdb.Command):
                 if of is None or int(of.address) == it.struct or belongs(of, it):
                     print_class(now, it, None if of is None or int(of.address) == it.struct else number_of(it, of))
             for cycle in now.cycles() if of is None else ():
-                print_cycle(cycle, now.time is None, {seat.wait for seat, _ in cycle} <= old)
+                print("\n".join(lines_of_cycle(cycle, now.time is None, {seat.wait for seat, _ in cycle} <= old)))
         finally:
             select(thread, frame)
 
@@ -438,7 +485,8 @@ def about_context(value, it):
 
 
 def about_class(value, it):
-    return f'class "{it.name}": {it.taken} mutexes, {sum(seat.awaits >= 0 for seat in it.used.values())} wait'
+    many = sum(seat.awaits >= 0 for seat in it.used.values())
+    return f'class "{it.name}": {it.taken} mutexes, {many} wait; in all ' + ", ".join(f"{count} {what}" for what, count in it.counts.items())
 
 
 ABOUT = {"ww_mutex": about_mutex, "ww_acquire_ctx": about_context, "ww_class": about_class}
@@ -461,6 +509,9 @@ def printer_of(value):
     return Printer(value, ABOUT[kind.tag]) if kind.code == gdb.TYPE_CODE_STRUCT and kind.tag in ABOUT else None
 
 
-Command()
-Waits()
-gdb.pretty_printers[:] = [it for it in gdb.pretty_printers if getattr(it, "__name__", "") != "printer_of"] + [printer_of]
+if gdb:
+    Command()
+    Waits()
+    gdb.pretty_printers[:] = [it for it in gdb.pretty_printers if getattr(it, "__name__", "") != "printer_of"] + [printer_of]
+    for changes in (gdb.events.cont, gdb.events.exited, gdb.events.new_objfile, gdb.events.memory_changed, gdb.events.stop):
+        changes.connect(forget)

@@ -83,6 +83,7 @@ static void ring(void)
 
 	for (int k = 0; k < 3; k++)
 		ww_mutex_init(&fork_[k], &forks);
+	ww_mutex_name(&fork_[2], "the third fork");
 	for (size_t k = 0; k < 3; k++)
 		thread("eater", eats, k);
 	until(&forks, 3);
@@ -152,6 +153,7 @@ static void *writes(void *arg)
 }
 static void reader(void)
 {
+	must(ww_class_limit(&pages, 100, 0)); /* so numbers may be greater than that */
 	ww_shared_mutex_init(&index_, &pages);
 	for (int k = 0; k < 4; k++)
 		ww_shared_mutex_init(&page[k], &pages);
@@ -216,8 +218,10 @@ static void *leaks(void *arg)
 static void classes(void)
 {
 	must(ww_class_limit(&few, 100, 2));
+	must(ww_class_limit(&users, 5, 0));
 	ww_mutex_init(&file, &files);
 	ww_mutex_init(&user, &users);
+	ww_mutex_name(&user, "the user of this test"); /* which compiles to nothing without the debug library */
 	pthread_barrier_init(&all, NULL, 2);
 	thread("user", one, 0);
 	thread("file", one, 1);

@@ -1,18 +1,25 @@
-"""Sourced by gdb behind libww-gdb.py: which rows of the library's table may be wrong, and the same is shown."""
-right_table = table
+"""Sourced by gdb behind libww-gdb.py: which rows of the library's tables may be wrong, and the same is shown."""
+right_table, right_memory = table, memory
+
+
+def memory(at, size):
+    """What a wrong number asks for may be more than there is, of which gdb would end."""
+    if size > 1 << 26:
+        raise ValueError("too much")
+    return right_memory(at, size)
 
 
 def shown():
     forget()
     try:
-        return gdb.execute("ww waits", to_string=True) + gdb.execute("output fork_[1]", to_string=True)
+        shown = gdb.execute("ww waits", to_string=True) + gdb.execute("output fork_[1]", to_string=True)
+        return shown + "".join(about_class(None, it) for it in look().classes)
     except (gdb.error, gdb.MemoryError, OverflowError, LookupError, ValueError, struct.error) as error:
         return f"fails: {error}"
 
 
 right = shown()
-begin, end = re.findall(r"0x(\w+) - 0x(\w+) is \.ww_layout", gdb.execute("info files", to_string=True))[0]
-names = [*right_table(int(begin, 16), int(end, 16))]
+names = [it for begin, end in layouts() for it in right_table(begin, end)]
 print("every row:", " ".join(it.replace(" ", "_") for it in names))
 for name in names:
     for off in (8, -8, 4, -4, 64, 1):
@@ -21,3 +28,4 @@ for name in names:
             break
     else:
         print("not seen:", name.replace(" ", "_"))
+print("each was tried")

@@ -145,6 +145,18 @@ static void told_without_need(void)
 	MUST(HERE(ww_mutex_lock(&its, &x)) == -EINVAL);
 }
 
+static void names_a_copy(void)
+{
+	struct ww_mutex copy = a;
+
+	HERE(ww_mutex_name(&copy, "copy"));
+}
+static void names_none(void)
+{
+	static struct ww_mutex none;
+
+	HERE(ww_mutex_name(&none, "none"));
+}
 static void locks_a_copy(void)
 {
 	struct ww_mutex copy = a;
@@ -402,6 +414,7 @@ static void prints(FILE *to)
 {
 	pthread_t threads[2];
 
+	ww_mutex_name(&b, "the second");
 	threads[0] = begin_thread(waits, &x);
 	awaits_waiter(&b);
 	threads[1] = begin_thread(waits, NULL);
@@ -490,6 +503,8 @@ int main(int count, char **words)
 	tells(destroys_held, "ww_mutex_destroy: class \"c\": somebody holds the mutex, or waits for it");
 	tells(told_by_a_thread_that_ends, "ww_mutex_destroy: class \"c\": somebody holds the mutex, or waits for it");
 	tells(destroys_twice, "ww_mutex_destroy: the mutex isn't initialized");
+	tells(names_a_copy, "ww_mutex_name: class \"c\": the mutex is a copy of another one, or was moved");
+	tells(names_none, "ww_mutex_name: the mutex isn't initialized");
 	tells(locks_a_copy, "ww_mutex_lock: class \"c\": the mutex is a copy of another one, or was moved");
 	tells(unlocks_a_copy, "ww_mutex_unlock: class \"c\": the mutex is a copy of another one, or was moved");
 	tells(unlocks_a_copy_without_context, "ww_mutex_unlock: class \"other\": the mutex is a copy of another one, or was moved");

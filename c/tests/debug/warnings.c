@@ -190,9 +190,13 @@ static void wait_for_context(void)
 	}
 }
 
+/* The number goes to another mutex, which has no name. */
 static void stays_open(void)
 {
 	is_thread(2);
+	ww_mutex_name(&a, "which was destroyed");
+	MUST(!ww_mutex_destroy(&a));
+	ww_mutex_init(&a, &c);
 	AT(0, ww_acquire_init(&x, &c));
 	AT(1, ww_mutex_lock(&a, NULL));
 	for (unsigned k = 0; k < 2; k++)
@@ -284,6 +288,13 @@ static void deadlocked(unsigned threads, void *(*work)(void *), unsigned long wa
 }
 
 static void two_classes(void) { deadlocked(2, by_two_classes, 1); }
+static void two_with_names(void)
+{
+	ww_mutex_name(&a, "another");
+	ww_mutex_name(&a, "the account");
+	ww_mutex_name(&other, "the user");
+	two_classes();
+}
 static void two_without(void) { deadlocked(2, without, 2); }
 static void one_without(void) { deadlocked(2, by_context_and_without, 2); }
 static void itself(void) { deadlocked(2, for_itself, 2); }
@@ -372,7 +383,11 @@ static void waits_for_what_was_left(bool for_context)
 	__atomic_store_n(&ahead, for_context ? 0 : 11, __ATOMIC_SEQ_CST);
 	awaits_warnings(1);
 }
-static void for_a_mutex(void) { waits_for_what_was_left(false); }
+static void for_a_mutex(void)
+{
+	ww_mutex_name(&a, "what was left");
+	waits_for_what_was_left(false);
+}
 
 /* The thread that held it has ended. */
 static void *leaves_a(void *arg)
@@ -654,7 +669,7 @@ static void tells_warnings(void)
 	tells(4, 4, without_context, "$2: ww_mutex_lock: class \"c\": " BESIDE "$1\n");
 	tells(4, 4, without_context_beside_one, "$1: ww_mutex_lock: class \"c\": " BESIDE "$0\n");
 	tells(2, 2, wait_for_context, "$1: a wait for a context: class \"c\": " NONE_LEFT "$0\n");
-	tells(2, 2, for_a_mutex, "$1: a wait: class \"c\": it has lasted 10 seconds; mutex 0 is held by what began at $0\n");
+	tells(2, 2, for_a_mutex, "$1: a wait: class \"c\": it has lasted 10 seconds; mutex 0 \"what was left\" is held by what began at $0\n");
 	tells(2, 2, for_what_a_thread_left, "$1: a wait: class \"c\": it has lasted 10 seconds; mutex 0 is held by what a thread that has "
 					    "ended left; it began at $0\n");
 	tells(2, 2, of_another_clock, "$0: a time limit: the time is long past: " CLOCK "$1: a time limit: the time is more than a year away: " CLOCK);
@@ -677,6 +692,9 @@ static void tells_deadlocks(void)
 	tells(2, 2, two_classes, "$1: a wait: no class detects this deadlock of 2 threads\n"
 				 "~0 waits at $1 for mutex 0 of class \"d\", which ~1 holds\n"
 				 "~1 waits at $1 for mutex 0 of class \"c\", which ~0 holds\n");
+	tells(2, 2, two_with_names, "$1: a wait: no class detects this deadlock of 2 threads\n"
+				    "~0 waits at $1 for mutex 0 \"the user\" of class \"d\", which ~1 holds\n"
+				    "~1 waits at $1 for mutex 0 \"the account\" of class \"c\", which ~0 holds\n");
 	tells(4, 2, two_without, "$1: ww_mutex_lock: class \"c\": " BESIDE "$0\n"
 				 "$1: a wait: no class detects this deadlock of 2 threads\n"
 				 "~0 waits at $1 for mutex 4 of class \"c\", which ~1 holds\n"

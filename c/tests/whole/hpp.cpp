@@ -481,6 +481,7 @@ static void ends() WW_NO_SAFETY_ANALYSIS
 	const auto soon = [] { return std::chrono::steady_clock::now() + 1ms; };
 	using hour = std::chrono::time_point<std::chrono::steady_clock, std::chrono::hours>;
 
+	a.name("a");
 	MUST(ww::limits(hour::max()).until()->tv_sec > 3'000'000'000 && !ww::limits(hour::min()).until()->tv_sec);
 	MUST(*ww::lock_all(c, { &a, &b }, [&] { return a.is_locked() && b.is_locked(); }) && !a.is_locked());
 	a.lock();
