@@ -104,13 +104,13 @@ static uint64_t hash_of(const struct ww_table *t, const uint8_t *at, size_t leng
 	return mixed(mixed(mixed(h ^ w)));
 }
 
-static int ask(struct asked *asked, const char *call, struct ww_table *t, struct ww_acquire_ctx *x, const void *key, size_t length)
+static inline int ask(struct asked *asked, const char *call, struct ww_table *t, struct ww_acquire_ctx *x, const void *key, size_t length)
 {
 	if (!NEEDED_BY(call, x)->own || x->own->pool != NEEDED_BY(call, t)->pool || is_loop(x)) {
 		NOTE_MISUSE(t->pool->class_, call, "the context has ended, is of another class, or in a loop");
 		return -EINVAL;
 	}
-	*asked = (struct asked){ t, x, &t->seats[place_among(x->own) - 1], hash_of(t, key, length), { .key = key, .length = length } };
+	*asked = (struct asked){ t, x, &t->seats[place_among(x->own) - 1], hash_of(t, key, length), { .key = key, .length = length, .waits = true } };
 	return 0;
 }
 
@@ -147,10 +147,11 @@ static struct entry **place_in_tree(const struct asked *asked)
  */
 static void unlist_entry(struct ww_table *t, struct entry *e)
 {
-	const struct asked it = { .of = t, .hash = e->hash, .user = { .key = e->key, .length = e->length } };
-	struct entry **at = place_in_tree(&it), **leaf = at, *last;
+	struct entry **at = &bucket_of(t, e->hash)->root, **leaf, *last;
 
-	while ((*leaf)->ways[0] || (*leaf)->ways[1])
+	for (uint64_t h = e->hash; *at != e; h /= 2)
+		at = &(*at)->ways[h % 2];
+	for (leaf = at; (*leaf)->ways[0] || (*leaf)->ways[1];)
 		leaf = &(*leaf)->ways[!(*leaf)->ways[0]];
 	last = *leaf;
 	*at = last;
@@ -251,7 +252,7 @@ static void release(const struct use *u, struct ww_acquire_ctx *x)
  * Ends a use's wait, of which r says how it ended: the context has the key by this use from now on, or by the use that it raises; or
  * the use ends. Returns -ESTALE if the entry was disowned meanwhile, so that the use waited in vain. The bucket is locked.
  */
-static int end_wait(const struct asked *asked, struct use *u, int r)
+static inline int end_wait(const struct asked *asked, struct use *u, int r)
 {
 	if (!r && !u->raises && !u->of->is_dead) {
 		u->shown.waits = false;
@@ -420,7 +421,8 @@ int ww_table_lock(struct ww_table *t, struct ww_acquire_ctx *x, const void *key,
 
 	if (r)
 		return r;
-	asked.user = (struct ww_table_user){ key, length, h.owner, mode, true };
+	asked.user.owner = h.owner;
+	asked.user.mode = mode;
 	if (is_polled(x) && (h.by != WW_TABLE_POLLS || x->own->poller != &t->poller ||
 			     (u && (!is_of(u->of, &asked) || u->shown.mode != mode))))
 		return -EBUSY;
