@@ -55,10 +55,9 @@
  *	marks			slot		who has the slot: see shared.c					again
  *	reads			slot		the user of its seat						destroy-again
  *	slots of_slots		pool, numbers	who makes a slot, under the lock of `numbers`			one-bit
- *	before is_read		use		who has the lock of the bucket					table-raise
- *	is_written is_waiting	use		who has the lock of the bucket					table-raise
+ *	before mode waits	use		who has the lock of the bucket					table-raise
  *	root uses ways is_dead	table		who has the lock of the bucket					table-tree
- *	joined other has_left	table		who has the lock of the owners					table-owners
+ *	joined other		table		who has the lock of the owners					table-owners
  *	entries			table		who makes or frees an entry					table-full
  *	first_			event		who wakes a task, and the loop that takes them			poll_wakers
  *	last_thread		copy		each thread, once						contexts

@@ -601,7 +601,8 @@ int ww_shared_mutex_unlock_shared(struct ww_shared_mutex *m, struct ww_acquire_c
 
 /*
  * Ends the one read of the mutex, by taking back its mark, or, if the context reads nothing else, by releasing its slot. A writer
- * that has already found the mark waits for the slot, and so for all reads by it.
+ * that has already found the mark waits for the slot, and so for all reads by it. The slot can't be given up for that writer and
+ * taken again: the writer clears all its marks, and until the reader has set them again, writers of the other mutexes find none.
  */
 int ww_shared_mutex_end_read(struct ww_shared_mutex *m, struct ww_acquire_ctx *x)
 {

@@ -22,6 +22,7 @@
 #define WW_NO_INLINE
 #include "shared.h"
 #include "../lock/loop.h"
+#include "../lock/mutex.h"
 #include "ww_retry.h"
 #include "ww_table.h"
 #include <string.h>
@@ -33,15 +34,15 @@
 enum { BUCKETS = WW_BUCKETS, SPARES = 32, ROOM = 40 };
 
 struct use {
+	struct ww_table_user shown; /* how the context has the key, or waits for it: what the program is shown */
 	struct entry *of;
 	struct use *next, *before, *earlier, *later; /* among the entry's uses, or the spare ones; and among the context's uses */
-	uint64_t owner;
+	struct use *raises; /* the use by which the context shares the key, if it waits to have the key to itself */
 	uint32_t seat;
-	bool is_read, is_written, is_waiting; /* how the context has the key, or waits for it */
 };
 
 struct entry {
-	struct entry *ways[2]; /* the subtrees; the first one of a spare entry is the next spare entry */
+	struct entry *ways[2]; /* the subtrees */
 	uint64_t hash;
 	struct use *uses;
 	struct ww_shared_mutex *lock;
@@ -52,10 +53,8 @@ struct entry {
 
 struct of_seat {
 	struct use *newest, *polled, *spare_uses; /* the uses by which the seat's context has keys, and by which its poll waits */
-	struct entry *spare;
+	struct entry *spare[SPARES];
 	uint32_t count, spares; /* how many keys the context has, and how many spare entries there are */
-	bool is_told;		/* the context got -EDEADLK by this table, and has released at most a part since */
-	bool has_left;
 	struct of_seat *other;	/* the next one in its list of owners */
 	uint64_t owner;
 	struct ww_retry retry;	/* the context of an owner that has left; `x` is that of one that hasn't */
@@ -70,8 +69,7 @@ struct bucket {
 
 struct ww_table {
 	struct ww_poller poller; /* comes first: see end_polled */
-	struct ww_class *class_;
-	struct ww_pool *opened;
+	struct ww_pool *pool;
 	uint64_t seed;
 	uint32_t limit, spares, entries; /* how many entries there may be, how many each seat may keep, how many there are */
 	struct bucket buckets[BUCKETS];
@@ -83,10 +81,8 @@ struct asked {
 	struct ww_table *of;
 	struct ww_acquire_ctx *x;
 	struct of_seat *me;
-	const void *key;
-	size_t length;
 	uint64_t hash;
-	bool writes;
+	struct ww_table_user user; /* as which others see the context while it waits */
 };
 
 static uint64_t mixed(uint64_t h) { return (h ^ h >> 32) * 0xD6E8FEB86659FD93u; }
@@ -108,13 +104,13 @@ static uint64_t hash_of(const struct ww_table *t, const uint8_t *at, size_t leng
 	return mixed(mixed(mixed(h ^ w)));
 }
 
-static int ask(struct asked *asked, const char *call, struct ww_table *t, struct ww_acquire_ctx *x, const void *key, size_t length)
+static inline int ask(struct asked *asked, const char *call, struct ww_table *t, struct ww_acquire_ctx *x, const void *key, size_t length)
 {
-	if (!NEEDED_BY(call, x)->own || x->own->pool != NEEDED_BY(call, t)->opened || is_loop(x)) {
-		NOTE_MISUSE(NEEDED_BY(call, t)->class_, call, "the context has ended, is of another class, or in a loop");
+	if (!NEEDED_BY(call, x)->own || x->own->pool != NEEDED_BY(call, t)->pool || is_loop(x)) {
+		NOTE_MISUSE(t->pool->class_, call, "the context has ended, is of another class, or in a loop");
 		return -EINVAL;
 	}
-	*asked = (struct asked){ t, x, &t->seats[place_among(x->own) - 1], key, length, hash_of(t, key, length), false };
+	*asked = (struct asked){ t, x, &t->seats[place_among(x->own) - 1], hash_of(t, key, length), { .key = key, .length = length, .waits = true } };
 	return 0;
 }
 
@@ -132,7 +128,7 @@ static struct bucket *lock_bucket(struct ww_table *t, uint64_t hash)
 
 static bool is_of(const struct entry *e, const struct asked *asked)
 {
-	return e->hash == asked->hash && e->length == asked->length && !memcmp(e->key, asked->key, asked->length);
+	return e->hash == asked->hash && e->length == asked->user.length && !memcmp(e->key, asked->user.key, asked->user.length);
 }
 
 /* The place in its bucket's tree at which the key's entry is, or is to come. */
@@ -146,8 +142,8 @@ static struct entry **place_in_tree(const struct asked *asked)
 }
 
 /*
- * Takes the entry out of its tree. The bucket is locked. Any entry below it may come to its place; here one that has none below
- * itself does.
+ * Takes the entry out of its tree. The bucket is locked. An entry that has none below itself comes to its place, which may be any of
+ * those below it, or itself.
  */
 static void unlist_entry(struct ww_table *t, struct entry *e)
 {
@@ -158,71 +154,73 @@ static void unlist_entry(struct ww_table *t, struct entry *e)
 	for (leaf = at; (*leaf)->ways[0] || (*leaf)->ways[1];)
 		leaf = &(*leaf)->ways[!(*leaf)->ways[0]];
 	last = *leaf;
+	*at = last;
 	*leaf = NULL;
-	if (last != e) {
-		memcpy(last->ways, e->ways, sizeof e->ways);
-		*at = last;
-	}
+	memmove(last->ways, e->ways, sizeof e->ways);
+	e->is_dead = true;
 }
 
 /* Frees the entry. The context that released its mutex may still be about to leave it, so the number is left, and not put back. */
 static void free_entry(struct ww_table *t, struct entry *e)
 {
-	ww_number_leave(e->lock->mutex_.number, t->class_);
+	ww_number_leave(e->lock->mutex_.number, t->pool->class_);
 	free(e);
 	__atomic_fetch_sub(&t->entries, 1, __ATOMIC_RELAXED);
 }
 
-/* Puts a new entry for the key at this place of the tree. The bucket is locked. */
+/* Puts a spare entry or a new one for the key at this place of the tree. The bucket is locked. */
 static int new_entry(const struct asked *asked, struct entry **at)
 {
-	struct entry *e = asked->me->spare;
-	size_t room = asked->length > ROOM ? asked->length : ROOM;
+	struct ww_table *t = asked->of;
+	struct of_seat *me = asked->me;
+	size_t length = asked->user.length, room = length > ROOM ? length : ROOM;
+	struct entry *e = me->spares ? me->spare[me->spares - 1] : NULL;
 	uint32_t number;
-	int r = 0;
 
-	if (e && e->room >= asked->length) {
-		asked->me->spare = e->ways[0];
-		asked->me->spares--;
-	} else if (__atomic_fetch_add(&asked->of->entries, 1, __ATOMIC_RELAXED) >= asked->of->limit) {
-		r = -ENOSPC;
-	} else if (!(e = malloc(sizeof *e + room))) {
-		r = -ENOMEM;
-	} else if ((r = ww_number_take(&number, asked->of->class_))) {
-		free(e);
+	if (e && e->room >= length) {
+		me->spares--;
 	} else {
-		e->lock = ww_number_at(number, asked->of->class_);
-		e->room = room;
+		int r = __atomic_fetch_add(&t->entries, 1, __ATOMIC_RELAXED) >= t->limit ? -ENOSPC : 0;
+
+		e = r ? NULL : malloc(sizeof *e + room);
+		r = r ? r : e ? ww_number_take(&number, t->pool->class_) : -ENOMEM;
+		if (r) {
+			free(e);
+			__atomic_fetch_sub(&t->entries, 1, __ATOMIC_RELAXED);
+			return r;
+		}
+		*e = (struct entry){ .lock = ww_number_at(number, t->pool->class_), .room = room };
 	}
-	if (r) {
-		__atomic_fetch_sub(&asked->of->entries, 1, __ATOMIC_RELAXED);
-		return r;
-	}
-	*e = (struct entry){ .hash = asked->hash, .lock = e->lock, .length = asked->length, .room = e->room };
-	memcpy(e->key, asked->key, asked->length);
+	*e = (struct entry){ .hash = asked->hash, .lock = e->lock, .length = length, .room = e->room };
+	memcpy(e->key, asked->user.key, length);
 	*at = e;
 	return 0;
 }
 
 /* ---- uses ---- */
 
-/* The use by which the context has the entry's key, or NULL. The bucket is locked. */
+/* The use by which the context has the entry's key, or NULL, also if there is no entry. The bucket is locked. */
 static struct use *held_by(const struct entry *e, const struct ww_acquire_ctx *x)
 {
-	struct use *u = ww_shared_mutex_is_written_by(e->lock, x) || ww_shared_mutex_is_read_by(e->lock, x) ? e->uses : NULL;
+	bool has = e && (ww_shared_mutex_is_written_by(e->lock, x) || ww_shared_mutex_is_read_by(e->lock, x));
+	struct use *u = has ? e->uses : NULL;
 
-	while (u && (u->seat != place_among(x->own) || u->is_waiting))
+	while (u && (u->seat != place_among(x->own) || u->shown.waits))
 		u = u->next;
 	return u;
 }
 
 /* Begins a use of the entry that waits for the key. The bucket is locked. */
-static void begin_use(const struct asked *asked, struct use *u, struct entry *e, uint64_t owner)
+static struct use *begin_use(const struct asked *asked, struct entry *e, struct use *had)
 {
-	*u = (struct use){ e, e->uses, NULL, NULL, NULL, owner, place_among(asked->x->own), !asked->writes, asked->writes, true };
+	struct use *u = asked->me->spare_uses;
+
+	asked->me->spare_uses = u->next;
+	*u = (struct use){ .shown = asked->user, .of = e, .next = e->uses, .raises = had, .seat = place_among(asked->x->own) };
+	u->shown.key = e->key;
 	if (e->uses)
 		e->uses->before = u;
-	e->uses = u;
+	return e->uses = u;
 }
 
 /* Ends a use. With its last use the entry becomes spare, or is freed. The bucket is locked. */
@@ -239,133 +237,130 @@ static void end_use(struct ww_table *t, struct of_seat *me, struct use *u)
 		return;
 	if (!e->is_dead)
 		unlist_entry(t, e);
-	if (me->spares == t->spares) {
+	if (me->spares < t->spares)
+		me->spare[me->spares++] = e;
+	else
 		free_entry(t, e);
-		return;
-	}
-	e->ways[0] = me->spare;
-	me->spare = e;
-	me->spares++;
 }
 
-/* Lets the context have the key by this use; or, if the context had the key by another use, raises that one. The bucket is locked. */
-static void grant(const struct asked *asked, struct use *u, struct use *had)
+static void release(const struct use *u, struct ww_acquire_ctx *x)
 {
-	if (had) {
-		had->is_written = true;
-		end_use(asked->of, asked->me, u);
-		return;
-	}
-	u->is_waiting = false;
-	u->earlier = asked->me->newest;
-	if (u->earlier)
-		u->earlier->later = u;
-	asked->me->newest = u;
-	asked->me->count++;
+	(void)(u->shown.mode == WW_TABLE_EXCLUSIVE ? ww_shared_mutex_unlock : ww_shared_mutex_end_read)(u->of->lock, x);
 }
 
-/* What the program is shown of a use. The bucket is locked. */
-static struct ww_table_user seen(const struct use *u)
+/*
+ * Ends a use's wait, of which r says how it ended: the context has the key by this use from now on, or by the use that it raises; or
+ * the use ends. Returns -ESTALE if the entry was disowned meanwhile, so that the use waited in vain. The bucket is locked.
+ */
+static inline int end_wait(const struct asked *asked, struct use *u, int r)
 {
-	return (struct ww_table_user){ u->of->key, u->of->length, u->owner,
-				       u->is_written ? WW_TABLE_EXCLUSIVE : WW_TABLE_SHARED, u->is_waiting };
+	if (!r && !u->raises && !u->of->is_dead) {
+		u->shown.waits = false;
+		u->earlier = asked->me->newest;
+		if (u->earlier)
+			u->earlier->later = u;
+		asked->me->newest = u;
+		asked->me->count++;
+		return 0;
+	}
+	if (!r && u->raises) {
+		u->raises->shown.mode = WW_TABLE_EXCLUSIVE;
+		(void)ww_shared_mutex_end_read(u->of->lock, asked->x);
+	} else if (!r) {
+		release(u, asked->x);
+		r = -ESTALE;
+	}
+	end_use(asked->of, asked->me, u);
+	return r;
 }
+
+static int settle(const struct asked *asked, struct use *u, int r)
+{
+	struct bucket *b = lock_bucket(asked->of, u->of->hash);
+
+	r = end_wait(asked, u, r);
+	pthread_mutex_unlock(&b->lock);
+	return r;
+}
+
+/* ---- tries ---- */
 
 /* Whether somebody has the entry's key, and `meets` agrees for each of these that nobody waits for it. The bucket is locked. */
 static bool agree(const struct entry *e, const struct ww_table_how *how)
 {
-	bool some = false, all = how->meets;
+	unsigned holders = 0, agreed = 0;
 
-	for (const struct use *u = all ? e->uses : NULL; u; u = u->next)
-		if (!u->is_waiting) {
-			struct ww_table_user user = seen(u);
-
-			all = how->meets(how->data, &user) && all;
-			some = true;
+	for (const struct use *u = how->meets ? e->uses : NULL; u; u = u->next)
+		if (!u->shown.waits) {
+			holders++;
+			agreed += how->meets(how->data, &u->shown);
 		}
-	return all && some;
+	return holders && agreed == holders;
 }
 
 static int lock_entry(const struct asked *asked, const struct entry *e, struct ww_how how)
 {
-	return asked->writes ? ww_shared_write_by(e->lock, asked->x, how) : ww_shared_read_by(e->lock, asked->x, how);
+	return (asked->user.mode == WW_TABLE_EXCLUSIVE ? ww_shared_write_by : ww_shared_read_by)(e->lock, asked->x, how);
 }
 
 /*
- * Tries the key: 0; or -EBUSY, and then `*used` is a use that waits for the key. If the program says of each holder of the key's
- * entry that nobody waits for it, the entry is disowned, unless this context is a holder. The bucket is locked.
+ * Whether the context got -EDEADLK and has yet to release all, as the proved library says of a try of any mutex that the context doesn't
+ * hold. A try that succeeds is taken back.
+ */
+static bool has_to_release(struct ww_acquire_ctx *x, struct ww_mutex *m)
+{
+	int r = x->state & IS_TOLD && x->acquired ? ww_try_by(m, x) : -EBUSY;
+
+	if (!r)
+		(void)unlock_unlisted(m, x);
+	return r == -EINVAL;
+}
+
+/*
+ * Tries the key. If it is taken, and the call waits, `*used` is a use that waits for the key. If the program says of each holder of the
+ * key's entry that nobody waits for it, the entry is disowned, unless this context is a holder, and the key is to be tried again: -ESTALE.
  */
 static int try_key(const struct asked *asked, const struct ww_table_how *how, struct use **used)
 {
-	for (;;) {
-		struct entry **at = place_in_tree(asked);
-		struct use *u = asked->me->spare_uses, *had = *at ? held_by(*at, asked->x) : NULL;
-		int r = 0;
+	struct bucket *b = lock_bucket(asked->of, asked->hash);
+	struct entry **at = place_in_tree(asked);
+	struct use *had = held_by(*at, asked->x), **spare = &asked->me->spare_uses, *u;
+	int r = 0;
 
-		if (had && (had->is_written || !asked->writes))
-			return -EALREADY;
-		if (!u && !(u = asked->me->spare_uses = calloc(1, sizeof *u)))
-			return -ENOMEM;
-		if (!*at && (r = new_entry(asked, at)))
-			return r;
-		asked->me->spare_uses = u->next;
-		begin_use(asked, u, *at, how->owner);
-		if (!lock_entry(asked, *at, (struct ww_how){ .who = NOBODY })) {
-			grant(asked, u, had);
-			return 0;
+	if (had && (had->shown.mode == WW_TABLE_EXCLUSIVE || asked->user.mode == WW_TABLE_SHARED))
+		r = -EALREADY;
+	else if (!*spare && !(*spare = calloc(1, sizeof *u)))
+		r = -ENOMEM;
+	else if (!*at)
+		r = new_entry(asked, at);
+	if (!r) {
+		u = begin_use(asked, *at, had);
+		r = has_to_release(asked->x, &u->of->lock->mutex_) ? -EDEADLK :
+			lock_entry(asked, u->of, (struct ww_how){ .who = NOBODY }) ? -EBUSY : 0;
+		if (r == -EBUSY && !had && agree(u->of, how)) {
+			unlist_entry(asked->of, u->of);
+			r = -ESTALE;
 		}
-		*used = u;
-		if (had || !agree(*at, how))
-			return -EBUSY;
-		u->of->is_dead = true;
-		unlist_entry(asked->of, u->of);
-		end_use(asked->of, asked->me, u);
-	}
-}
-
-/* ---- waits ---- */
-
-static void release(const struct use *u, struct ww_acquire_ctx *x)
-{
-	if (u->is_written)
-		(void)ww_shared_mutex_unlock(u->of->lock, x);
-	if (u->is_read)
-		(void)ww_shared_mutex_end_read(u->of->lock, x);
-}
-
-/*
- * Ends a use's wait, or the use itself; r says how. It returns -ESTALE if the use's entry was disowned meanwhile, so that the use
- * waited in vain.
- */
-static int settle(const struct asked *asked, struct use *u, int r)
-{
-	struct bucket *b = lock_bucket(asked->of, u->of->hash);
-	struct use *had = !r && u->is_written ? held_by(u->of, asked->x) : NULL;
-
-	if (!r && (had || !u->of->is_dead)) {
-		grant(asked, u, had);
-	} else {
-		if (!r)
-			release(u, asked->x);
-		end_use(asked->of, asked->me, u);
-		r = r ? r : -ESTALE;
+		if (r == -EBUSY && how->by != WW_TABLE_TRIES)
+			*used = u;
+		else
+			r = end_wait(asked, u, r);
 	}
 	pthread_mutex_unlock(&b->lock);
 	return r;
 }
 
+/* ---- waits ---- */
+
 /* The program has ended the wait of a poll by another call than the table's: so the use ends, if the poll had one already. */
 static void end_polled(struct ww_poller *it, ww_seat *s)
 {
 	struct ww_table *t = (struct ww_table *)(void *)it;
-	struct of_seat *me = &t->seats[place_among(s) - 1];
-	struct bucket *b = me->polled ? lock_bucket(t, me->polled->of->hash) : NULL;
+	const struct asked asked = { .of = t, .me = &t->seats[place_among(s) - 1] };
 
-	if (!b)
-		return;
-	end_use(t, me, me->polled);
-	me->polled = NULL;
-	pthread_mutex_unlock(&b->lock);
+	if (asked.me->polled)
+		(void)settle(&asked, asked.me->polled, -EINTR);
+	asked.me->polled = NULL;
 }
 
 /* How a lock call waits, unless it tries. A poll goes on, and ends, by the table alone: see end_polled. */
@@ -392,11 +387,16 @@ static int await_refused(const struct asked *asked, const struct ww_table_how *h
 	return 0;
 }
 
-/* Waits for the key by this use, which the context's seat has noted if the context waits by a poll. */
-static int wait_for(const struct asked *asked, struct use *u, const struct ww_table_how *how)
+/*
+ * Waits for the key by this use, which the context's seat has noted if the context waits by a poll. Returns -ESTALE if the key is to be
+ * looked at anew: the entry was disowned meanwhile; or the time has passed, and `waits` is to be asked again.
+ */
+static int wait_for(const struct asked *asked, struct use *u, struct ww_table_how *how)
 {
-	int r;
+	int r = how->waits && !is_polled(asked->x) ? how->waits(how->data, how) : 0;
 
+	if (r)
+		return settle(asked, u, r);
 	asked->me->polled = how->by == WW_TABLE_POLLS ? u : NULL;
 	do {
 		r = await_refused(asked, how);
@@ -406,8 +406,9 @@ static int wait_for(const struct asked *asked, struct use *u, const struct ww_ta
 	if (r == -EINPROGRESS) /* another thread may use the context by now */
 		return r;
 	asked->me->polled = NULL;
-	asked->me->is_told = r == -EDEADLK;
-	return r;
+	if (r == -ETIMEDOUT && how->waits && how->by == WW_TABLE_WAITS)
+		r = -ESTALE;
+	return settle(asked, u, r);
 }
 
 int ww_table_lock(struct ww_table *t, struct ww_acquire_ctx *x, const void *key, size_t length, enum ww_table_mode mode,
@@ -415,38 +416,24 @@ int ww_table_lock(struct ww_table *t, struct ww_acquire_ctx *x, const void *key,
 {
 	struct ww_table_how h = how ? *how : (struct ww_table_how){ 0 };
 	struct asked asked;
-	int r = ask(&asked, "ww_table_lock", t, x, key, length), ends = 0;
+	int r = ask(&asked, "ww_table_lock", t, x, key, length);
 	struct use *u = r ? NULL : asked.me->polled;
 
 	if (r)
 		return r;
-	asked.writes = mode == WW_TABLE_EXCLUSIVE;
+	asked.user.owner = h.owner;
+	asked.user.mode = mode;
 	if (is_polled(x) && (h.by != WW_TABLE_POLLS || x->own->poller != &t->poller ||
-			     (u && (!is_of(u->of, &asked) || u->is_written != asked.writes))))
+			     (u && (!is_of(u->of, &asked) || u->shown.mode != mode))))
 		return -EBUSY;
-	if (asked.me->is_told && x->state & IS_TOLD && x->acquired) /* the context has yet to release all */
-		return -EDEADLK;
-	if (!u && h.by != WW_TABLE_TRIES && (r = await_refused(&asked, &h)))
-		return r;
 	do {
-		if (!u) {
-			struct bucket *b = lock_bucket(t, asked.hash);
-
+		r = u || h.by == WW_TABLE_TRIES ? 0 : await_refused(&asked, &h);
+		if (!r && !u)
 			r = try_key(&asked, &h, &u);
-			if (r == -EBUSY && h.by == WW_TABLE_TRIES)
-				end_use(t, asked.me, u);
-			pthread_mutex_unlock(&b->lock);
-			if (r != -EBUSY || h.by == WW_TABLE_TRIES)
-				return r;
-			ends = h.waits ? h.waits(h.data, &h) : 0;
-		}
-		r = ends ? ends : wait_for(&asked, u, &h);
-		if (r == -EINPROGRESS)
-			return r;
-		r = settle(&asked, u, r);
+		if (u)
+			r = wait_for(&asked, u, &h);
 		u = NULL;
-		/* The entry was disowned meanwhile (-ESTALE); or `waits` is asked again, since its time has passed. */
-	} while (r == -ESTALE || (r == -ETIMEDOUT && !ends && h.waits && h.by == WW_TABLE_WAITS));
+	} while (r == -ESTALE);
 	return r;
 }
 
@@ -460,7 +447,6 @@ static void give_up(const struct asked *asked, struct use *u)
 	asked->me->count--;
 	release(u, asked->x);
 	(void)settle(asked, u, -EINVAL);
-	asked->me->is_told &= asked->x->acquired > 0;
 }
 
 /* The context's use of the key is of the entry in the tree, or else of an entry that was disowned. */
@@ -469,27 +455,25 @@ int ww_table_unlock(struct ww_table *t, struct ww_acquire_ctx *x, const void *ke
 	struct asked asked;
 	int r = is_polled(NEEDED(x)) ? -EBUSY : ask(&asked, "ww_table_unlock", t, x, key, length);
 	struct bucket *b;
-	struct entry *e;
 	struct use *u;
 
 	if (r)
 		return r;
 	b = lock_bucket(t, asked.hash);
-	e = *place_in_tree(&asked);
-	u = e ? held_by(e, x) : NULL;
+	u = held_by(*place_in_tree(&asked), x);
 	pthread_mutex_unlock(&b->lock);
 	for (struct use *each = asked.me->newest; each && !u; each = each->earlier)
 		u = is_of(each->of, &asked) ? each : NULL;
 	if (u)
 		give_up(&asked, u);
 	else
-		NOTE_MISUSE(t->class_, "ww_table_unlock", "the context doesn't have the key");
+		NOTE_MISUSE(t->pool->class_, "ww_table_unlock", "the context doesn't have the key");
 	return u ? 0 : -EINVAL;
 }
 
 size_t ww_table_mark(struct ww_table *t, const struct ww_acquire_ctx *x)
 {
-	return NEEDED(x)->own && x->own->pool == NEEDED(t)->opened ? t->seats[place_among(x->own) - 1].count : 0;
+	return NEEDED(x)->own && x->own->pool == NEEDED(t)->pool ? t->seats[place_among(x->own) - 1].count : 0;
 }
 
 void ww_table_unlock_to(struct ww_table *t, struct ww_acquire_ctx *x, size_t mark)
@@ -509,11 +493,8 @@ static size_t show(const struct entry *e, bool all, void (*see)(void *data, cons
 {
 	size_t count = 0;
 
-	for (const struct use *u = e ? e->uses : NULL; u; u = u->next, count++) {
-		struct ww_table_user user = seen(u);
-
-		see(data, &user);
-	}
+	for (const struct use *u = e ? e->uses : NULL; u; u = u->next, count++)
+		see(data, &u->shown);
 	for (unsigned k = 0; e && all && k < 2; k++)
 		count += show(e->ways[k], all, see, data);
 	return count;
@@ -522,13 +503,12 @@ static size_t show(const struct entry *e, bool all, void (*see)(void *data, cons
 size_t ww_table_see(struct ww_table *t, const void *key, size_t length, void (*see)(void *data, const struct ww_table_user *user),
 		    void *data)
 {
-	struct asked asked = { .of = NEEDED(t), .key = key, .length = length, .hash = key ? hash_of(t, key, length) : 0 };
+	struct asked asked = { .of = NEEDED(t), .hash = key ? hash_of(t, key, length) : 0, .user = { .key = key, .length = length } };
 	size_t count = 0;
 
 	for (unsigned k = 0; k < (key ? 1 : BUCKETS); k++) {
-		struct bucket *b = key ? bucket_of(t, asked.hash) : &t->buckets[k];
+		struct bucket *b = lock_bucket(t, key ? asked.hash : (uint64_t)k << 32);
 
-		pthread_mutex_lock(&b->lock);
 		count += show(key ? *place_in_tree(&asked) : b->root, !key, see, data);
 		pthread_mutex_unlock(&b->lock);
 	}
@@ -539,30 +519,27 @@ size_t ww_table_see(struct ww_table *t, const void *key, size_t length, void (*s
 
 static struct bucket *lock_owners(struct ww_table *t, uint64_t owner) { return lock_bucket(t, mixed(mixed(owner ^ t->seed))); }
 
-static void add_owner(struct ww_table *t, uint64_t owner, struct of_seat *seat, bool has_left)
+static void add_owner(struct ww_table *t, uint64_t owner, struct of_seat *seat)
 {
 	struct bucket *b = lock_owners(t, owner);
 
 	seat->owner = owner;
-	seat->has_left = has_left;
 	seat->other = b->joined;
 	b->joined = seat;
 	pthread_mutex_unlock(&b->lock);
 }
 
-/*
- * The seat of the owner that has left, or of the one that hasn't (`has_left`); or NULL. If it `removes` the seat, that isn't listed
- * any more.
- */
-static struct of_seat *find_owner(struct ww_table *t, uint64_t owner, bool has_left, bool removes)
+/* The seat of the owner, or NULL. Who takes the seat, maybe only that of an owner that has left, finds it as one that isn't listed any more. */
+enum finding { FINDS, TAKES, TAKES_LEFT };
+static struct of_seat *find_owner(struct ww_table *t, uint64_t owner, enum finding how)
 {
 	struct bucket *b = lock_owners(t, owner);
 	struct of_seat **at = &b->joined, *seat;
 
-	while (*at && ((*at)->owner != owner || (*at)->has_left != has_left))
+	while (*at && ((*at)->owner != owner || (how == TAKES_LEFT && !(*at)->retry.ticket_)))
 		at = &(*at)->other;
 	seat = *at;
-	if (seat && removes)
+	if (seat && how != FINDS)
 		*at = seat->other;
 	pthread_mutex_unlock(&b->lock);
 	return seat;
@@ -574,50 +551,49 @@ static struct of_seat *find_owner(struct ww_table *t, uint64_t owner, bool has_l
  */
 int ww_table_join(struct ww_table *t, uint64_t owner, uint64_t former, const struct timespec *until, struct ww_acquire_ctx **ctx)
 {
-	struct of_seat *seat = find_owner(NEEDED(t), owner, false, false);
-	struct ww_retry none = { 0 };
+	struct of_seat *seat = find_owner(NEEDED(t), owner, FINDS);
 	struct ww_acquire_ctx x;
-	int r;
+	int r = 0;
 
+	if (!seat && (seat = find_owner(t, former, TAKES_LEFT)))
+		add_owner(t, owner, seat);
 	if (!seat) {
-		seat = find_owner(t, owner, true, true);
-		seat = seat ? seat : find_owner(t, former, true, true);
-		r = ww_acquire_resume(&x, t->class_, seat ? &seat->retry : &none, until);
-		if (r == -ETIMEDOUT && seat) {
-			ww_retry_at_once(&seat->retry);
-			r = ww_acquire_resume(&x, t->class_, &seat->retry, until);
-		}
-		if (r && seat)
-			add_owner(t, owner, seat, true);
+		r = ww_acquire_init_until(&x, t->pool->class_, until);
 		if (r)
 			return r;
 		seat = &t->seats[place_among(x.own) - 1];
 		seat->x = x;
 		NOTE(CONTEXT_RESUMED, .context = &seat->x); /* the context lies there from now on */
-		add_owner(t, owner, seat, false);
+		add_owner(t, owner, seat);
+	} else if (seat->retry.ticket_) {
+		r = ww_acquire_resume(&seat->x, t->pool->class_, &seat->retry, until);
+		if (r == -ETIMEDOUT) {
+			ww_retry_at_once(&seat->retry);
+			r = ww_acquire_resume(&seat->x, t->pool->class_, &seat->retry, until);
+		}
 	}
 	*NEEDED(ctx) = &seat->x;
-	return 0;
+	return r;
 }
 
-/* The context ends elsewhere than in the table, since once it has ended, its seat and that place in the table are another context's. */
+/* Once its context has ended, the seat is another context's, so the owner isn't listed any more by then. */
 int ww_table_leave(struct ww_table *t, uint64_t owner, bool again)
 {
-	struct of_seat *seat = find_owner(NEEDED(t), owner, false, false);
-	struct ww_acquire_ctx x;
+	struct of_seat *seat = find_owner(NEEDED(t), owner, FINDS);
 
-	if (!seat) {
-		seat = find_owner(t, owner, true, !again);
-		return !seat ? -EINVAL : again ? 0 : ww_retry_drop(&seat->retry);
+	if (!seat)
+		return -EINVAL;
+	if (!seat->retry.ticket_) {
+		ww_table_unlock_to(t, &seat->x, 0);
+		if (is_polled(&seat->x) || seat->x.acquired)
+			return -EBUSY;
 	}
-	ww_table_unlock_to(t, &seat->x, 0);
-	if (is_polled(&seat->x) || seat->x.acquired)
-		return -EBUSY;
-	x = find_owner(t, owner, false, true)->x;
-	if (again && !ww_acquire_suspend(&x, &seat->retry))
-		add_owner(t, owner, seat, true);
-	else
-		ww_acquire_fini(&x);
+	if (again && (seat->retry.ticket_ || !ww_acquire_suspend(&seat->x, &seat->retry)))
+		return 0;
+	(void)find_owner(t, owner, TAKES);
+	if (seat->retry.ticket_)
+		return ww_retry_drop(&seat->retry);
+	ww_acquire_fini(&seat->x);
 	return 0;
 }
 
@@ -638,8 +614,7 @@ int ww_table_open(struct ww_table **made, struct ww_class *c, uint32_t keys)
 	if (r || !(t = ww_take_zeros(bytes_of_table(p))))
 		return r ? r : -ENOMEM;
 	t->poller.ends = end_polled;
-	t->class_ = c;
-	t->opened = p;
+	t->pool = p;
 	t->seed = ww_now() ^ (uintptr_t)t;
 	t->limit = keys ? keys : p->numbers.mutexes;
 	t->spares = t->limit / seats_of(p) / 2 < SPARES ? t->limit / seats_of(p) / 2 : SPARES;
@@ -651,18 +626,17 @@ int ww_table_open(struct ww_table **made, struct ww_class *c, uint32_t keys)
 
 int ww_table_close(struct ww_table *t)
 {
-	for (uint32_t k = 0; k < seats_of(NEEDED(t)->opened); k++)
+	for (uint32_t k = 0; k < seats_of(NEEDED(t)->pool); k++)
 		if (t->seats[k].count || t->seats[k].polled)
 			return -EBUSY;
-	for (unsigned k = 0; k < BUCKETS; k++)
-		for (struct of_seat *seat = t->buckets[k].joined; seat; seat = seat->other)
-			(void)(seat->has_left ? ww_retry_drop(&seat->retry) : ww_acquire_fini_checked(&seat->x));
-	for (struct of_seat *me = t->seats; me < &t->seats[seats_of(t->opened)]; me++) {
-		for (struct entry *e; (e = me->spare); free_entry(t, e))
-			me->spare = e->ways[0];
+	for (struct of_seat *me = t->seats; me < &t->seats[seats_of(t->pool)]; me++) {
+		(void)ww_retry_drop(&me->retry);
+		(void)!ww_acquire_fini_checked(&me->x);
+		while (me->spares)
+			free_entry(t, me->spare[--me->spares]);
 		for (struct use *u; (u = me->spare_uses); free(u))
 			me->spare_uses = u->next;
 	}
-	ww_return_zeros(t, bytes_of_table(t->opened));
+	ww_return_zeros(t, bytes_of_table(t->pool));
 	return 0;
 }

@@ -332,6 +332,12 @@ public:
 	// It doesn't wait first for the mutex at which it got -EDEADLK: for who waited in vain, and locks others first.
 	void at_once() noexcept { ww_retry_at_once(&it_); }
 	struct ww_retry *get() noexcept { return &it_; }
+	// For event loops: as ww_acquire_resume_poll, of a context that the loop has, and ends by ww_acquire_end.
+	[[nodiscard]] int resume_poll(struct ww_acquire_ctx &x, struct ww_class &c, struct ww_seek *seek, const struct ww_waker *waker) noexcept
+	{
+		WW_NOWHERE_;
+		return ww_acquire_resume_poll(&x, &c, &it_, seek, waker);
+	}
 };
 
 // A context. Its destructor releases everything that it still holds, and ends it. If it doesn't begin in time, or is cancelled

@@ -73,7 +73,10 @@ struct ww_table_how {
  */
 WW_MUST_CHECK int ww_table_lock(struct ww_table *table, struct ww_acquire_ctx *ctx, const void *key, size_t length,
 				enum ww_table_mode mode, const struct ww_table_how *how) WW_NONNULL_(1, 2);
-/* Releases the key.  -EINVAL: the context doesn't have it; -EBUSY: it waits by a poll; nothing has changed. */
+/*
+ * Releases the key.  Who asks from then on for what was shared doesn't wait for this context; who waited to have it alone waits until
+ * the context shares no key.  -EINVAL: the context doesn't have it; -EBUSY: it waits by a poll; nothing has changed.
+ */
 int ww_table_unlock(struct ww_table *table, struct ww_acquire_ctx *ctx, const void *key, size_t length) WW_NONNULL_(1, 2);
 /* How many keys the context has; and releases all but the first `mark` of them, the newest first, unless the context waits by a poll. */
 size_t ww_table_mark(struct ww_table *table, const struct ww_acquire_ctx *ctx) WW_NONNULL_(1, 2);

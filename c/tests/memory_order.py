@@ -575,23 +575,21 @@ PLAIN = {
     "n->lies_at": "by: ww_open_numbers",
     "n->puts": "by: ww_open_numbers",
     # Of a table. What is read without the lock the use's own context wrote.
-    "b->root": "buckets: ww_table_see",
+    "b->root": "buckets: ",
+    "t->pool": "by: ww_table_open",
     "e->uses": "buckets: ",
-    "e->ways": "buckets: ww_table_close",
+    "e->ways": "buckets: ",
     "u->next": "buckets: ww_table_close",
     "u->before": "buckets: ",
     "e->is_dead": "buckets: ",
     "of->is_dead": "buckets: ",
-    "had->is_written": "buckets: ",
-    "u->is_waiting": "buckets: ",
-    "u->is_written": "buckets: release",
-    "u->is_read": "buckets: release",
+    "shown->waits": "buckets: ",
+    "shown->mode": "buckets: release ww_table_lock",
     "b->joined": "owners: ",
-    "s->other": "owners: ww_table_close",
-    "s->has_left": "owners: ww_table_close",
+    "s->other": "owners: ",
 }
 # What a thread has for itself, or its caller locks, under names of fields that others share; and names under which others stand for the same.
-OWN = ["h", "limiter", "permit", "had", "wait", "waker", "front", "f", "ww_mine", "kept", "counts", "s->seat", "s->id", "last"]
+OWN = ["h", "limiter", "permit", "had", "wait", "waker", "front", "f", "ww_mine", "kept", "counts", "s->seat", "s->id", "last", "how", "asked->user"]
 SAME = {"lock": "m", "owed": "m", "older": "m", "ctx": "x", "victim": "s", "by": "s", "own": "s", "seat": "s", "seats": "s"}
 
 

@@ -387,6 +387,13 @@ extern "C" {
         waker: *const ww_waker,
     ) -> c_int;
     pub fn ww_shared_mutex_await_poll(ctx: *mut ww_acquire_ctx, waker: *const ww_waker) -> c_int;
+    pub fn ww_acquire_resume_poll(
+        ctx: *mut ww_acquire_ctx,
+        class: *mut ww_class,
+        retry: *mut ww_retry,
+        seek: *mut ww_seek,
+        waker: *const ww_waker,
+    ) -> c_int;
     pub fn ww_seek_end(seek: *mut ww_seek);
     pub fn ww_acquire_end_wait(ctx: *mut ww_acquire_ctx) -> c_int;
     pub fn ww_poll_take_back(ctx: *mut ww_acquire_ctx, seek: *mut ww_seek) -> bool;

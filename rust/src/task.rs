@@ -118,7 +118,7 @@ pub(crate) use waker::waking_after;
 
 use crate::class::OfClass;
 use crate::events::{Wait, Watch};
-use crate::{error, ffi, place, Class, Error, Mutex};
+use crate::{error, ffi, place, Class, Error, Mutex, Suspended};
 use body::is_within;
 use core::fmt;
 use core::future::{poll_fn, Future};
@@ -351,18 +351,7 @@ impl<C: Class> Context<C> {
         transaction_::body(async move {
             let Inner { class, .. } = self.tx.inner;
             if !self.tx.inner.own().has_begun() {
-                let (mut seek, mut watch) = (pin!(Seek::new(class, is_within)), Watch::default());
-                let told = poll_fn(|cx| {
-                    let told = seek.as_mut().poll(cx.waker());
-                    if told.is_pending() {
-                        watch.begins(class.hook(), Wait::Context);
-                    }
-                    told
-                })
-                .await;
-                let told = told.map(|raw| self.tx.inner.own().raw = raw);
-                watch.ends(told);
-                return told;
+                return self.seek(Seek::new(class, is_within, None)).await;
             }
             if let Some(first) = self.tx.inner.own().rare().contended {
                 // A context that holds nothing never gets `Deadlock`.
@@ -379,6 +368,51 @@ impl<C: Class> Context<C> {
             self.tx.attempts = self.tx.attempts.saturating_add(1);
             Ok(())
         })
+    }
+
+    async fn seek(&mut self, seek: Seek<'_>) -> Result<(), Error> {
+        let (mut seek, mut watch, class) = (pin!(seek), Watch::default(), self.tx.inner.class);
+        let told = poll_fn(|cx| {
+            let told = seek.as_mut().poll(cx.waker());
+            if told.is_pending() {
+                watch.begins(class.hook(), Wait::Context);
+            }
+            told
+        })
+        .await;
+        let told = told.map(|raw| self.tx.inner.own().raw = raw);
+        watch.ends(told);
+        told
+    }
+
+    /// A context with the age of what a thread suspended, which has waited for the mutex at which that got `Deadlock`; without an age
+    /// it is a new one. If the future is dropped, or fails, the age is still there.
+    ///
+    /// ```
+    /// # use ww_mutex::{class, task::Context, transaction, Error, Mutex, Suspended};
+    /// # class!(struct Accounts: WoundWait);
+    /// async fn deposit(account: &Mutex<Accounts, u64>, age: &mut Suspended<Accounts>) -> Result<(), Error> {
+    ///     let mut context = Context::resume(age).await?;
+    ///     transaction!(in &mut context, |tx| {
+    ///         *tx.lock(account).await? += 1;
+    ///         Ok(())
+    ///     })
+    /// }
+    /// ```
+    ///
+    /// # Errors
+    ///
+    /// [`Error::Cancelled`]; [`Error::OutOfMemory`], if this opens the class.
+    ///
+    /// # Panics
+    ///
+    /// In a forked child, if the class was in use at the fork.
+    pub async fn resume(age: &mut Suspended<C>) -> Result<Self, Error> {
+        let mut context = Self::new();
+        let seek = Seek::new(context.tx.inner.class, is_within(), Some(&mut age.retry));
+        context.seek(seek).await?;
+        context.tx.attempts = 0;
+        Ok(context)
     }
 
     /// Awaits the body, again after each `Deadlock`, as [`run`] does. If it fails, or its future is dropped, everything is

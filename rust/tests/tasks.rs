@@ -1079,3 +1079,36 @@ fn a_chain() {
     });
     assert_eq!(sum, Ok(5050));
 }
+
+/// What a thread suspended goes on in a task, once what was contended is free. If the future is dropped before, it is still suspended.
+#[test]
+fn a_task_goes_on_with_what_a_thread_suspended() {
+    class!(struct Boxes: WaitDie);
+    static BOXES: [Mutex<Boxes, u64>; 2] = [Mutex::new(0), Mutex::new(0)];
+    let (mut age, flag) = (ww_mutex::Suspended::new(), Arc::new(executor::Flag::default()));
+    let mut old = ww_mutex::typed::Context::begin().unwrap();
+    let Ok((_, held)) = old.start().lock(&BOXES[0]) else { panic!() };
+    let told = age.run(Boxes::options(), |tx| {
+        let _other = tx.lock(&BOXES[1])?;
+        tx.lock(&BOXES[0]).map(|_| ())
+    });
+    assert_eq!(told, Err(Error::Deadlock));
+    assert!(executor::poll(pin!(ww_mutex::task::Context::resume(&mut age)), &flag).is_pending());
+    assert!(!age.is_none() && !flag.is_set() && Boxes::counts().contexts == 2);
+    {
+        let mut resumes = pin!(ww_mutex::task::Context::resume(&mut age));
+        assert!(executor::poll(resumes.as_mut(), &flag).is_pending());
+        drop(held);
+        assert!(flag.is_set());
+        let Poll::Ready(Ok(mut context)) = executor::poll(resumes, &flag) else { panic!() };
+        let adds = async {
+            transaction!(in &mut context, |tx| {
+                *tx.lock(&BOXES[0]).await? += 1;
+                Ok(tx.attempts())
+            })
+        };
+        assert_eq!(executor::poll(pin!(adds), &flag), Poll::Ready(Ok(1)));
+    }
+    drop(old);
+    assert!(age.is_none() && Boxes::counts().contexts == 0 && *BOXES[0].lock() == 1);
+}

@@ -140,6 +140,7 @@ _CALLS |= {
 _CALLS |= {
     "ww_acquire_suspend": (ctypes.c_int, _AT, ctypes.POINTER(Retry)),
     "ww_acquire_resume": (ctypes.c_int, _AT, _AT, ctypes.POINTER(Retry), ctypes.POINTER(Time)),
+    "ww_acquire_resume_poll": (ctypes.c_int, _AT, _AT, ctypes.POINTER(Retry), _AT, _AT),
     "ww_retry_drop": (ctypes.c_int, ctypes.POINTER(Retry)),
     "ww_acquire_label": (ctypes.c_int, _AT, ctypes.c_uint64),
     "ww_acquire_why": (ctypes.c_int, _AT, ctypes.POINTER(Reasons)),

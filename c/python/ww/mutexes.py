@@ -195,8 +195,8 @@ class Class:
 
     def context(self, timeout: Optional[float] = None, resumes: Optional[Suspended] = None) -> Context:
         """A context. `with` begins it, or in a task `async with`, and ends it when its block ends in whatever way: then it releases
-        everything that it holds. If all contexts are in use it waits for one, at most for `timeout` seconds (TimeoutError). `resumes`,
-        in a thread, is what Context.suspend returned: it has that age, and first waits for the mutex at which that got Deadlock."""
+        everything that it holds. If all contexts are in use it waits for one, at most for `timeout` seconds (TimeoutError). `resumes`
+        is what Context.suspend returned: it has that age, and first waits for the mutex at which that got Deadlock."""
         return Context(self, timeout, resumes)
 
     async def run_async(self, body: Callable[[TaskContext], Awaitable[_T]], timeout: Optional[float] = None) -> _T:
@@ -286,6 +286,10 @@ class Suspended:
 
     def _resume(self, context: Any, until: Optional[int]) -> int:
         return _in_slices(functools.partial(self._library.ww_acquire_resume, context, self._class._at, self._retry), until)
+
+    def _poll(self, context: Any, seek: Any) -> Callable[[Any], int]:
+        """The same for a task, by a waker or None."""
+        return functools.partial(self._library.ww_acquire_resume_poll, context, self._class._at, self._retry, seek)
 
 
 class Place(NamedTuple):
@@ -493,9 +497,7 @@ class Context(Holder):
 
     async def __aenter__(self) -> TaskContext:
         self._begins_once()
-        if self._resumes:
-            raise _wrong("what is suspended goes on in a thread, and not in a task")
-        context: TaskContext = _tasks().TaskContext(self._class, self._timeout)
+        context: TaskContext = _tasks().TaskContext(self._class, self._timeout, self._resumes)
         self._of_task = context
         await context.begin()
         return context

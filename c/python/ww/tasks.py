@@ -16,7 +16,7 @@ import weakref
 from typing import Any, Callable, Dict, Iterable, List, Optional, Set, Tuple
 
 from .library import Already, Deadlock, Library, at_caller, told, unexpected
-from .mutexes import Class, Holder, Mutex, SharedMutex, _ending, _until
+from .mutexes import Class, Holder, Mutex, SharedMutex, Suspended, _ending, _until
 
 
 _os: Any = os  # Older type checkers don't know its eventfd.
@@ -212,8 +212,9 @@ class TaskContext(Holder):
     during a wait holds what it held before: so asyncio.timeout, of Python 3.11, may end waits as well as `timeout` does. But
     asyncio.wait_for of 3.11 may lose a cancel that comes with the end of the wait."""
 
-    def __init__(self, of: Class, timeout: Optional[float] = None) -> None:
+    def __init__(self, of: Class, timeout: Optional[float] = None, resumes: Optional[Suspended] = None) -> None:
         super().__init__(of, timeout)
+        self._resumes = resumes
         self._says: Optional[Callable[[], object]] = None  # What says to the debug library where its last call was made.
         self._task = id(asyncio.current_task())
         self._seek = _Seek()
@@ -252,8 +253,8 @@ class TaskContext(Holder):
         self._got_deadlock &= not is_locked  # What it collided with needn't be awaited any more.
         return is_locked
 
-    async def _wait(self, poll: Callable[[Any], int], until: Optional[int], seek: Any = None) -> int:
-        """What the call returns in the end. If this is cancelled, or the time comes, the wait has ended."""
+    async def _wait(self, poll: Callable[[Any], int], until: Optional[int], seek: Any = None, resumes: bool = False) -> int:
+        """What the call returns in the end. If this is cancelled, or the time comes, the wait has ended; what it resumes is suspended."""
         wakes = _Wakes.of(self._library)
         while True:
             waker, at, future = wakes.begin(self._at, self._seek)
@@ -273,7 +274,7 @@ class TaskContext(Holder):
                     raise _ended()
             except BaseException:
                 self._take_back(seek)
-                if self._library.ww_acquire_end_wait(self._at) == -errno.EDEADLK:
+                if (poll(None) if resumes else self._library.ww_acquire_end_wait(self._at)) == -errno.EDEADLK:
                     self._got_deadlock = True
                 raise
             finally:
@@ -297,14 +298,19 @@ class TaskContext(Holder):
         within = _within()
         self._seek.is_within = within is not None
         seek = ctypes.byref(self._seek)
-        poll = functools.partial(self._library.ww_acquire_init_poll, self._at, self._class._at, seek)
+        poll: Callable[[Any], int] = functools.partial(self._library.ww_acquire_init_poll, self._at, self._class._at, seek)
+        age = self._resumes or None
+        if age:
+            poll = age._poll(self._at, seek)
         try:
             if poll(None) != 0:
-                told(await self._wait(poll, until, seek))
+                told(await self._wait(poll, until, seek, age is not None))
             # As a thread's: so it knows all that it holds, and one call releases that.
             self._library.ww_tries_begin_(self._at)
             _around.set((weakref.ref(self), within))
         except BaseException:
+            if age is not None and not self._library.ww_acquire_end_wait(self._at):  # It has come to go on.
+                age._suspend(self._at)
             self._end()
             raise
 

@@ -1398,6 +1398,7 @@ static void reads_end_one_by_one(void)
 		MUST(!ww_shared_mutex_end_read(&list[k], &x) && ww_shared_mutex_end_read(&list[k], &x) == -EINVAL && x.acquired == !!left);
 		is_over[k] = true;
 		MUST(!ww_shared_mutex_is_read_by(&list[k], &x) && ww_shared_mutex_trylock(&list[k], &y) && !ww_shared_mutex_unlock(&list[k], &y));
+		MUST(!ww_shared_mutex_lock_poll(&list[k], &y, NULL) && !ww_shared_mutex_unlock(&list[k], &y));
 		MUST(ww_shared_mutex_trylock(&list[other], &y) == is_over[other]);
 		if (is_over[other])
 			MUST(!ww_shared_mutex_unlock(&list[other], &y));

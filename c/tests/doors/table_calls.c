@@ -111,6 +111,22 @@ static void shared_no_more(void)
 	ends();
 }
 
+/*
+ * A key that both share and one releases is the other's to write at once, by a try and by a poll, though the first shares another key on:
+ * the entry stays, since the second context has it.
+ */
+static void raised_at_once(void)
+{
+	const struct ww_table_how poll = { .by = WW_TABLE_POLLS };
+
+	begins();
+	MUST(!reads(&a, "1") && !reads(&a, "2") && !reads(&a, "3") && !reads(&b, "2") && !reads(&b, "3"));
+	MUST(writes(&b, "2") == -EBUSY && !unlock(&a, "2") && !writes(&b, "2"));
+	MUST(lock(&b, "3", WW_TABLE_EXCLUSIVE, &poll) == -ETIMEDOUT && !unlock(&a, "3") && !lock(&b, "3", WW_TABLE_EXCLUSIVE, &poll));
+	MUST(writes(&b, "1") == -EBUSY && ww_table_mark(t, &a) == 1);
+	ends();
+}
+
 static void marks(void)
 {
 	begins();
@@ -157,6 +173,26 @@ static void told(void)
 	begins();
 	MUST(!writes(&b, "2") && lock(&a, "2", WW_TABLE_SHARED, &until_past) == -ETIMEDOUT && !writes(&a, "1"));
 	ends();
+}
+
+/*
+ * By Wait-Die a context that got -EDEADLK, and has released its keys and then another mutex, may lock that one first in its retry. And it
+ * has to release other mutexes, too, before it may lock any key.
+ */
+static void told_beside_a_mutex(void)
+{
+	struct ww_mutex besides;
+
+	ww_mutex_init(&besides, &rows);
+	begins();
+	MUST(!writes(&a, "1") && !ww_mutex_lock(&besides, &b) && lock(&b, "1", WW_TABLE_EXCLUSIVE, NULL) == -EDEADLK);
+	ww_table_unlock_to(t, &b, 0);
+	MUST(lock(&b, "2", WW_TABLE_EXCLUSIVE, NULL) == -EDEADLK && writes(&b, "2") == -EDEADLK && reads(&b, "1") == -EDEADLK);
+	ww_mutex_unlock(&besides);
+	MUST(!unlock(&a, "1") && !ww_mutex_lock(&besides, &b) && !lock(&b, "1", WW_TABLE_EXCLUSIVE, NULL) && b.acquired == 2);
+	ww_mutex_unlock(&besides);
+	ends();
+	MUST(!ww_mutex_destroy(&besides));
 }
 
 /* ---- who is in the way ---- */
@@ -307,6 +343,7 @@ static void owners(void)
 	MUST(ww_table_leave(t, 7, true) == -EINVAL && ww_table_leave(t, 7, false) == -EINVAL);
 	MUST(!ww_table_join(t, 7, 7, NULL, &x) && !ww_table_join(t, 8, 8, NULL, &y) && x != y);
 	MUST(!writes(x, "1") && !ww_table_join(t, 7, 9, NULL, &x) && ww_table_mark(t, x) == 1);
+	MUST(!ww_table_join(t, 12, 7, NULL, &y) && y != x && !ww_table_leave(t, 12, false) && !ww_table_join(t, 8, 8, NULL, &y)); /* 7 hasn't left */
 	/* 8 is the younger one, and after its retry as another owner it is so still, but older than 9 */
 	MUST(!writes(y, "2") && lock(y, "1", WW_TABLE_EXCLUSIVE, NULL) == -EDEADLK && !ww_table_leave(t, 8, true) && !ww_table_leave(t, 8, true));
 	MUST(!ww_table_join(t, 9, 9, &past, &x) && !ww_table_join(t, 10, 8, &past, &y) && !writes(x, "9"));
@@ -402,9 +439,11 @@ int main(void)
 	modes();
 	raised();
 	shared_no_more();
+	raised_at_once();
 	marks();
 	refused_arguments();
 	told();
+	told_beside_a_mutex();
 	expires();
 	polls();
 	ended_otherwise();

@@ -118,7 +118,16 @@ static void contexts()
 		MUST(!age.empty() && x.error() == -EINVAL && x.lock(b) == -EINVAL && x.suspend().empty() && !b.is_locked());
 	}
 	MUST(context(rows, age, 1ms).error() == -ETIMEDOUT && !age.empty());
+	// An event loop goes on by polls. A poll without a waker leaves it suspended.
+	int woken = 0;
+	const ww_waker waker = { [](void *, void *task) { ++*static_cast<int *>(task); }, nullptr, &woken };
+	ww_seek seek = {};
+	ww_acquire_ctx of_loop;
+	MUST(age.resume_poll(of_loop, rows, &seek, &waker) == -EINPROGRESS && age.empty());
+	MUST(age.resume_poll(of_loop, rows, &seek, nullptr) == -ETIMEDOUT && !age.empty() && !woken);
+	MUST(age.resume_poll(of_loop, rows, &seek, &waker) == -EINPROGRESS);
 	older.unlock_all();
+	MUST(woken == 1 && !age.resume_poll(of_loop, rows, &seek, &waker) && !ww_acquire_suspend(&of_loop, age.get()) && !age.empty());
 	{
 		context x(rows, age), fresh(rows);
 		MUST(age.empty() && !x.lock_all({ &a, &b }) && x.held() == 2);

@@ -303,8 +303,8 @@ def fault_of_call(call):
     return 0
 
 
-async def begins(of, timeout=None):
-    async with of.context(timeout):
+async def begins(of, timeout=None, resumes=None):
+    async with of.context(timeout, resumes):
         pass
 
 
@@ -326,6 +326,47 @@ async def waits_in_turn():
     told = await asyncio.gather(*tasks, return_exceptions=True)
     assert order == [2, 3] and [isinstance(it, asyncio.CancelledError) for it in told] == [True, True, False, False]
     await asyncio.wait_for(begins(buffers), LIMIT)
+
+
+async def goes_on_with_its_age():
+    """A task goes on with what a thread suspended, once what that collided with is free. If its wait ends before, that is still suspended."""
+    buffers = made(ww.WAIT_DIE)
+    one, other = ww.Mutex(buffers), ww.Mutex(buffers)
+
+    def is_refused():
+        with buffers.context() as young:
+            young.lock(other)
+            try:
+                young.lock(one)
+            except ww.Deadlock:
+                return young.suspend()
+        return None
+
+    async with buffers.context() as old:
+        await old.lock(one)
+        age = await asyncio.to_thread(is_refused)
+        assert age
+        try:
+            async with buffers.context(timeout=0.01, resumes=age):
+                raise AssertionError("it waited for nothing")
+        except TimeoutError:
+            assert age
+        waits = asyncio.create_task(begins(buffers, resumes=age))
+        await asyncio.sleep(0.01)
+        waits.cancel()
+        assert isinstance((await asyncio.gather(waits, return_exceptions=True))[0], asyncio.CancelledError) and age
+        waits = asyncio.create_task(locks(buffers, other, age))
+        await asyncio.sleep(0.01)
+        assert not waits.done() and not age
+    await asyncio.wait_for(waits, LIMIT)
+
+
+async def locks(of, mutex, age):
+    """It is older than a context that begins now: by Wait-Die that one gets Deadlock, in place of a wait."""
+    async with of.context(resumes=age) as context, of.context() as younger:
+        await context.lock(mutex)
+        await younger.lock(ww.Mutex(of))
+        assert await fault_of(younger.lock(mutex)) == errno.EDEADLK
 
 
 async def begins_within():
@@ -852,6 +893,7 @@ def main():
     asyncio.run(stops_no_loop())
     tells_who_begins_anew()
     asyncio.run(waits_in_turn())
+    asyncio.run(goes_on_with_its_age())
     asyncio.run(begins_within())
     asyncio.run(says_what_came())
     asyncio.run(releases_once())
