@@ -23,6 +23,11 @@ struct tried {
 struct tried rattle_alloc(size_t size, size_t align);
 struct tried rattle_realloc(void *p, size_t kept, size_t size, size_t align);
 void rattle_dealloc(void *p);
+void *ww_heap_set(void *to, int byte, size_t size);
+
+#ifndef MADV_POPULATE_READ
+#define MADV_POPULATE_READ 22 /* of Linux 5.14 */
+#endif
 
 static char none;
 
@@ -118,6 +123,29 @@ void rattle_dealloc(void *p)
 /* ---- what a world writes as it opens ---- */
 
 static bool is_zero(const char *page, size_t size) { return !*page && !memcmp(page, page + 1, size - 1); }
+
+/*
+ * The proved library's memset. A world that opens fills two large blocks with zeros, copies them into the tables of its locks, and
+ * frees them. The system has just given those blocks, so they are zero already. What is zero is only read here: so each page of such
+ * a block is the system's one page of zeros, and no memory is taken for the block, cleared and returned. Large pages would be 2 MiB
+ * of zeros, for which the processor's nearest cache has no room.
+ */
+void *ww_heap_set(void *to, int byte, size_t size)
+{
+	size_t page = (size_t)sysconf(_SC_PAGESIZE);
+	char *at = to, *end = at + size, *from = at_page(at, page);
+
+	if (byte || size < LARGE)
+		return memset(to, byte, size);
+	madvise(from, (size_t)(end - from), MADV_NOHUGEPAGE);
+	madvise(from, (size_t)(end - from), MADV_POPULATE_READ);
+	for (size_t part; at < end; at += part) {
+		part = (size_t)(end - at) < page ? (size_t)(end - at) : page;
+		if (!is_zero(at, part))
+			memset(at, 0, part);
+	}
+	return to;
+}
 
 void ww_heap_opens(void) { taken = &no_pages; }
 

@@ -3,10 +3,10 @@
  *
  * A block that grows or shrinks keeps what was written, and nothing behind it is read or written; what is freed goes
  * back, whichever thread frees it.  Of what a world wrote as it opened each whole page of zeros is returned to the
- * system, and no other page.
+ * system, and no other page.  The heap's memset writes what memset writes, and takes no memory for zeros over zeros.
  */
 #define _GNU_SOURCE
-#include "../mutex_test.h"
+#include "../resident.h"
 #include <stdint.h>
 #include <sys/mman.h>
 
@@ -196,9 +196,33 @@ static void zeros_go(size_t size)
 	MUST(!blocks());
 }
 
+/* Sets all of a block but its first bytes and the last one: a new block, and one in which each byte is written before. */
+static void sets(size_t size, int byte, bool is_new, bool told)
+{
+	enum { FIRST = 3 };
+	char *p = block(size);
+	long before = resident();
+
+	for (size_t k = 0; !is_new && k < size; k++)
+		p[k] = of(k) ? of(k) : 1;
+	MUST(ww_heap_set(p + FIRST, byte, size - FIRST - 1) == p + FIRST);
+	MUST(!told || !is_new || byte || size < LARGE_PAGE || resident() - before < (long)LARGE);
+	for (size_t k = 0; k < size; k++)
+		MUST(p[k] == (k >= FIRST && k < size - 1 ? (char)byte : is_new ? 0 : of(k) ? of(k) : 1));
+	rattle_dealloc(p);
+}
+
 int main(void)
 {
+	const size_t sizes[] = { 100, LARGE, LARGE + 100, LARGE_PAGE + 3 * LARGE + 1 };
+	bool told = is_told();
+
 	page = (size_t)sysconf(_SC_PAGESIZE);
+	if (!told)
+		printf("what is resident can't be told here\n");
+	for (unsigned k = 0; k < 4 * sizeof sizes / sizeof *sizes; k++)
+		if (sizes[k / 4] >= LARGE || k & 1)
+			sets(sizes[k / 4], k & 2 ? 7 : 0, !(k & 1), told);
 	grow_and_shrink();
 	by_any_thread(false);
 	by_any_thread(true);
