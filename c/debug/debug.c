@@ -3,9 +3,9 @@
  * are right by themselves, but dangerous. Each part needs only those before it:
  *
  *	report.c	messages, with the line of the call and a backtrace
- *	slow.c		how long each line of the program waits
  *	check.c		whether seats and contexts are in states of their tables
  *	watch.c		what is known of seats and mutexes: who uses them, and since where
+ *	slow.c		how long each line of the program waits
  *	waits.c		deadlocks that no class detects, and waits that last
  *	debug.c		which calls are right
  */

@@ -72,14 +72,23 @@ static int by_time(const void *one, const void *other)
 
 static void print_line(const struct line *line, FILE *to)
 {
-	fprintf(to, "%8llu %10.1f %10.1f %9llu  ", (unsigned long long)READ_ONCE(line->waits), (double)READ_ONCE(line->all) / 1e6,
+	fprintf(to, "\n%8llu %10.1f %10.1f %9llu  ", (unsigned long long)READ_ONCE(line->waits), (double)READ_ONCE(line->all) / 1e6,
 		(double)READ_ONCE(line->longest) / 1e6, (unsigned long long)READ_ONCE(line->back_offs));
 	ww_print_place(&line->at, to);
 	if (READ_ONCE(line->holder.file)) {
 		fputs(" behind ", to);
 		ww_print_place(&line->holder, to);
 	}
-	fputc('\n', to);
+}
+
+/* Writes a line for each wait that hasn't ended, and so isn't counted yet: of a program that hangs these are the ones. */
+static void print_present_waits(FILE *to)
+{
+	for (const struct ww_pool *p = ww_lock_pools(); p; p = next_pool(p))
+		for (uint32_t k = 0; k < seats_of(p) && !p->gone; k++)
+			if (READ_ONCE(p->debug->seats[k].wants))
+				ww_print_wait(&p->seats[k], to);
+	ww_unlock_pools();
 }
 
 void ww_lock_stat(FILE *to)
@@ -95,9 +104,11 @@ void ww_lock_stat(FILE *to)
 		ww_fault(NULL, "ww_lock_stat", NULL, "an argument is NULL");
 		return;
 	}
-	fputs("   waits     all ms longest ms back-offs  at the line, behind the line that held the mutex longest\n", to);
+	fputs("   waits     all ms longest ms back-offs  at the line, behind the line that held the mutex longest", to);
 	for (unsigned k = 0; k < count; k++)
 		print_line(met[k], to);
+	print_present_waits(to);
+	fputc('\n', to);
 }
 
 /* The environment may ask for the table at the end of the program. */

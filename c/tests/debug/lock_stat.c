@@ -74,6 +74,23 @@ static struct row row_of(int line)
 	return row;
 }
 
+/* Whether the table says that a thread waits at this line now. */
+static bool shows_wait(int line)
+{
+	char *text, words[64];
+	size_t size;
+	FILE *to = open_memstream(&text, &size);
+	bool shows;
+
+	MUST(to);
+	ww_lock_stat(to);
+	MUST(!fclose(to));
+	snprintf(words, sizeof words, "lock_stat.c:%d for mutex ", line);
+	shows = strstr(text, " waits at ") && strstr(text, words);
+	free(text);
+	return shows;
+}
+
 int main(void)
 {
 	struct row row;
@@ -87,6 +104,7 @@ int main(void)
 		ww_mutex_lock(&a, NULL);
 		thread = begin_thread(waits, NULL);
 		awaits_waiter(&a);
+		MUST(shows_wait(line_of_wait));
 		usleep(HELD * 1000);
 		ww_mutex_unlock(&a);
 		end_thread(thread);
