@@ -252,7 +252,7 @@ static void release(const struct use *u, struct ww_acquire_ctx *x)
  * Ends a use's wait, of which r says how it ended: the context has the key by this use from now on, or by the use that it raises; or
  * the use ends. Returns -ESTALE if the entry was disowned meanwhile, so that the use waited in vain. The bucket is locked.
  */
-static inline int end_wait(const struct asked *asked, struct use *u, int r)
+static inline int end_attempt(const struct asked *asked, struct use *u, int r)
 {
 	if (!r && !u->raises && !u->of->is_dead) {
 		u->shown.waits = false;
@@ -278,7 +278,7 @@ static int settle(const struct asked *asked, struct use *u, int r)
 {
 	struct bucket *b = lock_bucket(asked->of, u->of->hash);
 
-	r = end_wait(asked, u, r);
+	r = end_attempt(asked, u, r);
 	pthread_mutex_unlock(&b->lock);
 	return r;
 }
@@ -344,7 +344,7 @@ static int try_key(const struct asked *asked, const struct ww_table_how *how, st
 		if (r == -EBUSY && how->by != WW_TABLE_TRIES)
 			*used = u;
 		else
-			r = end_wait(asked, u, r);
+			r = end_attempt(asked, u, r);
 	}
 	pthread_mutex_unlock(&b->lock);
 	return r;
