@@ -9,7 +9,10 @@
 #include <ww_mutex.h>
 #include <ww_number.h>
 #include <ww_poll.h>
+#include <ww_retry.h>
 #include <ww_shared.h>
+#include <ww_table.h>
+#include <ww_why.h>
 
 namespace {
 
@@ -19,6 +22,7 @@ std::array<ww_mutex, few> mutexes;
 std::array<ww_mutex *, few> list;
 std::array<ww_shared_mutex, few> shared;
 std::array<uint32_t, few> numbers;
+ww_table *keys;
 
 void must(bool fact)
 {
@@ -220,6 +224,50 @@ template <class... Ones> void all_ways()
 
 	ww_class_stats(&objects, &counts);
 }
+[[gnu::noinline]] void call_poll_and_end()
+{
+	ww_acquire_ctx x;
+
+	must(!ww_acquire_init_poll(&x, &objects, nullptr, nullptr));
+	each<written_polled>(&x);
+	must(!ww_acquire_cancel(&x) && !ww_acquire_end_wait(&x) && !ww_acquire_end(&x));
+}
+[[gnu::noinline]] void call_suspend()
+{
+	ww_acquire_ctx x;
+	ww_retry retry{};
+
+	must(!ww_acquire_resume(&x, &objects, &retry, nullptr) && !ww_acquire_suspend(&x, &retry));
+	must(!ww_acquire_resume_poll(&x, &objects, &retry, nullptr, nullptr) && !ww_acquire_suspend(&x, &retry) && !ww_retry_drop(&retry));
+}
+[[gnu::noinline]] void call_why()
+{
+	ww_acquire_ctx x;
+	ww_why why;
+	ww_user user;
+	ww_place place;
+	ww_acquire_counts counts;
+
+	ww_acquire_init(&x, &objects);
+	must(!ww_acquire_label(&x, 1) && !ww_mutex_lock(&mutexes[0], &x));
+	must(!ww_acquire_why(&x, &why) && !ww_acquire_cycle(&x, &place, 1) && !ww_acquire_count(&x, &counts));
+	must(ww_mutex_users(&mutexes[0], &user, 1) == 1);
+	ww_mutex_unlock(&mutexes[0]);
+	ww_acquire_fini(&x);
+}
+[[gnu::noinline]] void call_table()
+{
+	ww_acquire_ctx *x;
+	unsigned k = 0;
+
+	must(!ww_table_join(keys, 1, 1, nullptr, &x));
+	for (; k < few; k++)
+		must(!ww_table_lock(keys, x, &k, sizeof k, k % 2 ? WW_TABLE_SHARED : WW_TABLE_EXCLUSIVE, nullptr));
+	k = 0;
+	must(!ww_table_unlock(keys, x, &k, sizeof k) && !ww_table_see(keys, &k, sizeof k, nullptr, nullptr));
+	ww_table_unlock_to(keys, x, 1);
+	must(ww_table_mark(keys, x) == 1 && !ww_table_leave(keys, 1, false));
+}
 
 } // namespace
 
@@ -234,6 +282,7 @@ int main(int count, char **words)
 		ww_shared_mutex_init(&shared[k], &objects);
 		must(!ww_number_take(&numbers[k], &objects));
 	}
+	must(!ww_table_open(&keys, &objects, few));
 	for (int times = std::atoi(words[2]); times--;) {
 		all_ways<locked, locked_until, tried, polled, numbered, numbered_tried, read, read_tried, read_polled, written, written_tried,
 			 written_polled>();
@@ -249,5 +298,9 @@ int main(int count, char **words)
 		call_looks();
 		call_without_a_context();
 		call_stats();
+		call_poll_and_end();
+		call_suspend();
+		call_why();
+		call_table();
 	}
 }

@@ -65,7 +65,8 @@
  * the fork.  Any other class that was open gives out no mutexes and no contexts (-EINVAL) until ww_class_free has released it there, and
  * a mutex that had its number can't be locked until it is destroyed and initialized again.  A context from before the fork may release
  * what it holds, and end.  Once one of its lock calls would have to wait, that call and all later ones return -EINVAL.  A program's own
- * handlers of pthread_atfork may lock mutexes, unless they were registered before the library was loaded (dlopen).
+ * handlers of pthread_atfork may lock mutexes, unless they were registered before the library was loaded (dlopen).  A child of
+ * _Fork or clone, which call no such handlers, may use nothing of the library.
  *
  * Several copies.  Each copy of the library, as in a plugin that is linked with the archive, has classes of its own: the program ends
  * with a message where a copy uses a class that another one opened, also before it was closed and loaded again.  Each loaded copy of the
@@ -103,9 +104,9 @@ void ww_mutex_init(struct ww_mutex *lock, struct ww_class *ww_class) WW_NONNULL_
  */
 int ww_mutex_destroy(struct ww_mutex *lock) WW_NONNULL_(1);
 /*
- * Begins a context.  If all contexts of the class are in use, the call waits for one to end, in FIFO order.  A context that isn't ended
- * stays in use, and threads that hold something in one context and wait for another can deadlock: the debug library reports when none
- * came free for ten seconds.
+ * Begins a context.  If all contexts of the class are in use, the call waits for one to end, in FIFO order, so also behind a thread that
+ * gets no processor.  A context that isn't ended stays in use, and threads that hold something in one context and wait for another can
+ * deadlock: the debug library reports when none came free for ten seconds.
  *
  * The age of a context, which decides collisions, is that of this call.  But up to 16 contexts of a thread, one after another, share an
  * age if each backs off by itself: if its first lock comes in ww_until_all_locked, with ww_mutex_lock_all, by number or after

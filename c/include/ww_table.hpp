@@ -63,6 +63,7 @@ class key_bytes {
 public:
 	key_bytes(std::string_view text) noexcept : at_(text.data()), length_(text.size()) {}
 	key_bytes(const char *text) noexcept : key_bytes(std::string_view(text)) {}
+	key_bytes(std::nullptr_t) = delete; // nor a 0, which is no text
 	key_bytes(const void *at, std::size_t length) noexcept : at_(at), length_(length) {}
 	template <class Bytes, class Element = std::remove_reference_t<decltype(*std::declval<const Bytes &>().data())>>
 	key_bytes(const Bytes &bytes) noexcept : at_(bytes.data()), length_(bytes.size() * sizeof(Element))

@@ -10,6 +10,7 @@
 static DEFINE_WW_CLASS(boxes);
 static DEFINE_WW_CLASS(others);
 static struct ww_mutex m, another, elsewhere;
+enum { MANY = 2000 };
 enum asks { NEVER_DID, USES_ANOTHER_CLASS, HOLDS_ANOTHER, TRIED, BEGAN, ASKS };
 
 static void *says(void *what)
@@ -71,6 +72,24 @@ static void *holds(void *began)
 	return NULL;
 }
 
+/* By the seat that lies right before those of threads, for which a thread without one may not take it. */
+static void holds_by_the_last(void)
+{
+	static struct ww_acquire_ctx all[MANY];
+	const ww_seat *last = boxes.pool->before_own;
+	unsigned count = 0;
+
+	do {
+		MUST(count < MANY && !ww_acquire_init_checked(&all[count], &boxes));
+	} while (all[count++].own != last);
+	ww_acquire_fini(&all[--count]);
+	ww_mutex_lock(&m, NULL);
+	MUST(seat_of(&m) == last);
+	is_held_here_alone();
+	while (count--)
+		ww_acquire_fini(&all[count]);
+}
+
 int main(void)
 {
 	ww_mutex_init(&m, &boxes);
@@ -79,6 +98,7 @@ int main(void)
 	end_thread(begin_thread(holds, &m)); /* first: nobody has locked by any seat yet */
 	end_thread(begin_thread(holds, NULL));
 	holds(NULL);
+	holds_by_the_last();
 	puts("held_by: who acquired it, and nobody else");
 	return 0;
 }

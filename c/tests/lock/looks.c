@@ -1,11 +1,13 @@
 /*
  * A look takes no lock, so it waits for nobody: not even for a thread that was preempted within the library.
  *
- * Each call that only asks something is made while this thread has all of the class's own locks, which would make it wait for ever.
+ * Each call that only asks something is made while this thread has all of the class's own locks and that of all classes, which would
+ * make it wait for ever.
  */
 #include "../mutex_test.h"
 #include "../../lock/lock.h"
 #include "ww_shared.h"
+#include "ww_why.h"
 
 static DEFINE_WW_CLASS(boxes);
 static struct ww_mutex held, alone, free_;
@@ -17,7 +19,7 @@ static void locks_the_class(bool is)
 {
 	int (*const does)(pthread_mutex_t *) = is ? pthread_mutex_lock : pthread_mutex_unlock;
 
-	MUST(!does(&boxes.pool->spare) && !does(&boxes.pool->queue) && !does(&boxes.pool->numbers.lock));
+	MUST(!does(&ww_opening) && !does(&boxes.pool->spare) && !does(&boxes.pool->queue) && !does(&boxes.pool->numbers.lock));
 }
 
 static void *asks(void *arg)
@@ -47,12 +49,18 @@ static void look_who_uses(uint32_t its)
 	MUST(!ww_unlock_(spare, its));
 }
 
-/* By a context: tries, and questions of what it has. */
+/* By a context: tries, and questions of what it has, and of who is in its way. */
 static void *asks_by_context(void *arg)
 {
+	struct ww_acquire_counts counts;
+	struct ww_user user;
+	struct ww_why why;
+
 	MUST(!ww_mutex_trylock(&held, &y) && !ww_mutex_trylock(&alone, &y) && !ww_number_trylock(number, &y));
 	MUST(!ww_shared_mutex_trylock(&is_read, &y) && !ww_shared_mutex_trylock(&written, &y) && !ww_shared_mutex_trylock_shared(&written, &y));
 	MUST(!ww_shared_mutex_is_read_by(&is_read, &y) && ww_shared_mutex_is_read_by(&is_read, &x) && ww_shared_mutex_is_written_by(&written, &x));
+	MUST(!ww_acquire_mark(&y) && !ww_acquire_why(&y, &why) && !ww_acquire_cycle(&y, NULL, 0) && !ww_acquire_count(&y, &counts));
+	MUST(ww_mutex_users(&held, &user, 1) == 1 && ww_mutex_users(&is_read.mutex_, &user, 1) == 1 && !ww_mutex_users(&free_, &user, 1));
 	return arg;
 }
 

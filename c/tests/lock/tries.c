@@ -46,6 +46,12 @@ static void one_by_one(void)
 	unlock_first(&x);
 	MUST(!ww_mutex_lock(&cell[1], &y) && y.acquired == 2 && ww_mutex_is_held_by(&cell[1], &y) && is_first_locked());
 	MUST(!ww_acquire_end_try(&y) && !y.acquired && !is_first_locked());
+	/* A function that has released all by itself is to be called again, too. */
+	MUST(!lock_first(&x) && !ww_mutex_lock(&cell[1], &y) && lock_first(&y) == -EDEADLK);
+	ww_mutex_unlock(&cell[1]);
+	MUST(!y.acquired && ww_acquire_end_try(&y));
+	unlock_first(&x);
+	MUST(!ww_mutex_lock(&cell[1], &y) && y.acquired == 2 && !ww_acquire_end_try(&y));
 	MUST(!lock_first(&x) && !ww_mutex_lock(&cell[1], &y));
 	MUST(!(by_number ? ww_number_trylock(number[0], &y) : ww_mutex_trylock(&cell[0], &y)));
 	MUST(!ww_acquire_end_try(&y) && !y.acquired);

@@ -45,6 +45,7 @@ PROGRAMS = [
     ("a table's result that nobody looks at", "ignoring return", "ww::transaction t(table, 1); t.lock(\"k\", shared);",
      "ww::transaction t(table, 1); (void)t.lock(\"k\", shared);"),
     ("a number for a mode", "no matching ", "ww::transaction t(table, 1); (void)t.lock(\"k\", 1);", "ww::transaction t(table, 1); (void)t.lock(\"k\", shared, 1s);"),
+    ("a number for a key", "ambiguous", "ww::transaction t(table, 1); (void)t.lock(0, shared);", "ww::transaction t(table, 1); (void)t.lock(\"0\", shared);"),
     ("a key with padding", "no padding", "ww::transaction t(table, 1); (void)t.lock(std::vector<padded>(1), shared);",
      "ww::transaction t(table, 1); (void)t.lock(std::vector<int>(1), shared);"),
     ("two of one age", "deleted", "ww::suspended age; ww::suspended other(age);", "ww::suspended age; ww::suspended other(std::move(age));"),
