@@ -735,10 +735,10 @@ def waits_in_turn():
 
 
 def resolves(kind):
-    """Two threads that hold what the other wants: the younger one backs off, once; by itself and by hand."""
+    """Two threads that hold what the other wants: the younger one backs off, once; by itself, also if its body returns, and by hand."""
     buffers = made(kind)
     a, b = ww.Mutex(buffers), ww.Mutex(buffers)
-    for by_hand in (False, True):
+    for way in ("raises", "returns", "by hand"):
         told, older_began, both_hold = [], threading.Event(), threading.Barrier(2)
 
         def takes(context, mine, others, name):
@@ -750,10 +750,18 @@ def resolves(kind):
             context.lock(others)
             return name if mine in context and others in context else None
 
+        def body(context):
+            try:
+                return takes(context, b, a, "younger")
+            except ww.Deadlock:
+                if way == "raises":
+                    raise
+                return "the body isn't called again"
+
         def younger():
             older_began.wait()
-            if not by_hand:
-                return buffers.run(lambda context: takes(context, b, a, "younger"))
+            if way != "by hand":
+                return buffers.run(body)
             with buffers.context() as context:
                 assert is_raised(ww.Deadlock, takes, context, b, a, "younger")
                 assert fault_of(context.lock, a) == errno.EINVAL
