@@ -258,11 +258,39 @@ def runs(kind):
     assert jobs.empty() and not sum(values) and any(values) and not table.users() and rows.stats().contexts == 0
 
 
+def returns_after_deadlock(kind):
+    """A body that catches Deadlock and returns is called again: each of two threads has what the other one wants."""
+    table, both, told = ww.Table(made(kind)), threading.Barrier(2), []
+
+    def works(mine, others):
+        met = []
+
+        def body(it):
+            try:
+                it.lock(mine)
+                if not met:
+                    met.append(both.wait())
+                it.lock(others)
+                return it.mark()
+            except ww.Deadlock:
+                return "it isn't called again"
+
+        told.append(table.run(body))
+
+    threads = [threading.Thread(target=works, args=names) for names in (("1", "2"), ("2", "1"))]
+    for thread in threads:
+        thread.start()
+    for thread in threads:
+        thread.join()
+    assert told == [2, 2] and not table.users(), told
+
+
 def main():
     for test in modes, marks, users, ages, contexts, bounds, closes, misuses, cancelled:
         test()
     for kind in ww.WOUND_WAIT, ww.WAIT_DIE:
         runs(kind)
+        returns_after_deadlock(kind)
     print("keys: each call returned what it should, and each sum is exact")
 
 

@@ -6,6 +6,7 @@ import contextlib
 import contextvars
 import ctypes
 import errno
+import functools
 import gc
 import os
 import random
@@ -267,6 +268,26 @@ async def cancelled_soon(context, mutex):
         assert mutex in context
         context.unlock(mutex)
         raise OSError(errno.ETIMEDOUT, "as it should") from None
+
+
+async def returns_after_deadlock(kind):
+    """A body that catches Deadlock and returns is awaited again: each of two tasks has what the other one wants."""
+    buffers = made(kind)
+    a, b, one, other = ww.Mutex(buffers), ww.Mutex(buffers), asyncio.Event(), asyncio.Event()
+
+    async def takes(context, mine, others, has, waits):
+        try:
+            await context.lock(mine)
+            has.set()
+            await waits.wait()
+            await context.lock(others)
+            return mine in context and others in context
+        except ww.Deadlock:
+            return "it isn't awaited again"
+
+    works = (functools.partial(takes, mine=a, others=b, has=one, waits=other), functools.partial(takes, mine=b, others=a, has=other, waits=one))
+    told = await asyncio.wait_for(asyncio.gather(*map(buffers.run_async, works)), LIMIT)
+    assert told == [True, True] and buffers.stats().back_offs, told
 
 
 async def upgrades(kind):
@@ -845,6 +866,7 @@ def main():
         asyncio.run(holds_one(kind))
         asyncio.run(reads(kind))
         asyncio.run(upgrades(kind))
+        asyncio.run(returns_after_deadlock(kind))
         asyncio.run(locks_again(kind))
         asyncio.run(tries_after_deadlock(kind))
         storm(kind, 2, 30, 20, 4, False)
