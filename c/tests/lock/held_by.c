@@ -83,11 +83,37 @@ static void holds_by_the_last(void)
 		MUST(count < MANY && !ww_acquire_init_checked(&all[count], &boxes));
 	} while (all[count++].own != last);
 	ww_acquire_fini(&all[--count]);
+	MUST(ww_mutex_trylock(&m, NULL) == 1 && seat_of(&m) == last);
+	is_held_here_alone();
 	ww_mutex_lock(&m, NULL);
 	MUST(seat_of(&m) == last);
 	is_held_here_alone();
 	while (count--)
 		ww_acquire_fini(&all[count]);
+}
+
+static void *waits_for_a_seat(void *arg)
+{
+	ww_mutex_lock(arg, NULL);
+	MUST(ww_mutex_is_held_by(arg, NULL));
+	ww_mutex_unlock(arg);
+	return NULL;
+}
+
+/* By a seat for which it waited, since the only one was in use. */
+static void holds_by_the_only(void)
+{
+	static struct ww_class narrow = { .contexts = 1 };
+	struct ww_acquire_ctx x;
+	struct ww_mutex one;
+	pthread_t thread;
+
+	ww_mutex_init(&one, &narrow);
+	ww_acquire_init(&x, &narrow);
+	thread = begin_thread(waits_for_a_seat, &one);
+	awaits_waiter(&one);
+	ww_acquire_fini(&x);
+	end_thread(thread);
 }
 
 int main(void)
@@ -99,6 +125,7 @@ int main(void)
 	end_thread(begin_thread(holds, NULL));
 	holds(NULL);
 	holds_by_the_last();
+	holds_by_the_only();
 	puts("held_by: who acquired it, and nobody else");
 	return 0;
 }
