@@ -83,6 +83,31 @@ static void is_told(struct ww_acquire_ctx *young, struct ww_acquire_ctx *old, st
 	MUST(ww_mutex_lock(at, young) == -EDEADLK);
 }
 
+/* If it got -EDEADLK at a mutex that another context reads, it waits for that one's reads. */
+static void waits_for_readers(void)
+{
+	struct ww_acquire_ctx old, young;
+	struct ww_retry retry = none;
+	struct ww_shared_mutex read;
+	struct timespec soon;
+
+	ww_shared_mutex_init(&read, &c);
+	ww_acquire_init(&old, &c);
+	ww_acquire_init(&young, &c);
+	MUST(!ww_shared_mutex_lock_shared(&read, &old) && !ww_mutex_lock(&a, &young));
+	awaits_for_a_moment(&old, &a);
+	MUST(ww_shared_mutex_lock(&read, &young) == -EDEADLK);
+	ww_mutex_unlock(&a);
+	MUST(!young.acquired && !ww_acquire_suspend(&young, &retry));
+	soon = in_ms(20);
+	MUST(ww_acquire_resume(&young, &c, &retry, &soon) == -ETIMEDOUT);
+	ww_acquire_end_reads(&old);
+	MUST(!ww_acquire_resume(&young, &c, &retry, NULL));
+	ww_acquire_fini(&young);
+	ww_acquire_fini(&old);
+	MUST(!ww_shared_mutex_destroy(&read));
+}
+
 /* It waits for the contended mutex, by its number; a time limit leaves the value, and who asks for others first keeps the age. */
 static void waits_first(void)
 {
@@ -481,6 +506,7 @@ static void of_class(uint32_t contexts, bool is_wait_die)
 	ww_mutex_init(&b, &c);
 	if (!is_wait_die) {
 		keeps_its_age();
+		waits_for_readers();
 		waits_first();
 		resumes_by_polls();
 		for (unsigned k = 0; k < 3; k++)
