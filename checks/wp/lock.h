@@ -3,8 +3,8 @@
  *
  * source: lock/lock.c
  * proves: note_holder counts_for count_waiter begin_wait end_wait lock_ends wait_on ww_lock_on ww_lock_by
- *	ww_release_on unlock_by ww_unlock_of ww_owns
- * inlines: is_orphaned_by_fork enlist count note_meeting note_asked is_loop is_of_number owner_in unlock_unlisted puts_of
+ *	ww_release_on unlock_by unlock_unlisted ww_unlock_of ww_owns
+ * inlines: is_orphaned_by_fork enlist count note_meeting note_asked is_loop is_of_number owner_in puts_of
  */
 #include "wait.h"
 
@@ -216,15 +216,37 @@ int ww_release_on(ww_seat *s, int r);
     ensures exact: \result == 0 || (\result == -EINVAL && core_has == 0) || (\result == -EBUSY && !rests); */
 static inline int unlock_by(struct ww_mutex *m, ww_seat *s);
 
-/* Of any mutex, by hand: it cuts the list, so that this has only what the context holds. */
-/*@ requires \valid(m) && x != \null && is_caller(x, x->own) && apart(m, x, x->own) && !loops(x);
-    assigns m->ctx, x->acquired, x->newest, OF_SEAT(x->own), CORE;
-    ensures released: \result == 0 ==> x->own->pool->gone || (less_held{Old, Here}(m->number) && rests);
-    ensures kept: \result != 0 ==> same{Old, Here};
+/* Of any mutex, by a context whose list doesn't have it, or has it no more. */
+#define UNLOCKS(m, x) \
+	ensures released: \result == 0 ==> x->own->pool->gone || (less_held{Old, Here}(m->number) && rests); \
+	ensures kept: \result != 0 ==> same{Old, Here}; \
+	ensures user: x->own == \old(x->own) && x->gives == \old(x->gives) && x->own->pool == \old(x->own->pool); \
+	ensures state: x->state == \old(x->state)
+/*@ requires \valid(x) && is_context(x, x->own) && is_seat(x->own) && apart(m, x, x->own);
+    assigns m->ctx, x->acquired, OF_SEAT(x->own), CORE;
+    UNLOCKS(m, x);
+    ensures newest: x->newest == \old(x->newest);
     ensures held: m->number == the_lock && \old(core_has) == 1 && rests{Old} ==> \result == 0;
     ensures says: m->ctx == \null && x->acquired == (unsigned)(\old(x->acquired) - 1);
-    ensures cuts: x->newest == \null;
     ensures child: !rests{Old} && x->own->pool->gone ==> \result == 0; */
+static inline int unlock_unlisted(struct ww_mutex *m, struct ww_acquire_ctx *x);
+/* Of any mutex: in a loop only one that the context's list has, which then has it no more; by hand it cuts the list. */
+/*@ predicate lies_there(struct ww_mutex *m) = is_node(place(m)) && node(place(m)) == m;
+    // the list's mutexes lie apart from the seat and its class, and from this mutex
+    predicate lies_apart(struct ww_acquire_ctx *x, struct ww_mutex *m) = \forall integer k; is_node(k) ==>
+	\separated(node(k), x->own, x->own->pool) && (node(k) == m || \separated(node(k), m)); */
+#define IS_LISTED(x, m) (loops{Old}(x) ==> lies_there(m))
+/*@ requires \valid(m) && m != \null && x != \null && is_caller(x, x->own) && apart(m, x, x->own) && (loops(x) ==> is_list(x) && lies_apart(x, m));
+    assigns m->ctx, x->acquired, x->newest, { node(k)->older | integer k; loops(x) && 0 <= k < nodes }, OF_SEAT(x->own), CORE;
+    UNLOCKS(m, x);
+    ensures held: IS_LISTED(x, m) && m->number == the_lock && \old(core_has) == 1 && rests{Old} ==> \result == 0;
+    ensures says: IS_LISTED(x, m) ==> m->ctx == \null && x->acquired == (unsigned)(\old(x->acquired) - 1);
+    ensures absent: !IS_LISTED(x, m) ==> \result == -EINVAL && is_list(x) && x->acquired == \old(x->acquired);
+    ensures first: loops{Old}(x) && lies_there(m) ==> x->newest == (place(m) == 0 ? node(1) : node(0));
+    ensures later: loops{Old}(x) && lies_there(m) && place(m) > 0 ==> node(place(m) - 1)->older == node(place(m) + 1);
+    ensures others: loops{Old}(x) && lies_there(m) ==> \forall integer k; is_node(k) && k != place(m) - 1 ==> node(k)->older == node(k + 1);
+    ensures cuts: !loops{Old}(x) ==> x->newest == \null;
+    ensures child: IS_LISTED(x, m) && !rests{Old} && x->own->pool->gone ==> \result == 0; */
 int ww_unlock_of(struct ww_mutex *m, struct ww_acquire_ctx *x);
 
 /*@ requires is_seat(s) && number == the_lock;

@@ -338,10 +338,12 @@ static int unlock_alone_on(ww_seat *s, int r);
     ensures kept: \result != 0 ==> same{Old, Here} && seat_taken == 1;
     ensures held: \result == -EINVAL || \result == 0 || \result == -EBUSY; */
 static inline int unlock_alone(struct ww_mutex *m);
-/*@ requires is_mutex(m) && (m->ctx == \null ? seat_taken == 1 : \valid(m->ctx) && \separated(m, m->ctx) && !loops(m->ctx) &&
-	(m->ctx->own != \null ==> is_seat(m->ctx->own) && apart(m, m->ctx, m->ctx->own)));
+/*@ requires is_mutex(m) && (m->ctx == \null ? seat_taken == 1 : \valid(m->ctx) && \separated(m, m->ctx) && (m->ctx->own != \null ==>
+	is_seat(m->ctx->own) && apart(m, m->ctx, m->ctx->own) && (loops(m->ctx) ==> is_list(m->ctx) && lies_apart(m->ctx, m))));
     ensures released: \result == 0 && \old(m->ctx) != \null ==> core_has == 0 || \old(m->ctx)->own->pool->gone;
-    ensures cuts: \result == 0 && \old(m->ctx) != \null ==> \old(m->ctx)->newest == \null;
+    ensures cuts: \result == 0 && \old(m->ctx) != \null && !\old(loops(m->ctx)) ==> \old(m->ctx)->newest == \null;
+    ensures unlists: \result == 0 && \old(m->ctx) != \null && \old(loops(m->ctx)) ==> lies_there(m) &&
+	(place(m) == 0 ? \old(m->ctx)->newest == node(1) : node(place(m) - 1)->older == node(place(m) + 1));
     ensures released_alone: \result == 0 && \old(m->ctx) == \null ==> core_has == 0 || in_child;
     ensures alone: \result == 0 && \old(m->ctx) == \null ==> m->alone == \null && seat_taken == 0;
     ensures kept: \result != 0 ==> same{Old, Here}; */

@@ -80,4 +80,17 @@ void witness_lock_by(void) { w_locks(NO_CALL, 0); /*@ check never: \false; */ ww
 void witness_release_on(void) { w_locks(UNLOCKS, 1); /*@ check never: \false; */ ww_release_on(&w_seat, WW_AGAIN); }
 void witness_unlock_by(void) { w_locks(NO_CALL, 1); /*@ check never: \false; */ unlock_by(&w_mutex, &w_seat); }
 void witness_unlock_of(void) { w_locks(NO_CALL, 1); /*@ check never: \false; */ ww_unlock_of(&w_mutex, &w_context); }
+void witness_unlock_unlisted(void) { w_locks(NO_CALL, 1); /*@ check never: \false; */ unlock_unlisted(&w_mutex, &w_context); }
+/*@ requires ONE_NODE; */
+void witness_listed(void)
+{
+	w_locks(NO_CALL, 1);
+	w_context.gives = w_context.empty_;
+	w_context.newest = &w_mutex;
+	w_mutex.older = NULL;
+	/*@ assert has_lies_there: lies_there(&w_mutex); */
+	/*@ assert here: \valid(node(0)) && \separated(node(0), &w_context) && node(0)->older == node(1); */
+	/*@ assert has_lies_apart: lies_apart(&w_context, &w_mutex); */
+	/*@ check never: \false; */
+}
 void witness_owns(void) { w_locks(NO_CALL, 1); /*@ check never: \false; */ ww_owns(&w_seat, 7); }

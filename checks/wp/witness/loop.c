@@ -14,7 +14,6 @@ static void w_loops(int state)
 	/*@ ghost the_mutex = &w_mutex; */
 }
 
-#define ONE_NODE nodes == 1 && node(0) == &w_mutex && node(1) == \null && place(\null) == 1 && place(&w_mutex) == 0
 #define ONE_MEMBER (\forall struct ww_mutex *m; is_member(m) <==> m == &w_mutex) && (\forall struct ww_mutex *m; is_ahead(m) <==> m == &w_mutex) && \
 	behind(&w_mutex) == 1 && word(&w_mutex.ctx) == 1 && word(&w_mutex.older) == 2
 

@@ -67,3 +67,6 @@ static void w_core(int call, int has, int holds, int told)
 	/*@ ghost core_told = told; */
 	/*@ ghost core_told_of = 7; */
 }
+
+/* The list of what a context acquired is of the mutex alone. */
+#define ONE_NODE nodes == 1 && node(0) == &w_mutex && node(1) == \null && place(\null) == 1 && place(&w_mutex) == 0
