@@ -19,5 +19,6 @@ pub mod Dying
 pub mod Wounding
 pub mod CalledOff
 pub mod Passing
+pub mod Looked
 pub mod Data
 pub mod HandedOver

@@ -41,10 +41,10 @@ g_1 kind = begins_now (g_0 kind) 1 0 (holder_0 kind) (may_turn refl refl refl re
     (seated refl refl refl (omega arith))
     (record { left = λ is. omega arith; rests = refl; no_context = refl; bare = refl; goes_on = refl; untold = refl })
 
-abbrev q_2 : Kind → Desks
+abbrev pub q_2 : Kind → Desks
 q_2 kind = begins_by (q_1 kind) 1 (waiter_1 kind)
 
-g_2 : (kind : Kind) → Shown (second_begins kind).at (q_2 kind)
+pub g_2 : (kind : Kind) → Shown (second_begins kind).at (q_2 kind)
 unfolding put ℕ_discrete lock_at
 g_2 kind = begins_now (g_1 kind) 0 1 (waiter_0 kind) (may_turn refl refl refl refl refl refl) (second_begins kind)
     (seated refl refl refl (omega arith))

@@ -14,7 +14,6 @@ use Rattle.ww_laws.specs.GoingOn.{AreDeadlocked}
 use Rattle.ww_refines.specs.Moment.{core, view, HasToWake, Acts, HasLeftToWait, IsToldOf}
 use Rattle.ww_refines.specs.Moves.{Follows}
 use Rattle.ww_refines.specs.Naps.{ArePlaysOf, is_to_sleep, HaveNone, SleepsLast}
-use Rattle.ww_refines.specs.Seen.{SawWord}
 use Rattle.ww_refines.specs.Runs.{IsOfRun, HasToWaitThere}
 use Rattle.ww_refines.specs.Endless.{IsEndless}
 use Rattle.ww_refines.specs.Deadlocks.{IsScheduledThere, HoldersGoOnThere, EndsSomeWaitThere}
@@ -23,10 +22,9 @@ use Rattle.ww_steps.specs.declared.turn.Answer.{Answer}
 use Rattle.ww_steps.specs.declared.turn.Answer.TheVariants.{Done, Busy, Sleeps}
 use Rattle.ww_steps.specs.declared.outlook.Outlook.{Outlook}
 use Rattle.ww_steps.specs.Situations.{Situation, is_at_rest}
-use Rattle.ww_steps.specs.Answers.{IsFreeAnswer}
 use Rattle.ww_steps.specs.Outlooks.{IsOutlookAnswer, shown_by}
 use Rattle.ww_callers.specs.Stages.{Stage, IsDesk, StandsOutside, IsFirstStage}
-use Rattle.ww_callers.specs.Deeds.{Call, HasDone, Deed, steps, wakes, parks, rises, Does, IsDriven}
+use Rattle.ww_callers.specs.Deeds.{Call, is_free, outlook, HasDone, Deed, calls, steps, answers, wakes, parks, rises, Does, IsDriven}
 
 -- ---- the first stage
 
@@ -58,25 +56,6 @@ SleepsAtItsEnd _ xs = HaveNone is_to_sleep xs
 abbrev pub CallsSleepLast : Type 0
 CallsSleepLast = (key : Start) (call : Call) (s s' : Situation) (a : Answer) (xs : List (Option Step)) → HasDone call s a s' →
     IsDesk s' → ArePlaysOf key s.view xs s'.view → SleepsAtItsEnd a xs
-
--- ---- what its looks saw
-
--- nobody has the lock, and nobody waits for it
-abbrev pub IsFreeThere : State → ℕ → Type 0
-IsFreeThere c n = (c.owner n ≡ Nobody) × (c.queue n ≡ [])
-
--- Whatever the seat of a desk did at the table during a call that looked at lock n: amid that there was a moment of which the
--- answer is true.
-pub record LooksAreTrue : Type 0 where
-  pub free : (key : Start) (s s' : Situation) (n : ℕ) (xs : List (Option Step)) → IsFreeAnswer s n Done s' →
-      ArePlaysOf key s.view xs s'.view →
-      (w : SawWord key s.view xs s'.view n 0) × IsFreeThere (core w.look.moment) n
-  pub busy : (key : Start) (s s' : Situation) (n : ℕ) (xs : List (Option Step)) → is_at_rest s.turn ≡ true →
-      IsFreeAnswer s n Busy s' → ArePlaysOf key s.view xs s'.view →
-      (word : ℕ) × (w : SawWord key s.view xs s'.view n word) × (¬ IsFreeThere (core w.look.moment) n)
-  pub whose : (key : Start) (s s' : Situation) (n : ℕ) (seen : Outlook) (xs : List (Option Step)) →
-      IsOutlookAnswer s n (Ok seen) s' → ArePlaysOf key s.view xs s'.view →
-      (word : ℕ) × (w : SawWord key s.view xs s'.view n word) × (seen ≡ shown_by s.stamp (word_of (core w.look.moment) n))
 
 -- ---- drives are runs
 
@@ -181,3 +160,32 @@ WaitsEndInDrives = (key : Start) (stage : ℕ → Stage key) (deed : ℕ → Dee
     ((s : ℕ) → s < key.seats → IsServed stage deed s) → HoldersGoOnThere (λ j. (stage j).moment) →
     (i s n : ℕ) → s < key.seats → (view (stage i).moment s).waits ≡ suc n →
     InTheEnd i (λ j. EndsSomeWaitThere (stage j).moment (thread_move (deed j)))
+
+-- ---- what looks saw
+
+-- nobody has the lock, and nobody waits for it
+abbrev pub IsFreeThere : State → ℕ → Type 0
+IsFreeThere c n = (c.owner n ≡ Nobody) × (c.queue n ≡ [])
+
+-- desk d is called at i, and answers so at j: that call, or a later one
+pub record AnswersLater (deed : ℕ → Deed) (d i j : ℕ) (call : Call) (a : Answer) : Type 0 where
+  pub called : deed i ≡ calls d
+  pub later : i < j
+  pub answered : deed j ≡ answers d call a
+
+-- at some stage between i and j this was so of the locks
+abbrev pub WasSo : {key : Start} → (ℕ → Stage key) → ℕ → ℕ → (State → Type 0) → Type 0
+WasSo stage i j P = (k : ℕ) × (i < k) × (k < j) × P (core (stage k).moment)
+
+-- What a desk answers about a lock was true at some stage between the call and the answer: that it is free, that it isn't, unless
+-- a lock call of the desk is on its way, and whose it is.
+pub record LooksAreTrue : Type 0 where
+  pub free : (key : Start) (stage : ℕ → Stage key) (deed : ℕ → Deed) → IsEndlessDrive stage deed → (d n i j : ℕ) →
+      AnswersLater deed d i j (is_free n) Done → WasSo stage i j (λ c. IsFreeThere c n)
+  pub busy : (key : Start) (stage : ℕ → Stage key) (deed : ℕ → Deed) → IsEndlessDrive stage deed → (d n i j : ℕ) →
+      AnswersLater deed d i j (is_free n) Busy → is_at_rest ((stage j).desk d).turn ≡ true →
+      WasSo stage i j (λ c. ¬ IsFreeThere c n)
+  pub whose : (key : Start) (stage : ℕ → Stage key) (deed : ℕ → Deed) → IsEndlessDrive stage deed → (d n i j : ℕ) (a : Answer)
+      (seen : Outlook) → AnswersLater deed d i j (outlook n) a →
+      IsOutlookAnswer ((stage j).desk d) n (Ok seen) ((stage (suc j)).desk d) →
+      WasSo stage i j (λ c. seen ≡ shown_by ((stage j).desk d).stamp (word_of c n))

@@ -16,7 +16,7 @@ pub fn calls_sleep_last()
     ensures { CallsSleepLast }
 {}
 
-/// What a desk's look at a lock told was true at a moment during that call.
+/// What a desk's look at a lock told was true at some stage between the call and its answer.
 pub fn looks_are_true()
     ensures { LooksAreTrue }
 {}

@@ -6,7 +6,6 @@ pub mod Playing
 pub mod Outs
 pub mod Telling
 pub mod Napping
-pub mod Seeing
 pub mod Ends
 pub mod Unlocking
 pub mod Serving

@@ -17,7 +17,7 @@ use Rattle.ww_view.specs.declared.view.View.{View}
 use Rattle.ww_view.specs.View.{IsAway, owns}
 use Rattle.ww_view.specs.May.{MayFast, MayEnter, MayJoin, MayDie, MayExit, MayLeave}
 use Rattle.ww_view.specs.Word.{rest_word}
-use Rattle.ww_view.specs.Made.{fast_taken, fast_given, fast_missed}
+use Rattle.ww_view.specs.Made.{fast_taken, fast_given, fast_missed, has_seen_word}
 use Rattle.ww_invariant.specs.declared.cells.Cell.{Cell}
 use Rattle.ww_invariant.specs.declared.cells.Cell.TheVariants.{Line}
 use Rattle.ww_invariant.specs.declared.cells.Part.{Part}
@@ -316,6 +316,10 @@ reads_as key p id n v after =
 abbrev pub misses_as : Start → Picture → (id n : ℕ) → Sight → Picture
 misses_as key p id n v = reads_as key p id n v (fast_missed v.part.core)
 
+-- ... or names that word
+abbrev pub sees_as : Start → Picture → (id n : ℕ) → Sight → Picture
+sees_as key p id n v = reads_as key p id n v (has_seen_word v.part.core n (word_of_lock key p n))
+
 abbrev pub enters_as : Start → Picture → (id n : ℕ) → Sight → Picture
 enters_as key p id n v = let q = p.core.queue n in
     played p (stepped p.table (guard_at key.locks n) (suc v.part.core.who) id [] (entering v n q) (takes (list_at n) (Line q)))
@@ -374,6 +378,10 @@ module _ {key : Start} {p : Picture} (a : At key p) (id d : ℕ) (v : Sight) (ac
 
   pub misses_then : (n : ℕ) → Next a d None (misses_as key p id n v)
   misses_then n = reads_then n (fast_missed v.part.core) (play.misses (owner_at key.locks n))
+
+  pub sees_then : (n : ℕ) → n < key.locks → Next a d None (sees_as key p id n v)
+  sees_then n low = let i = owner_at key.locks n in reads_then n (has_seen_word v.part.core n (word_of_lock key p n))
+      (subst (λ (k : ℕ). play.IsFound a.moment id (v, []) i (has_seen_word v.part.core n k)) (word_there a i _ refl) (play.sees n low))
 
   pub enters_then : (n : ℕ) → n < key.locks → MayEnter v.part.core n → slice_index p.table.words (guard_at key.locks n) ≡ 0 →
       Next a d (Some (performs (Guard v.part.core.who n))) (enters_as key p id n v)

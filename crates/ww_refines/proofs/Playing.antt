@@ -39,7 +39,7 @@ use Rattle.ww_invariant.proofs.Seats.{splits_on, joins_on}
 use Rattle.ww_laws.specs.Scene.{Step, performs, leaves_to_sleep, finds_no_sign, finds_no_cancel, first_of, woken_by}
 use Rattle.ww_laws.proofs.Woken.{another_was}
 use Rattle.ww_refines.specs.Moment.{Moment, IsToldOf, core, view, Acts, HasLeftToWait}
-use Rattle.ww_refines.specs.Moves.{IsRead, IsNoted, cancelled_after, OthersStay, StepsThere, MakesEvent, Looks}
+use Rattle.ww_refines.specs.Moves.{IsRead, IsNoted, cancelled_after, NotesWhatStands, nothing, word, OthersStay, StepsThere, MakesEvent, Looks}
 use Rattle.ww_refines.proofs.Seating.{told_cut, told_in}
 use Rattle.ww_refines.specs.Plays as play
 use Rattle.ww_refines.specs.Plays.{Plays, IsFound, Moved, PlaysAreMoves}
@@ -49,6 +49,11 @@ use Rattle.ww_refines.specs.Naps.{is_event, ReadsOn, ReadsAreMoves}
 same_who : (c : State) (e : Event) (v : View) → (view_after c e v).who ≡ v.who
 same_who c (Begin s) v = refl
 same_who c _ v = refl
+
+-- ... and notes no word of a lock
+same_words : (c : State) (e : Event) (v : View) → (view_after c e v).words_seen ≡ v.words_seen
+same_words c (Begin s) v = refl
+same_words c _ v = refl
 
 -- what is noted in a view may change
 plain : {v v' : View} → v'.inside ≡ v.inside → v'.later ≡ v.later → v'.condemned ≡ v.condemned → v'.debts ≡ v.debts →
@@ -198,6 +203,10 @@ module _ {key : Start} (m : Moment key) (id : ℕ) (me : Sat) (here : get_elem? 
       asleep = refl;
     }
 
+    noted_then : NotesWhatStands key m.table me.0.part.core w.part.core → NotesWhatStands key m.table (view m who) (view then who)
+    noted_then notes = subst (λ (p : Part). NotesWhatStands key m.table (view m who) p.core) (sym part_then)
+        (subst (λ (p : Part). NotesWhatStands key m.table p.core w.part.core) told_here notes)
+
   -- no view changes but in where it stands
   module _ (s : St) (stays : Stays key m.table m.ruled s) (told : (t : ℕ) (p : Part) → IsToldOf m.table t p → IsToldOf s t p) where
     abbrev retold : Moment key
@@ -279,6 +288,11 @@ module _ {key : Start} (m : Moment key) (id : ℕ) (me : Sat) (here : get_elem? 
       (mine_stepped (core m) me.0.part.core mine.part.knows)
       (plain refl refl refl refl refl (λ f. absurd (true≢false (sym f))) (λ u. u))
 
+  -- ... and notes what stands there
+  notes_read : (i : ℕ) (v : View) → IsFound m id me i v → NotesWhatStands key m.table me.0.part.core v
+  notes_read _ _ (play.sees n low) = word n low refl
+  notes_read _ _ _ = nothing refl
+
   read_stays : (i : ℕ) (v : View) → v.who ≡ who → v.owned ≡ me.0.part.core.owned → Knows (core m) v →
       Stays key m.table m.ruled (play.read m id me i v)
   read_stays i v same has knows = moves.looks_on key m.table m.ruled id me here seated i v same
@@ -290,25 +304,27 @@ module _ {key : Start} (m : Moment key) (id : ℕ) (me : Sat) (here : get_elem? 
     out_there : (view m who).inside ≡ 0
     out_there = ap (λ (p : Part). p.core.inside) (sym told_here) ∙ out
 
-    aside : (s : St) (w : Sight) → Stays key m.table m.ruled s → s.views ≡ set m.table.views id w → w.seated ≡ true
-        → w.idle ≡ me.0.idle → w.part.core.who ≡ who → w.part.counts.cancelled ≡ me.0.part.counts.cancelled
-        → IsRead me.0.part.core w.part.core → ReadsOn m who s
-    aside s w stays views w_seated idle w_who cancelled read =
-        let is = part_then s stays.ruled w views w_seated idle w_who m.heeds in record {
-          moment = then s stays.ruled w views w_seated idle w_who m.heeds;
-          table = refl;
-          reads = record {
-            rests = rests;
-            outside = out_there;
-            stay = stay s stays.ruled w views w_seated idle w_who m.heeds;
-            core = stays.is;
-            cancelled = ap (λ (p : Part). p.counts.cancelled) is ∙ cancelled
-                ∙ ap (λ (p : Part). p.counts.cancelled) told_here;
-            heeds = refl;
-            view = subst (λ (p : Part). IsRead (m.part who).core p.core) (sym is)
-                (subst (λ (p : Part). IsRead p.core w.part.core) told_here read);
-          };
-        }
+    module _ (s : St) (w : Sight) where
+      aside : Stays key m.table m.ruled s → s.views ≡ set m.table.views id w → w.seated ≡ true
+          → w.idle ≡ me.0.idle → w.part.core.who ≡ who → w.part.counts.cancelled ≡ me.0.part.counts.cancelled
+          → IsRead me.0.part.core w.part.core → NotesWhatStands key m.table me.0.part.core w.part.core → ReadsOn m who s
+      aside stays views w_seated idle w_who cancelled read notes =
+          let is = part_then s stays.ruled w views w_seated idle w_who m.heeds in record {
+            moment = then s stays.ruled w views w_seated idle w_who m.heeds;
+            table = refl;
+            reads = record {
+              rests = rests;
+              outside = out_there;
+              stay = stay s stays.ruled w views w_seated idle w_who m.heeds;
+              notes = noted_then s stays.ruled w views w_seated idle w_who m.heeds notes;
+              core = stays.is;
+              cancelled = ap (λ (p : Part). p.counts.cancelled) is ∙ cancelled
+                  ∙ ap (λ (p : Part). p.counts.cancelled) told_here;
+              heeds = refl;
+              view = subst (λ (p : Part). IsRead (m.part who).core p.core) (sym is)
+                  (subst (λ (p : Part). IsRead p.core w.part.core) told_here read);
+            };
+          }
 
     retold_aside : (s : St) → Stays key m.table m.ruled s → ((t : ℕ) (p : Part) → IsToldOf m.table t p → IsToldOf s t p)
         → ReadsOn m who s
@@ -319,6 +335,7 @@ module _ {key : Start} (m : Moment key) (id : ℕ) (me : Sat) (here : get_elem? 
         rests = rests;
         outside = out_there;
         stay = retold_stay s stays told;
+        notes = nothing refl;
         core = stays.is;
         cancelled = refl;
         heeds = refl;
@@ -333,19 +350,19 @@ module _ {key : Start} (m : Moment key) (id : ℕ) (me : Sat) (here : get_elem? 
     reads_moved : (x : Option Step) (s : St) → is_event x ≡ false → Plays m id me x s → ReadsOn m who s
     reads_moved _ _ none (play.finds_unsigned hit) = aside _ _
         (read_stays _ _ refl refl (mine_read_none (core m) me.0.part.core mine.part.knows)) refl seated refl refl refl
-        (as_before refl refl refl refl)
+        (as_before refl refl refl refl) (nothing refl)
     reads_moved _ _ none (play.finds_unsigned_for_long hit quiet) = aside _ _
         (read_stays _ _ refl refl (mine_read (core m) me.0.part.core mine.part.knows 0 (sym own_sign ∙ hit) (λ _. quiet)))
-        refl seated refl refl refl (as_before refl refl refl refl)
+        refl seated refl refl refl (as_before refl refl refl refl) (nothing refl)
     reads_moved _ _ none (play.finds_uncancelled hit) = aside _ _
         (read_stays _ _ refl refl (mine_uncancelled (core m) me.0.part.core mine.part.knows)) refl seated refl refl refl
-        (as_before refl refl refl refl)
+        (as_before refl refl refl refl) (nothing refl)
     reads_moved _ _ none (play.finds i v is) = let r = is_read i v is in let n = r.noted in
         aside _ _ (read_stays i v r.who r.owned r.knows) refl seated refl r.who refl
-        (as_before n.inside n.condemned n.debts n.naps)
+        (as_before n.inside n.condemned n.debts n.naps) (notes_read i v is)
     reads_moved _ _ none (play.draws_none may spent) = aside _ _
         (moves.draw_stays key m.table m.ruled id me here seated may spent) refl seated refl refl refl
-        (as_before refl refl refl refl)
+        (as_before refl refl refl refl) (nothing refl)
     reads_moved _ _ none (play.cuts_off p ps idle) = let v = me.0 in let stays =
         splits_on key id v p ps seated idle m.table m.ruled here in
         retold_aside _ stays (told_cut m.table _ id v here seated p ps idle refl)
@@ -359,7 +376,8 @@ module _ {key : Start} (m : Moment key) (id : ℕ) (me : Sat) (here : get_elem? 
 
     module _ (s : St) (r : Ruled key s) (w : Sight) (views : s.views ≡ set m.table.views id w)
         (w_seated : w.seated ≡ true)
-        (idle : w.idle ≡ me.0.idle) (w_who : w.part.core.who ≡ who) (heeds : ℕ → Bool) where
+        (idle : w.idle ≡ me.0.idle) (w_who : w.part.core.who ≡ who) (heeds : ℕ → Bool)
+        (notes : NotesWhatStands key m.table me.0.part.core w.part.core) where
       abbrev now : Moment key
       now = then s r w views w_seated idle w_who heeds
 
@@ -367,7 +385,11 @@ module _ {key : Start} (m : Moment key) (id : ℕ) (me : Sat) (here : get_elem? 
       at_now = part_then s r w views w_seated idle w_who heeds
 
       there : StepsThere m now who
-      there = record { acts = acts; stay = stay s r w views w_seated idle w_who heeds }
+      there = record {
+        acts = acts;
+        stay = stay s r w views w_seated idle w_who heeds;
+        notes = noted_then s r w views w_seated idle w_who heeds notes;
+      }
 
       makes_event : (e : Event) → actor e ≡ who → Possible (core m) e → r.core ≡ after (core m) e →
           w.part.core ≡ view_after (core m) e me.0.part.core →
@@ -394,11 +416,12 @@ module _ {key : Start} (m : Moment key) (id : ℕ) (me : Sat) (here : get_elem? 
         ((u : ℕ) → woken_by (core m) e ≡ Some u → u < key.seats) → Moved m who (Some (performs e)) s
     event_moved e log s w makes views w_seated idle own knows cancelled naps woken =
         let w_who : w.part.core.who ≡ who = (ap (λ (v : View). v.who) knows ∙ same_who (core m) e me.0.part.core) in
-        let made = makes_event s makes.ruled w views w_seated idle w_who m.heeds e own makes.can makes.is knows cancelled
+        let notes = nothing (ap (λ (v : View). v.words_seen) knows ∙ same_words (core m) e me.0.part.core) in
+        let made = makes_event s makes.ruled w views w_seated idle w_who m.heeds notes e own makes.can makes.is knows cancelled
         in record {
           moment = then s makes.ruled w views w_seated idle w_who m.heeds;
           table = refl;
-          there = there s makes.ruled w views w_seated idle w_who m.heeds;
+          there = there s makes.ruled w views w_seated idle w_who m.heeds notes;
           by = own;
           follows = record {
             makes = made;
@@ -418,13 +441,13 @@ module _ {key : Start} (m : Moment key) (id : ℕ) (me : Sat) (here : get_elem? 
         (heeds ≡ true → me.0.part.core.uncancelled ≡ true) → Moved m who (Some (leaves_to_sleep who n heeds)) s
     exit_moved n heeds s w makes views w_seated idle knows cancelled may waits found =
         let w_who : w.part.core.who ≡ who = ap (λ (v : View). v.who) knows in
-        let to = put m.heeds who heeds in record {
+        let to = put m.heeds who heeds in let notes = nothing (ap (λ (v : View). v.words_seen) knows) in record {
           moment = then s makes.ruled w views w_seated idle w_who to;
           table = refl;
-          there = there s makes.ruled w views w_seated idle w_who to;
+          there = there s makes.ruled w views w_seated idle w_who to notes;
           by = refl;
           follows = record {
-            makes = makes_event s makes.ruled w views w_seated idle w_who to
+            makes = makes_event s makes.ruled w views w_seated idle w_who to notes
                 (Unguard who n) refl makes.can makes.is knows cancelled;
             may = subst (λ (p : Part). MayLeave p.core n) told_here may;
             waits = subst (λ (p : Part). p.core.waits ≡ suc n) told_here waits;
@@ -437,7 +460,8 @@ module _ {key : Start} (m : Moment key) (id : ℕ) (me : Sat) (here : get_elem? 
 
     module _ (s : St) (w : Sight) (stays : Stays key m.table m.ruled s) (views : s.views ≡ set m.table.views id w)
         (w_seated : w.seated ≡ true) (idle : w.idle ≡ me.0.idle) (w_who : w.part.core.who ≡ who)
-        (cancelled : w.part.counts.cancelled ≡ me.0.part.counts.cancelled) where
+        (cancelled : w.part.counts.cancelled ≡ me.0.part.counts.cancelled)
+        (notes : NotesWhatStands key m.table me.0.part.core w.part.core) where
       abbrev after_it : Moment key
       after_it = then s stays.ruled w views w_seated idle w_who m.heeds
 
@@ -446,7 +470,7 @@ module _ {key : Start} (m : Moment key) (id : ℕ) (me : Sat) (here : get_elem? 
 
       looks_there : Looks m after_it who
       looks_there = record {
-        there = there s stays.ruled w views w_seated idle w_who m.heeds;
+        there = there s stays.ruled w views w_seated idle w_who m.heeds notes;
         core = stays.is;
         cancelled = ap (λ (p : Part). p.counts.cancelled) part_is ∙ cancelled
             ∙ ap (λ (p : Part). p.counts.cancelled) told_here;
@@ -504,6 +528,7 @@ module _ {key : Start} (m : Moment key) (id : ℕ) (me : Sat) (here : get_elem? 
     retold_moved s stays told = let there : StepsThere m (retold s stays told) who = record {
       acts = acts;
       stay = retold_stay s stays told;
+      notes = nothing refl;
     } in record {
       moment = retold s stays told;
       table = refl;
@@ -595,17 +620,17 @@ module _ {key : Start} (m : Moment key) (id : ℕ) (me : Sat) (here : get_elem? 
         (wakes_none m None refl)
     plays_moved _ _ (play.finds_unsigned hit) = unsigned_moved _ _
         (read_stays _ _ refl refl (mine_read_none (core m) me.0.part.core mine.part.knows)) refl seated refl refl refl
-        (sym own_sign ∙ hit) (inl refl)
+        (nothing refl) (sym own_sign ∙ hit) (inl refl)
     plays_moved _ _ (play.finds_unsigned_for_long hit quiet) = unsigned_moved _ _
         (read_stays _ _ refl refl (mine_read (core m) me.0.part.core mine.part.knows 0 (sym own_sign ∙ hit) (λ _. quiet)))
-        refl seated refl refl refl (sym own_sign ∙ hit) (inr refl)
+        refl seated refl refl refl (nothing refl) (sym own_sign ∙ hit) (inr refl)
     plays_moved _ _ (play.finds_uncancelled hit) = uncancelled_moved _ _
         (read_stays _ _ refl refl (mine_uncancelled (core m) me.0.part.core mine.part.knows)) refl seated refl refl refl
-        (sym own_cancel ∙ hit) refl
+        (nothing refl) (sym own_cancel ∙ hit) refl
     plays_moved _ _ (play.finds i v is) = let r = is_read i v is in
-        noted_moved _ _ (read_stays i v r.who r.owned r.knows) refl seated refl r.who refl r.noted
+        noted_moved _ _ (read_stays i v r.who r.owned r.knows) refl seated refl r.who refl (notes_read i v is) r.noted
     plays_moved _ _ (play.draws_none may spent) = noted_moved _ _
-        (moves.draw_stays key m.table m.ruled id me here seated may spent) refl seated refl refl refl
+        (moves.draw_stays key m.table m.ruled id me here seated may spent) refl seated refl refl refl (nothing refl)
         (plain refl refl refl refl refl (λ f. f) (λ u. u))
     plays_moved _ _ (play.cuts_off p ps idle) = let v = me.0 in let stays =
         splits_on key id v p ps seated idle m.table m.ruled here in

@@ -4,7 +4,6 @@ pub mod Runs
 pub mod Plays
 pub mod Told
 pub mod Naps
-pub mod Seen
 pub mod Endless
 pub mod Deadlocks
 pub mod Contexts

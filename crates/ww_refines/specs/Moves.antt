@@ -1,5 +1,5 @@
 -- How one moment follows another.
-use Rattle.std.specs.Prelude.{ℕ, suc, ◌≡◌, ◌≢◌, ◌<◌, ◌≤◌, ◌+◌, ◌⊎◌, Bool, true, false, List, ◌∷◌, Option, Some, None}
+use Rattle.std.specs.Prelude.{ℕ, suc, ◌≡◌, ◌≢◌, ◌<◌, ◌≤◌, ◌+◌, ◌⊎◌, Bool, true, false, List, ◌∷◌, slice_index, Option, Some, None}
 use Rattle.ww_model.specs.declared.event.Event.{Event}
 use Rattle.ww_model.specs.declared.event.Event.TheVariants.{Unguard, Cancel}
 use Rattle.ww_model.specs.State.{put}
@@ -9,7 +9,8 @@ use Rattle.ww_view.specs.May.{MayLeave}
 use Rattle.ww_view.specs.Made.{view_after, found_none, has_read, found_uncancelled}
 use Rattle.ww_invariant.specs.declared.cells.Start.{Start}
 use Rattle.ww_laws.specs.Scene.{Step, performs, leaves_to_sleep, finds_no_sign, finds_no_cancel, wakes, falls_asleep, rises, woken_by}
-use Rattle.ww_invariant.specs.Rule.{wakes_owed}
+use Rattle.ww_invariant.specs.Layout.{owner_at}
+use Rattle.ww_invariant.specs.Rule.{St, wakes_owed}
 use Rattle.ww_refines.specs.Moment.{Moment, core, view, HasToWake, Acts, HasLeftToWait}
 
 -- the seats whose cancel a seat has set, after its event
@@ -37,6 +38,12 @@ pub record IsNoted (v v' : View) : Type 0 where
   pub fresh : v'.fresh ≡ true → v.fresh ≡ true
   pub uncancelled : v'.uncancelled ≡ true → v.uncancelled ≡ true
 
+-- Of the locks' words a view notes nothing by a step at this table, or that of one lock, as it stands there.
+pub data NotesWhatStands (key : Start) (s : St) (v v' : View) : Type 0 where
+  nothing : v'.words_seen ≡ v.words_seen → NotesWhatStands key s v v'
+  word : (n : ℕ) → n < key.locks → v'.words_seen ≡ (n, slice_index s.words (owner_at key.locks n)) ∷ v.words_seen →
+      NotesWhatStands key s v v'
+
 module _ {key : Start} (m m' : Moment key) where
   -- ---- at the table
 
@@ -52,6 +59,7 @@ module _ {key : Start} (m m' : Moment key) where
   pub record StepsThere (t : ℕ) : Type 0 where
     pub acts : Acts m t
     pub stay : OthersStay t
+    pub notes : NotesWhatStands key m.table (view m t) (view m' t)
 
   -- the step is this event of the locks, and the seat knows of it what its view says then
   pub record MakesEvent (e : Event) : Type 0 where
@@ -107,6 +115,7 @@ module _ {key : Start} (m m' : Moment key) where
     pub rests : HasLeftToWait m t false
     pub outside : (view m t).inside ≡ 0
     pub stay : OthersStay t
+    pub notes : NotesWhatStands key m.table (view m t) (view m' t)
     pub core : m'.ruled.core ≡ m.ruled.core
     pub cancelled : (m'.part t).counts.cancelled ≡ (m.part t).counts.cancelled
     pub heeds : m'.heeds ≡ m.heeds

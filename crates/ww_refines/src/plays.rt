@@ -1,7 +1,6 @@
 //! The plays of seats at the table, as moves of a run.
 ghost use Rattle.ww_refines.specs.Naps.{NapsAreLast, ReadsAreMoves};
 ghost use Rattle.ww_refines.specs.Plays.{PlaysAreMoves};
-ghost use Rattle.ww_refines.specs.Seen.{WordsAreSeen};
 ghost use Rattle.ww_refines.specs.Told.{StepsArePlays};
 
 /// Each step that a seat makes at the table, while it acts, is a move of a run: an event, a look that finds no sign or
@@ -19,12 +18,6 @@ pub fn steps_are_plays()
 /// outside, it makes one, and after that no event.
 pub fn naps_are_last()
     ensures { NapsAreLast }
-{}
-
-/// Where the view of a seat names one look more at a lock's word, the seat made a look at a moment at which that number stood
-/// there.
-pub fn words_are_seen()
-    ensures { WordsAreSeen }
 {}
 
 /// Each play that is no event, of a seat that left a guard as a waiter and is about to fall asleep, is a move too.
