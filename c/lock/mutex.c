@@ -93,16 +93,19 @@ int ww_end_mutex(struct ww_mutex *m, void (*gives)(struct ww_numbers *n, uint32_
 		*m = (struct ww_mutex){ .class_ = p->class_ };
 		return 0;
 	}
-	pthread_mutex_lock(&p->numbers.lock);
 	is_used = has_user(p, m);
 	if (!is_used) {
-		lies_at(&p->numbers, m->number, NULL);
-		m->class_ = p->class_;
-		__atomic_store_n(&m->pool, NULL, __ATOMIC_RELEASE);
-		count_put(&p->numbers, m->number);
-		gives(&p->numbers, m->number); /* from then on only the lock keeps others from freeing the class */
+		pthread_mutex_lock(&p->numbers.lock);
+		is_used = has_user(p, m); /* a resumed context may have counted itself before the lock was taken */
+		if (!is_used) {
+			lies_at(&p->numbers, m->number, NULL);
+			m->class_ = p->class_;
+			__atomic_store_n(&m->pool, NULL, __ATOMIC_RELEASE);
+			count_put(&p->numbers, m->number);
+			gives(&p->numbers, m->number); /* from then on only the lock keeps others from freeing the class */
+		}
+		pthread_mutex_unlock(&p->numbers.lock);
 	}
-	pthread_mutex_unlock(&p->numbers.lock);
 	if (is_used)
 		NOTE_MISUSE(p->class_, "ww_mutex_destroy", "somebody holds the mutex, or waits for it");
 	return is_used ? -EBUSY : 0;
