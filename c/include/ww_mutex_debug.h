@@ -44,7 +44,9 @@ void ww_class_print(struct ww_class *ww_class, FILE *to) WW_NONNULL_(1, 2);
  * mutex is destroyed or gets another name, and no other thread is in ww_class_print.  NULL takes the name away.  Without WW_DEBUG the call
  * compiles to nothing.
  */
+#ifdef WW_DEBUG /* else ww_mutex.h has it */
 void ww_mutex_name(struct ww_mutex *lock, const char *name) WW_NONNULL_(1);
+#endif
 /*
  * Writes a table, as the kernel's lock_stat: for each line that locks how often it waited, how long in all and how long at most,
  * and how often a context backed off there; and the line at which the mutex of the longest wait had been acquired.  A wait
