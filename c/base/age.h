@@ -31,8 +31,8 @@ static inline void note_meeting(ww_seat *s)
 	if (s->ages == MET)
 		return;
 	s->ages = MET;
-	s->met.waits = s->waits;
-	s->met.back_offs = s->back_offs;
+	s->met.waits = (uint32_t)s->waits;
+	s->met.back_offs = (uint32_t)s->back_offs;
 	s->met.waited = 0;
 	__atomic_store_n(&s->met.target, 0, __ATOMIC_RELAXED);
 }

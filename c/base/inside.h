@@ -32,7 +32,7 @@ struct ww_seat;
 /* What is counted for a context since it met another one: see age.h, and why.c. */
 struct ww_met {
 	uint64_t label;		  /* the program's label of the context */
-	uint64_t waits, back_offs; /* how many waits and back-offs its seat had counted when it met the other one */
+	uint32_t waits, back_offs; /* how many waits and back-offs its seat had counted when it met the other one, modulo 2^32 */
 	uint64_t waited;	  /* how many nanoseconds its threads have waited since */
 	uint32_t target;	  /* the number of the mutex for which it waits, or last asked in vain, plus 1; or 0 */
 	uint32_t lock;		  /* the number of the lock for which that call came to wait: that mutex's, or a slot's */
@@ -44,6 +44,12 @@ struct ww_met {
  */
 struct ww_poller {
 	void (*ends)(struct ww_poller *it, struct ww_seat *s);
+};
+
+/* What a lock table has of a seat whose context has keys of that table; `release` releases them. */
+struct ww_keys {
+	void (*release)(struct ww_keys *it, struct ww_acquire_ctx *x);
+	struct ww_keys *next; /* the same of another table */
 };
 
 /*
@@ -72,6 +78,7 @@ typedef struct ww_seat {
 	uint32_t told;		/* the number of the mutex at which its user's last -EDEADLK came, */
 	uint32_t puts;		/* and how often that number had been put back by then */
 	struct ww_poller *poller; /* who made the suspended poll, or NULL */
+	struct ww_keys *keys;	/* what tables have of the seat, each while the seat's context has keys of that table */
 	struct ww_met met;
 } __attribute__((aligned(64))) ww_seat;
 

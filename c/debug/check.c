@@ -53,10 +53,10 @@ static bool is_phase_right(const struct ww_acquire_ctx *x)
 
 void ww_debug_check_context(const struct ww_acquire_ctx *x)
 {
-	const unsigned any = FLAGS | TRIES | IS_DONE | IS_POLLED | IS_PRELOCKED | IS_TOLD | WAS_TOLD;
+	const unsigned any = FLAGS | TRIES | IS_DONE | IS_POLLED | IS_PRELOCKED | IS_TOLD | WAS_TOLD | HAD_KEYS;
 
 	if (x->own && (x->gives == x->own || is_loop(x)) && (x->pool == x->own->pool || x->pool == NO_POOL) &&
-	    !(x->state & ~any) && is_phase_right(x))
+	    !(x->state & ~any) && (x->state & HAD_KEYS || !x->own->keys) && is_phase_right(x))
 		return;
 	ww_warn(NOW, NULL, "libww_debug", NULL,
 		  "a context" NO_STATE "state %u, at %p, own %p, of pool %p, pool %p, gives %p", x->state,

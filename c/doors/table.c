@@ -52,6 +52,7 @@ struct entry {
 };
 
 struct of_seat {
+	struct ww_keys keys; /* comes first: see release_all_keys */
 	struct use *newest, *polled, *spare_uses; /* the uses by which the seat's context has keys, and by which its poll waits */
 	struct entry *spare[SPARES];
 	uint32_t count, spares; /* how many keys the context has, and how many spare entries there are */
@@ -84,6 +85,8 @@ struct asked {
 	uint64_t hash;
 	struct ww_table_user user; /* as which others see the context while it waits */
 };
+
+static void release_all_keys(struct ww_keys *it, struct ww_acquire_ctx *x);
 
 static uint64_t mixed(uint64_t h) { return (h ^ h >> 32) * 0xD6E8FEB86659FD93u; }
 
@@ -243,9 +246,33 @@ static void end_use(struct ww_table *t, struct of_seat *me, struct use *u)
 		free_entry(t, e);
 }
 
+/* Releases the use's key, unless the context has just ended all its reads at once: see release_all_keys. */
 static void release(const struct use *u, struct ww_acquire_ctx *x)
 {
-	(void)(u->shown.mode == WW_TABLE_EXCLUSIVE ? ww_shared_mutex_unlock : ww_shared_mutex_end_read)(u->of->lock, x);
+	if (u->shown.mode == WW_TABLE_EXCLUSIVE)
+		(void)ww_shared_mutex_unlock(u->of->lock, x);
+	else if (reads_it(x, &u->of->lock->mutex_))
+		(void)ww_shared_mutex_end_read(u->of->lock, x);
+}
+
+/*
+ * From its first key of the table on, until it has released its last one, the context's seat lists the table: so ww_acquire_unlock_all,
+ * which has ended all reads by then, releases the keys, too.
+ */
+static void list_keys(const struct asked *asked)
+{
+	asked->me->keys = (struct ww_keys){ .release = release_all_keys, .next = asked->x->own->keys };
+	asked->x->own->keys = &asked->me->keys;
+	asked->x->state |= HAD_KEYS;
+}
+
+static void unlist_keys(const struct asked *asked)
+{
+	struct ww_keys **link = &asked->x->own->keys;
+
+	while (*link != &asked->me->keys)
+		link = &(*link)->next;
+	*link = asked->me->keys.next;
 }
 
 /*
@@ -260,7 +287,8 @@ static inline int end_attempt(const struct asked *asked, struct use *u, int r)
 		if (u->earlier)
 			u->earlier->later = u;
 		asked->me->newest = u;
-		asked->me->count++;
+		if (!asked->me->count++)
+			list_keys(asked);
 		return 0;
 	}
 	if (!r && u->raises) {
@@ -444,7 +472,8 @@ static void give_up(const struct asked *asked, struct use *u)
 	*(u->later ? &u->later->earlier : &asked->me->newest) = u->earlier;
 	if (u->earlier)
 		u->earlier->later = u->later;
-	asked->me->count--;
+	if (!--asked->me->count)
+		unlist_keys(asked);
 	release(u, asked->x);
 	(void)settle(asked, u, -EINVAL);
 }
@@ -484,6 +513,14 @@ void ww_table_unlock_to(struct ww_table *t, struct ww_acquire_ctx *x, size_t mar
 		return;
 	while (asked.me->count > mark)
 		give_up(&asked, asked.me->newest);
+}
+
+/* The context releases all that it holds, in ww_acquire_unlock_all, which has ended all reads by now: so all its keys of the table. */
+static void release_all_keys(struct ww_keys *it, struct ww_acquire_ctx *x)
+{
+	struct of_seat *seats = (struct of_seat *)(void *)it - (place_among(x->own) - 1);
+
+	ww_table_unlock_to((struct ww_table *)(void *)((char *)seats - offsetof(struct ww_table, seats)), x, 0);
 }
 
 /* ---- who has a key, or waits for it ---- */

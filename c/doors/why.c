@@ -167,6 +167,6 @@ int ww_acquire_count(const struct ww_acquire_ctx *x, struct ww_acquire_counts *c
 	if (!s)
 		return -EINVAL;
 	if (s->ages == MET)
-		*counts = (struct ww_acquire_counts){ s->waits - s->met.waits, s->back_offs - s->met.back_offs, s->met.waited };
+		*counts = (struct ww_acquire_counts){ (uint32_t)s->waits - s->met.waits, (uint32_t)s->back_offs - s->met.back_offs, s->met.waited };
 	return 0;
 }

@@ -217,9 +217,10 @@ bool ww_is_contended(const struct ww_acquire_ctx *ctx) WW_NONNULL_(1);
 static inline void ww_acquire_begin_tries(struct ww_acquire_ctx *ctx) WW_NONNULL_(1);
 static inline bool ww_acquire_end_try(struct ww_acquire_ctx *ctx) WW_NONNULL_(1);
 /*
- * Releases everything that the context holds, the newest first, and ends its reads.  The program ends with a message if the context waits
- * by a poll, or holds a mutex that it doesn't list: without a loop, tries or a list of locks, a context lists what it acquired since it
- * last released a mutex, except by number.  So there unlock each mutex by itself, or first call ww_acquire_begin_tries.
+ * Releases everything that the context holds, the newest mutex first, and reads and keys of tables too.  The program ends with a message
+ * if the context waits by a poll, or holds a mutex that it doesn't list: without a loop, tries or a list of locks, a context lists what
+ * it acquired since it last released a mutex, except by number.  So there unlock each mutex by itself, or first call
+ * ww_acquire_begin_tries.
  */
 void ww_acquire_unlock_all(struct ww_acquire_ctx *ctx) WW_NONNULL_(1);
 /*

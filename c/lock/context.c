@@ -197,6 +197,15 @@ void ww_acquire_here(struct ww_acquire_ctx *x) { note_used(NEEDED(x)); }
 
 /* ---- what contexts hold ---- */
 
+/* A list of locks that fails (list.c) releases no keys, since the context keeps what it held before that list. */
+COLD void ww_release_keys(struct ww_acquire_ctx *x)
+{
+	if (is_loop(x) || is_polled(x) || x->own->pool->gone)
+		return;
+	while (x->own->keys) /* each call takes its table out of this list */
+		x->own->keys->release(x->own->keys, x);
+}
+
 /*
  * A mutex names the context or the seat that acquired it, except if it was acquired by number. The lock's owner word says whether
  * it is still held by that one.

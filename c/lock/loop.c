@@ -104,12 +104,13 @@ static inline void release_newest_first(struct ww_acquire_ctx *x)
 /*
  * Ends ww_acquire_unlock_all, once all that the list had is released. In the phase BY_HAND the list has what the context acquired
  * since it last unlocked a mutex, and nothing that it acquired by number: such an unlock is quick, and so cuts the list. If the
- * context still holds anything, the program ends. Only the context's own slot, by which it reads, is always known.
+ * context still holds anything, the program ends. Its keys of tables, and its own slot, by which it reads, are always known.
  */
 COLD static void unlocks_no_more(struct ww_acquire_ctx *x)
 {
 	bool is_left = !is_loop(x) && x->acquired;
 
+	ww_release_keys(x);
 	if (is_left && !is_polled(x) && holds_slot(x))
 		(void)ww_unlock_of(&x->own->slot->mutex, x);
 	if (is_polled(x) || (is_left && x->acquired))
@@ -132,7 +133,7 @@ void ww_acquire_unlock_all(struct ww_acquire_ctx *x)
 		return;
 	note_used(x);
 	release_newest_first(x);
-	if (UNLIKELY(x->acquired || x->state & (WAITS_FIRST | IS_PRELOCKED | IS_POLLED)))
+	if (UNLIKELY(x->acquired || x->state & (WAITS_FIRST | IS_PRELOCKED | IS_POLLED | HAD_KEYS)))
 		unlocks_no_more(x);
 }
 

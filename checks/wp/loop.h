@@ -2,7 +2,7 @@
  * loop.h - contexts in loops: the list of what they acquired, and what releases all of it.
  *
  * source: lock/loop.c
- * proves: ww_become unlist release_newest release_newest_first ww_acquire_unlock_all ww_back_off_ ww_accept_held ww_result_in_loop
+ * proves: ww_become unlist release_newest release_newest_first unlocks_no_more ww_acquire_unlock_all ww_back_off_ ww_accept_held ww_result_in_loop
  * inlines: is_orphaned_by_fork is_loop owes_it enlist unlock_unlisted ww_is_contended is_polled holds_slot holder_of note_used
  */
 #include "mutex.h"
@@ -17,7 +17,7 @@
     }
     axiomatic Bits { // where two bits are 0 together, each is: CVC4 isn't told what a bit is
 	axiom both: \forall integer state; ((state & (WAITS_FIRST | IS_PRELOCKED)) == 0 ==> (state & WAITS_FIRST) == 0 &&
-		(state & IS_PRELOCKED) == 0) && ((state & (WAITS_FIRST | IS_PRELOCKED | IS_POLLED)) == 0 ==>
+		(state & IS_PRELOCKED) == 0) && ((state & (WAITS_FIRST | IS_PRELOCKED | IS_POLLED | HAD_KEYS)) == 0 ==>
 		(state & (WAITS_FIRST | IS_PRELOCKED)) == 0 && (state & IS_POLLED) == 0);
     }
     predicate are_apart(struct ww_acquire_ctx *x, ww_seat *s, struct ww_pool *p) = \forall struct ww_mutex *m; is_member(m) ==>
@@ -64,6 +64,34 @@ static inline int release_newest(struct ww_acquire_ctx *x);
     ensures whole: is_whole{Old}(x) ==> x->acquired == 0;
     ensures slot: has_slot{Old}(x->own, x) ==> has_slot(x->own, x); */
 static inline void release_newest_first(struct ww_acquire_ctx *x);
+/*
+ * What the tables do of which the context has keys (doors/table.c): by hand they release what no list has, and forget the list.
+ */
+/*@ requires is_user_of(x);
+    assigns x->acquired, x->newest, x->own->keys, OF_SEAT(x->own), CORE;
+    ensures forgets: x->newest == \old(x->newest) || x->newest == \null;
+    ensures less: x->acquired <= \old(x->acquired);
+    ensures in_a_list: loops{Old}(x) ==> x->acquired == \old(x->acquired);
+    ensures only_less: core_has == \old(core_has) || core_has == 0;
+    ensures quiet: rests{Old} ==> rests;
+    ensures fixed: the_mutex == \old(the_mutex) && the_lock == \old(the_lock) && the_seat == \old(the_seat);
+    ensures user: is_user_of(x);
+    ensures slot: has_slot{Old}(x->own, x) ==> has_slot(x->own, x); */
+void ww_release_keys(struct ww_acquire_ctx *x);
+/* The rest of ww_acquire_unlock_all, whose list is released by then. */
+/*@ requires is_user_of(x) && has_slot(x->own, x) && x->newest == \null && (rests || GONE(x)) && \separated(the_mutex, x, x->own, x->own->pool);
+    ensures empty: x->newest == \null;
+    ensures only_less: GONE(x) || core_has == \old(core_has) || core_has == 0;
+    ensures says: \old(the_mutex->ctx) == \null ==> the_mutex->ctx == \null;
+    ensures rests: GONE(x) || rests;
+    ensures fixed: the_mutex == \old(the_mutex) && the_lock == \old(the_lock) && the_seat == \old(the_seat);
+    ensures seat: x->own == \old(x->own) && x->own->pool == \old(x->own->pool) && GONE(x) == \old(GONE(x));
+    ensures listed: loops{Old}(x) ==> x->acquired == \old(x->acquired);
+    ensures all: !loops{Old}(x) ==> x->acquired == 0;
+    ensures polled: (x->state & IS_POLLED) == 0;
+    ensures eased: (x->state & WAITS_FIRST) == 0 && (x->state & IS_PRELOCKED) == 0;
+    ensures state: x->state == \old(x->state) || becomes{Old, Here}(x, (unsigned)~(WAITS_FIRST | IS_PRELOCKED), 0); */
+static void unlocks_no_more(struct ww_acquire_ctx *x);
 /*
  * By hand, too, what is listed is released: there that is what the context acquired since its last unlock, and not by number.  Who comes
  * back has released all that it acquired.  In a loop that is all, but for what the context had by hand when a list of locks began.

@@ -38,7 +38,7 @@ use core::cell::Cell;
 use core::ffi::{c_uint, c_void};
 use core::marker::PhantomData;
 use core::num::NonZeroU32;
-use core::{fmt, ptr, slice};
+use core::{fmt, mem, ptr, slice};
 use std::panic::{catch_unwind, resume_unwind, AssertUnwindSafe};
 use std::sync::Arc;
 use std::time::Instant;
@@ -481,6 +481,9 @@ impl<C: Class> Transaction<C> {
 impl<C: Class> Drop for Transaction<C> {
     #[track_caller]
     fn drop(&mut self) {
+        if SHOWS.get() {
+            mem::forget(self.kept.take()); // it stays as it is: its end would wait for the part of the table that is locked
+        }
         check_call();
         self.release(Mark(0));
     }

@@ -204,6 +204,23 @@ fn a_function_that_panics() {
     assert_eq!(b.try_lock("k", Shared), Ok(Granted::Now));
 }
 
+/// Nor does it end a transaction, which would wait for that part of the table.
+#[test]
+fn a_function_that_drops_a_transaction() {
+    class!(struct Rows: WoundWait);
+    let table = Table::<Rows>::open().unwrap();
+    let (mut a, mut b) = (begin(&table, 1), begin(&table, 2));
+    a.try_lock("k", Shared).unwrap();
+    let mut a = Some(a);
+    let told = catch_unwind(AssertUnwindSafe(|| {
+        b.lock_from_expired("k", Exclusive, Instant::now(), |_, _| {
+            drop(a.take());
+            true
+        })
+    }));
+    assert!(told.is_err() && table.users("k").len() == 1);
+}
+
 /// Handles are the table, whatever goes first.
 #[test]
 fn a_table_is_closed_with_the_last_of_it() {

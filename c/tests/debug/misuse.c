@@ -10,6 +10,7 @@
 #include "../mutex_test.h"
 #include "ww_poll.h"
 #include "ww_shared.h"
+#include "ww_table.h"
 #include <sys/mman.h>
 #include <sys/wait.h>
 
@@ -232,6 +233,19 @@ static void overwrites_a_seat(void)
 }
 static void limits_beyond(void) { MUST(HERE(ww_class_limit(&c, 1 << 25, 0)) == -EINVAL); }
 
+static struct ww_table *keys;
+static void locks_a_key_in_a_loop(void)
+{
+	ww_mutex_unlock(&b);
+	ww_acquire_begin_tries(&y);
+	MUST(!ww_table_open(&keys, &c, 0) && HERE(ww_table_lock(keys, &y, "k", 1, WW_TABLE_SHARED, NULL)) == -EINVAL);
+}
+static void unlocks_a_key_twice(void)
+{
+	MUST(!ww_table_open(&keys, &c, 0) && !ww_table_lock(keys, &x, "k", 1, WW_TABLE_SHARED, NULL));
+	MUST(!ww_table_unlock(keys, &x, "k", 1) && HERE(ww_table_unlock(keys, &x, "k", 1)) == -EINVAL);
+}
+
 static void *is_to_end(void *arg)
 {
 	bool *comes_back = arg;
@@ -343,6 +357,17 @@ static void tells_how_often(const char *message)
 		MUST(times > 1 || !HAS_BACKTRACE || strstr(rest, "[0x"));
 	}
 	MUST(!*rest);
+}
+
+/* A release of all that a context holds, its keys too, is no fault. */
+static void releases_keys(void)
+{
+	MUST(!ww_table_open(&keys, &other, 0));
+	ww_acquire_init(&x, &other);
+	MUST(!ww_table_lock(keys, &x, "k", 1, WW_TABLE_SHARED, NULL) && !ww_table_lock(keys, &x, "l", 1, WW_TABLE_EXCLUSIVE, NULL));
+	ww_acquire_unlock_all(&x);
+	ww_acquire_fini(&x);
+	MUST(!ww_table_close(keys) && !ww_debug_faults());
 }
 
 /* A program that backs off as it should gets its locks, however often it has to. */
@@ -522,6 +547,9 @@ int main(int count, char **words)
 	tells(unlocks_what_nobody_holds, "ww_mutex_unlock: class \"c\": " NOT_LOOKED_AT " $");
 	tells(unlocks_anothers, "ww_mutex_unlock: class \"c\": " NOT_LOOKED_AT " $");
 	tells(unlocked_by_another, "ww_mutex_unlock: class \"c\": its context is another thread's, which named it last in a call: see ww_acquire_here");
+	tells(locks_a_key_in_a_loop, "ww_table_lock: class \"c\": the context has ended, is of another class, or in a loop");
+	tells(unlocks_a_key_twice, "ww_table_unlock: class \"c\": the context doesn't have the key");
+	releases_keys();
 	goes_on();
 	prints_beside_others();
 	MUST(!ww_debug_faults() && !ww_class_free(&c));

@@ -227,6 +227,46 @@ static void sees(void *data, const struct ww_table_user *user)
 }
 
 /* Holders are shown, and may be disowned; if there is none nobody is asked. */
+/* The keys that `a` has in two tables; `b` gets each of them in both, once `a` has released all at once or has ended. */
+static void has_keys(struct ww_table *second, bool writes_too)
+{
+	MUST(!reads(&a, "r") && !ww_table_lock(second, &a, "r", 1, WW_TABLE_SHARED, &try_it));
+	MUST(!writes_too || (!writes(&a, "w") && !ww_table_lock(second, &a, "w", 1, WW_TABLE_EXCLUSIVE, &try_it)));
+}
+
+static void are_free(struct ww_table *second)
+{
+	MUST(!a.acquired && !ww_table_mark(t, &a) && !ww_table_mark(second, &a) && !ww_table_see(t, NULL, 0, sees, NULL));
+	for (const char *key = "rw"; *key; key++)
+		MUST(!ww_table_lock(t, &b, key, 1, WW_TABLE_EXCLUSIVE, &try_it) &&
+		     !ww_table_lock(second, &b, key, 1, WW_TABLE_EXCLUSIVE, &try_it));
+	ww_acquire_unlock_all(&b);
+}
+
+static void all_at_once(void)
+{
+	static struct ww_mutex mutex = WW_MUTEX_INIT(&rows);
+	struct ww_mutex *const twice[] = { &mutex, &mutex };
+	struct ww_table *second;
+
+	MUST(!ww_table_open(&second, &rows, 0));
+	begins();
+	for (unsigned way = 0; way < 4; way++) {
+		has_keys(second, way % 2);
+		if (way & 1) /* a list that fails releases none */
+			MUST(ww_mutex_lock_all(&a, twice, 2) == -EALREADY && ww_table_mark(t, &a) == 2 && !ww_mutex_lock(&mutex, &a));
+		if (way & 2) {
+			MUST(!ww_acquire_end(&a));
+			ww_acquire_init(&a, &rows);
+		} else {
+			ww_acquire_unlock_all(&a);
+		}
+		are_free(second);
+	}
+	ends();
+	MUST(!ww_table_close(second) && !ww_mutex_destroy(&mutex));
+}
+
 static void expires(void)
 {
 	struct ww_table_how one = { .owner = 1 }, two = { .owner = 2, .meets = meets, .waits = waits, .data = &seen };
@@ -441,6 +481,7 @@ int main(void)
 	shared_no_more();
 	raised_at_once();
 	marks();
+	all_at_once();
 	refused_arguments();
 	told();
 	told_beside_a_mutex();
