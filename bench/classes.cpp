@@ -268,6 +268,15 @@ template <class... Ones> void all_ways()
 	ww_table_unlock_to(keys, x, 1);
 	must(ww_table_mark(keys, x) == 1 && !ww_table_leave(keys, 1, false));
 }
+/* So many keys stay locked, a quarter of what the class has mutexes for. */
+void fill_table(unsigned many)
+{
+	ww_acquire_ctx *x;
+
+	must(!ww_table_join(keys, 2, 2, nullptr, &x));
+	for (unsigned k = few; k < few + many; k++)
+		must(!ww_table_lock(keys, x, &k, sizeof k, WW_TABLE_EXCLUSIVE, nullptr));
+}
 
 } // namespace
 
@@ -282,7 +291,8 @@ int main(int count, char **words)
 		ww_shared_mutex_init(&shared[k], &objects);
 		must(!ww_number_take(&numbers[k], &objects));
 	}
-	must(!ww_table_open(&keys, &objects, few));
+	must(!ww_table_open(&keys, &objects, 0));
+	fill_table(unsigned(std::atoi(words[1])) / 4);
 	for (int times = std::atoi(words[2]); times--;) {
 		all_ways<locked, locked_until, tried, polled, numbered, numbered_tried, read, read_tried, read_polled, written, written_tried,
 			 written_polled>();

@@ -2,13 +2,15 @@
 #include "manager.h"
 
 #include <algorithm>
-#include <cstdlib>
 #include <cstring>
 #include <map>
+#include <shared_mutex>
+#include <unordered_set>
 
 #include "monitoring/perf_context_imp.h"
 #include "test_util/sync_point.h"
 #include "utilities/transactions/pessimistic_transaction_db.h"
+#include "ww_table.h"
 
 namespace ROCKSDB_NAMESPACE {
 namespace {
@@ -24,18 +26,13 @@ timespec After(int64_t microseconds)
   return { at.tv_sec + microseconds / 1000000, microseconds % 1000000 * 1000 };
 }
 
-struct Key { // the column family, and the key
-  Key(ColumnFamilyId cf, const std::string& key) : size(sizeof cf + key.size()), large(size > sizeof small ? new char[size] : nullptr)
-  {
-    data = large ? large.get() : small;
-    memcpy(data, &cf, sizeof cf);
-    memcpy(data + sizeof cf, key.data(), key.size());
-  }
-  size_t size;
-  std::unique_ptr<char[]> large;
-  char small[120];
-  char* data;
-};
+// The column family, and the key: until this thread's next call.
+const std::string& KeyOf(ColumnFamilyId cf, const std::string& key)
+{
+  thread_local std::string both;
+  both.assign(reinterpret_cast<const char*>(&cf), sizeof cf);
+  return both += key;
+}
 
 std::pair<ColumnFamilyId, std::string> KeyOf(const ww_table_user* user)
 {
@@ -147,156 +144,172 @@ struct Uses { // of all keys
   }
 };
 
-}  // namespace
+class WwLockManager : public LockManager {
+ public:
+  PessimisticTransactionDB* db_;
 
-WwLockManager::WwLockManager(PessimisticTransactionDB* db, const TransactionDBOptions& options, bool is_wait_die)
-    : db_(db), deadlocks_(options.max_num_deadlocks)
-{
-  const char* mutexes = getenv("WW_MUTEXES");
-  ww_class_init(&class_, is_wait_die, "RocksDB's keys");
-  int r = ww_class_open_for(&class_, 0, mutexes ? static_cast<uint32_t>(strtoul(mutexes, nullptr, 0)) : 1 << 20, nullptr);
-  if (r || (r = ww_table_open(&table_, &class_, options.max_num_locks > 0 ? static_cast<uint32_t>(options.max_num_locks) : 0))) {
-    fprintf(stderr, "WwLockManager: %s\n", strerror(-r));
-    abort();
-  }
-}
-
-WwLockManager::~WwLockManager()
-{
-  int r = ww_table_close(table_);
-  if (r || (r = ww_class_free(&class_))) {
-    fprintf(stderr, "WwLockManager: a key is still locked (%s)\n", strerror(-r));
-  }
-}
-
-void WwLockManager::AddColumnFamily(const ColumnFamilyHandle* cf)
-{
-  std::lock_guard<std::shared_mutex> guard(mutex_);
-  cfs_.insert(cf->GetID());
-}
-
-void WwLockManager::RemoveColumnFamily(const ColumnFamilyHandle* cf)
-{
-  std::lock_guard<std::shared_mutex> guard(mutex_);
-  cfs_.erase(cf->GetID());
-}
-
-Status WwLockManager::TryLock(PessimisticTransaction* txn, ColumnFamilyId cf, const std::string& key, Env* env, bool exclusive)
-{
-  if (cf) { // the default one is always there
-    std::shared_lock<std::shared_mutex> guard(mutex_);
-    if (!cfs_.count(cf)) {
-      return Status::InvalidArgument("Column family id not found: " + std::to_string(cf));
-    }
-  }
-  const TransactionID id = txn->GetID(), former = refused ? refused : id;
-  const int64_t timeout = txn->GetLockTimeout();
-  const timespec until = After(std::max<int64_t>(timeout, 0));
-  ww_acquire_ctx* x;
-  refused = 0;
-  int r = ww_table_join(table_, id, former, timeout < 0 ? nullptr : &until, &x);
-  if (r) {
-    return StatusOf(r);
-  }
-  const Key k(cf, key);
-  Wait wait{ db_, txn, cf, &key, env };
-  ww_table_how how = {};
-  how.owner = reinterpret_cast<uint64_t>(txn);
-  how.until = timeout < 0 ? nullptr : &until;
-  how.meets = Wait::Meets;
-  how.waits = Wait::Waits;
-  how.data = &wait;
+  WwLockManager(PessimisticTransactionDB* db, const TransactionDBOptions& options, bool is_wait_die) : db_(db), deadlocks_(options.max_num_deadlocks)
   {
-    PERF_TIMER_GUARD(key_lock_wait_time);
-    r = ww_table_lock(table_, x, k.data, k.size, exclusive ? WW_TABLE_EXCLUSIVE : WW_TABLE_SHARED, &how);
-  }
-  if (wait.waited) {
-    txn->ClearWaitingTxn();
-  }
-  if (r == -EDEADLK) {
-    refused = id;
-    Report(txn, cf, key, exclusive, env);
-  }
-  if (r && r != -EALREADY && !ww_table_mark(table_, x)) {
-    ww_table_leave(table_, id, false);
-  }
-  return StatusOf(r);
-}
-
-Status WwLockManager::TryLock(PessimisticTransaction*, ColumnFamilyId, const Endpoint&, const Endpoint&, Env*, bool)
-{
-  return Status::NotSupported("WwLockManager has no ranges");
-}
-
-void WwLockManager::UnLock(PessimisticTransaction* txn, ColumnFamilyId cf, const std::string& key, Env*)
-{
-  ww_acquire_ctx* x;
-  const Key k(cf, key);
-  if (!ww_table_join(table_, txn->GetID(), txn->GetID(), nullptr, &x)) {
-    ww_table_unlock(table_, x, k.data, k.size);
-    if (!ww_table_mark(table_, x)) {
-      ww_table_leave(table_, txn->GetID(), refused == txn->GetID());
+    const char* mutexes = getenv("WW_MUTEXES");
+    ww_class_init(&class_, is_wait_die, "RocksDB's keys");
+    int r = ww_class_open_for(&class_, 0, mutexes ? static_cast<uint32_t>(strtoul(mutexes, nullptr, 0)) : 1 << 20, nullptr);
+    if (r || (r = ww_table_open(&table_, &class_, options.max_num_locks > 0 ? static_cast<uint32_t>(options.max_num_locks) : 0))) {
+      fprintf(stderr, "WwLockManager: %s\n", strerror(-r));
+      abort();
     }
   }
-}
 
-void WwLockManager::UnLock(PessimisticTransaction* txn, const LockTracker& tracker, Env* env)
-{
-  ww_acquire_ctx* x;
-  const TransactionID id = txn->GetID();
-  std::unique_ptr<LockTracker::ColumnFamilyIterator> cfs(tracker.GetColumnFamilyIterator());
-  if (!cfs->HasNext() || ww_table_join(table_, id, id, nullptr, &x)) {
-    return;
-  }
-  if (tracker.GetNumPointLocks() >= ww_table_mark(table_, x)) {
-    ww_table_leave(table_, id, refused == id);
-    return;
-  }
-  while (cfs->HasNext()) {
-    const ColumnFamilyId cf = cfs->Next();
-    std::unique_ptr<LockTracker::KeyIterator> keys(tracker.GetKeyIterator(cf));
-    while (keys->HasNext()) {
-      const Key k(cf, keys->Next());
-      ww_table_unlock(table_, x, k.data, k.size);
+  ~WwLockManager() override
+  {
+    int r = ww_table_close(table_);
+    if (r || (r = ww_class_free(&class_))) {
+      fprintf(stderr, "WwLockManager: a key is still locked (%s)\n", strerror(-r));
     }
   }
-}
 
-// Who waits for whom, of all keys: so after the first hundred it takes a hundredth of the time.
-void WwLockManager::Report(PessimisticTransaction* txn, ColumnFamilyId cf, const std::string& key, bool exclusive, Env* env)
-{
-  const uint64_t now = env->NowMicros();
-  std::vector<DeadlockInfo> path;
-  int64_t time = 0;
-  if (!txn->IsDeadlockDetect()) {
-    return;
+  bool IsPointLockSupported() const override { return true; }
+  bool IsRangeLockSupported() const override { return false; }
+  const LockTrackerFactory& GetLockTrackerFactory() const override { return PointLockTrackerFactory::Get(); }
+  RangeLockStatus GetRangeLockStatus() override { return {}; }
+  std::vector<DeadlockPath> GetDeadlockInfoBuffer() override { return deadlocks_.PrepareBuffer(); }
+  void Resize(uint32_t count) override { deadlocks_.Resize(count); }
+
+  void AddColumnFamily(const ColumnFamilyHandle* cf) override
+  {
+    std::lock_guard<std::shared_mutex> guard(mutex_);
+    cfs_.insert(cf->GetID());
   }
-  if (reports_++ < 100 || now >= reports_from_) {
-    Uses uses;
-    ww_table_see(table_, nullptr, 0, Uses::See, &uses);
-    for (TransactionID id : uses.held[{ cf, key }].ids) {
-      if (uses.Leads(id, txn->GetID(), &path)) {
-        break;
+
+  void RemoveColumnFamily(const ColumnFamilyHandle* cf) override
+  {
+    std::lock_guard<std::shared_mutex> guard(mutex_);
+    cfs_.erase(cf->GetID());
+  }
+
+  Status TryLock(PessimisticTransaction* txn, ColumnFamilyId cf, const std::string& key, Env* env, bool exclusive) override
+  {
+    if (cf) { // the default one is always there
+      std::shared_lock<std::shared_mutex> guard(mutex_);
+      if (!cfs_.count(cf)) {
+        return Status::InvalidArgument("Column family id not found: " + std::to_string(cf));
       }
     }
-    reports_from_ = now + 100 * (env->NowMicros() - now);
+    const TransactionID id = txn->GetID(), former = refused ? refused : id;
+    const timespec until = After(std::max<int64_t>(txn->GetLockTimeout(), 0)), *const at_most = txn->GetLockTimeout() < 0 ? nullptr : &until;
+    ww_acquire_ctx* x;
+    refused = 0;
+    int r = ww_table_join(table_, id, former, at_most, &x);
+    if (r) {
+      return StatusOf(r);
+    }
+    const std::string& k = KeyOf(cf, key);
+    Wait wait{ db_, txn, cf, &key, env };
+    const ww_table_how how = { reinterpret_cast<uint64_t>(txn), WW_TABLE_WAITS, at_most, nullptr, Wait::Meets, Wait::Waits, &wait };
+    {
+      PERF_TIMER_GUARD(key_lock_wait_time);
+      r = ww_table_lock(table_, x, k.data(), k.size(), exclusive ? WW_TABLE_EXCLUSIVE : WW_TABLE_SHARED, &how);
+    }
+    if (wait.waited) {
+      txn->ClearWaitingTxn();
+    }
+    if (r == -EDEADLK) {
+      refused = id;
+      Report(txn, cf, key, exclusive, env);
+    }
+    if (r && r != -EALREADY && !ww_table_mark(table_, x)) {
+      ww_table_leave(table_, id, false);
+    }
+    return StatusOf(r);
   }
-  path.push_back({ txn->GetID(), cf, exclusive, key });
-  env->GetCurrentTime(&time).PermitUncheckedError();
-  const bool is_deep = static_cast<int64_t>(path.size()) > txn->GetDeadlockDetectDepth();
-  deadlocks_.AddNewPath(is_deep ? DeadlockPath(time, true) : DeadlockPath(path, time));
-}
 
-LockManager::PointLockStatus WwLockManager::GetPointLockStatus()
-{
-  Uses uses;
-  PointLockStatus status;
-  ww_table_see(table_, nullptr, 0, Uses::See, &uses);
-  for (const auto& it : uses.held) {
-    status.insert({ it.first.first, it.second });
+  Status TryLock(PessimisticTransaction*, ColumnFamilyId, const Endpoint&, const Endpoint&, Env*, bool) override
+  {
+    return Status::NotSupported("WwLockManager has no ranges");
   }
-  return status;
-}
+  void UnLock(PessimisticTransaction*, ColumnFamilyId, const Endpoint&, const Endpoint&, Env*) override {}
+
+  void UnLock(PessimisticTransaction* txn, ColumnFamilyId cf, const std::string& key, Env*) override
+  {
+    ww_acquire_ctx* x;
+    const std::string& k = KeyOf(cf, key);
+    if (!ww_table_join(table_, txn->GetID(), txn->GetID(), nullptr, &x)) {
+      ww_table_unlock(table_, x, k.data(), k.size());
+      if (!ww_table_mark(table_, x)) {
+        ww_table_leave(table_, txn->GetID(), refused == txn->GetID());
+      }
+    }
+  }
+
+  void UnLock(PessimisticTransaction* txn, const LockTracker& tracker, Env* env) override
+  {
+    ww_acquire_ctx* x;
+    const TransactionID id = txn->GetID();
+    std::unique_ptr<LockTracker::ColumnFamilyIterator> cfs(tracker.GetColumnFamilyIterator());
+    if (!cfs->HasNext() || ww_table_join(table_, id, id, nullptr, &x)) {
+      return;
+    }
+    if (tracker.GetNumPointLocks() >= ww_table_mark(table_, x)) {
+      ww_table_leave(table_, id, refused == id);
+      return;
+    }
+    while (cfs->HasNext()) {
+      const ColumnFamilyId cf = cfs->Next();
+      std::unique_ptr<LockTracker::KeyIterator> keys(tracker.GetKeyIterator(cf));
+      while (keys->HasNext()) {
+        UnLock(txn, cf, keys->Next(), env);
+      }
+    }
+  }
+
+  PointLockStatus GetPointLockStatus() override
+  {
+    Uses uses;
+    PointLockStatus status;
+    ww_table_see(table_, nullptr, 0, Uses::See, &uses);
+    for (const auto& it : uses.held) {
+      status.insert({ it.first.first, it.second });
+    }
+    return status;
+  }
+
+ private:
+  // Who waits for whom, of all keys: so after the first hundred it takes a hundredth of the time.
+  void Report(PessimisticTransaction* txn, ColumnFamilyId cf, const std::string& key, bool exclusive, Env* env)
+  {
+    const uint64_t now = env->NowMicros();
+    std::vector<DeadlockInfo> path;
+    int64_t time = 0;
+    if (!txn->IsDeadlockDetect()) {
+      return;
+    }
+    if (reports_++ < 100 || now >= reports_from_) {
+      Uses uses;
+      ww_table_see(table_, nullptr, 0, Uses::See, &uses);
+      for (TransactionID id : uses.held[{ cf, key }].ids) {
+        if (uses.Leads(id, txn->GetID(), &path)) {
+          break;
+        }
+      }
+      reports_from_ = now + 100 * (env->NowMicros() - now);
+    }
+    path.push_back({ txn->GetID(), cf, exclusive, key });
+    env->GetCurrentTime(&time).PermitUncheckedError();
+    const bool is_deep = static_cast<int64_t>(path.size()) > txn->GetDeadlockDetectDepth();
+    deadlocks_.AddNewPath(is_deep ? DeadlockPath(time, true) : DeadlockPath(path, time));
+  }
+
+  ww_class class_;
+  ww_table* table_ = nullptr;
+  std::shared_mutex mutex_;
+  std::unordered_set<ColumnFamilyId> cfs_; // guarded by mutex_
+  DeadlockInfoBuffer deadlocks_;
+  std::atomic<uint64_t> reports_{0}, reports_from_{0};
+};
+
+}  // namespace
+
+WwLockManagerHandle::WwLockManagerHandle(const TransactionDBOptions& options) : manager(new WwLockManager(nullptr, options, false)) {}
+void WwLockManagerHandle::SetDb(PessimisticTransactionDB* db) { static_cast<WwLockManager*>(manager.get())->db_ = db; }
 
 // In place of RocksDB's own: with LM=ww or LM=ww-die.
 std::shared_ptr<LockManager> NewLockManager(PessimisticTransactionDB* db, const TransactionDBOptions& options)

@@ -208,7 +208,7 @@ static struct use *held_by(const struct entry *e, const struct ww_acquire_ctx *x
 	bool has = e && (ww_shared_mutex_is_written_by(e->lock, x) || ww_shared_mutex_is_read_by(e->lock, x));
 	struct use *u = has ? e->uses : NULL;
 
-	while (u && (u->seat != place_among(x->own) || u->shown.waits))
+	while (u && u->seat != place_among(x->own))
 		u = u->next;
 	return u;
 }

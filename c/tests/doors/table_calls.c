@@ -7,11 +7,12 @@
 #include "ww_retry.h"
 #include "ww_table.h"
 #include <sys/mman.h>
+#include <sys/wait.h>
 
 static DEFINE_WD_CLASS(rows);
 static DEFINE_WW_CLASS(others);
 static DEFINE_WD_CLASS(ending);
-static struct ww_class four = { .name = "four", .mutexes = 4, .contexts = 4 };
+static struct ww_class four = { .name = "four", .mutexes = 4, .contexts = 4 }, more = { .name = "more", .mutexes = 600, .contexts = 4 };
 static struct ww_table *t;
 static struct ww_acquire_ctx a, b;
 
@@ -147,7 +148,10 @@ static void refused_arguments(void)
 	ends();
 	MUST(writes(&a, "k") == -EINVAL && unlock(&a, "k") == -EINVAL);
 	ww_acquire_init(&x, &others);
-	MUST(writes(&x, "k") == -EINVAL && ww_table_mark(t, &x) == 0);
+	ww_acquire_init(&a, &rows);
+	MUST(!writes(&a, "1"));
+	MUST(writes(&x, "k") == -EINVAL && ww_table_mark(t, &x) == 0 && ww_table_mark(t, &a) == 1 && !unlock(&a, "1"));
+	ww_acquire_fini(&a);
 	ww_acquire_fini(&x);
 	ww_acquire_init(&x, &rows);
 	ww_until_all_locked(&x)
@@ -155,9 +159,38 @@ static void refused_arguments(void)
 	ww_acquire_fini(&x);
 }
 
+/* A context may move, and a cancel ends its wait. */
+static void moved_and_cancelled(void)
+{
+	const struct timespec late = in_ms(5000);
+	const struct ww_table_how until_late = { .until = &late };
+	struct ww_acquire_ctx x;
+	struct timespec now;
+
+	begins();
+	MUST(!writes(&a, "1") && !reads(&a, "2"));
+	x = a;
+	memset(&a, 0x5a, sizeof a);
+	MUST(writes(&x, "1") == -EALREADY && !writes(&x, "2") && ww_table_mark(t, &x) == 2 && !unlock(&x, "1"));
+	a = x;
+	MUST(!ww_acquire_cancel(&b) && lock(&b, "2", WW_TABLE_SHARED, &until_late) == -EINTR && !writes(&b, "1"));
+	MUST(!clock_gettime(CLOCK_MONOTONIC, &now) && now.tv_sec < late.tv_sec - 1);
+	ends();
+}
+
+static void wakes(void *loop, void *task)
+{
+	(void)loop;
+	++*(unsigned *)task;
+}
+
 /* A younger context would wait for an older one; with nothing held it waits. */
 static void told(void)
 {
+	unsigned woken = 0;
+	struct ww_waker waker = { wakes, NULL, &woken };
+	const struct ww_table_how poll = { .by = WW_TABLE_POLLS, .waker = &waker };
+
 	begins();
 	MUST(!writes(&a, "1") && !writes(&b, "2") && lock(&b, "1", WW_TABLE_SHARED, NULL) == -EDEADLK);
 	MUST(lock(&b, "3", WW_TABLE_SHARED, NULL) == -EDEADLK && writes(&b, "3") == -EDEADLK && ww_table_mark(t, &b) == 1);
@@ -168,6 +201,7 @@ static void told(void)
 	ww_table_unlock_to(t, &b, 0);
 	MUST(!writes(&b, "3") && lock(&b, "1", WW_TABLE_SHARED, NULL) == -EDEADLK && !unlock(&b, "3"));
 	MUST(!lock(&b, "4", WW_TABLE_EXCLUSIVE, &until_past)); /* in vain it waits for the first one, and then may lock any */
+	MUST(!unlock(&b, "4") && !lock(&b, "5", WW_TABLE_EXCLUSIVE, &poll));
 	ends();
 	/* the older one waits */
 	begins();
@@ -212,9 +246,12 @@ static bool meets(void *data, const struct ww_table_user *user)
 	return seen.agrees;
 }
 
+static void ignores(void *data, const struct ww_table_user *user) { MUST(!data && user->length == 1); }
+
+/* Nothing is locked then; and the call that waits is seen itself. */
 static int waits(void *data, struct ww_table_how *how)
 {
-	MUST(data == &seen);
+	MUST(data == &seen && ww_table_see(t, "k", 1, ignores, NULL) == 2);
 	how->until = &past;
 	return ++seen.waits == 1 ? 0 : seen.r;
 }
@@ -224,6 +261,22 @@ static void sees(void *data, const struct ww_table_user *user)
 	seen.count++;
 	seen.waits += user->waits;
 	MUST(!data && user->owner);
+}
+
+static struct ww_table_user shown[4];
+static void shows(void *data, const struct ww_table_user *user) { shown[(*(unsigned *)data)++ % 4] = *user; }
+
+/* The newest comes first; and the key lies in the table. */
+static void in_order(void)
+{
+	const struct ww_table_how one = { .owner = 1 }, two = { .owner = 2 };
+	char key[] = "k";
+	unsigned count = 0;
+
+	begins();
+	MUST(!lock(&a, key, WW_TABLE_SHARED, &one) && !lock(&b, key, WW_TABLE_SHARED, &two) && (*key = '?'));
+	MUST(ww_table_see(t, "k", 1, shows, &count) == 2 && shown[0].owner == 2 && shown[1].owner == 1 && !memcmp(shown[0].key, "k", 1));
+	ends();
 }
 
 /* Holders are shown, and may be disowned; if there is none nobody is asked. */
@@ -269,6 +322,7 @@ static void all_at_once(void)
 
 static void expires(void)
 {
+	struct ww_acquire_ctx x;
 	struct ww_table_how one = { .owner = 1 }, two = { .owner = 2, .meets = meets, .waits = waits, .data = &seen };
 
 	begins();
@@ -287,15 +341,41 @@ static void expires(void)
 	two.by = WW_TABLE_TRIES;
 	MUST(!unlock(&b, "k") && !lock(&b, "k", WW_TABLE_SHARED, &two) && !lock(&a, "k", WW_TABLE_SHARED, &one));
 	MUST(lock(&b, "k", WW_TABLE_EXCLUSIVE, &two) == -EBUSY);
+	/* each is shown, though the first one doesn't agree */
+	seen = (struct seen){ 0 };
+	ww_acquire_init(&x, &rows);
+	MUST(lock(&x, "k", WW_TABLE_EXCLUSIVE, &two) == -EBUSY && seen.count == 2);
+	ww_acquire_fini(&x);
 	ends();
 }
 
 /* ---- polls ---- */
 
-static void wakes(void *loop, void *task)
+/* A poll asks once how it is to wait; without a waker it ends as a poll does. And it isn't one of another table, or of a mutex. */
+static void asks_once(void)
 {
-	(void)loop;
-	++*(unsigned *)task;
+	unsigned woken = 0;
+	struct ww_waker waker = { wakes, NULL, &woken };
+	struct ww_table_how poll = { .by = WW_TABLE_POLLS, .waits = waits, .data = &seen };
+	struct ww_table *first = t;
+	struct ww_mutex besides;
+
+	ww_mutex_init(&besides, &rows);
+	begins();
+	seen = (struct seen){ .r = -ECANCELED };
+	MUST(!writes(&b, "k") && lock(&a, "k", WW_TABLE_SHARED, &poll) == -ETIMEDOUT && seen.waits == 1);
+	seen.waits = 0;
+	poll.waker = &waker;
+	MUST(lock(&a, "k", WW_TABLE_SHARED, &poll) == -EINPROGRESS && lock(&a, "k", WW_TABLE_SHARED, &poll) == -EINPROGRESS && seen.waits == 1);
+	MUST(!ww_table_open(&t, &rows, 0) && lock(&a, "k", WW_TABLE_SHARED, &poll) == -EBUSY && !ww_table_close(t));
+	t = first;
+	MUST(!ww_acquire_end_wait(&a) && !ww_mutex_lock(&besides, &b) && ww_mutex_lock_poll(&besides, &a, &waker) == -EINPROGRESS);
+	seen = (struct seen){ .agrees = true };
+	poll.meets = meets;
+	MUST(lock(&a, "k", WW_TABLE_SHARED, &poll) == -EBUSY && !seen.count && !ww_acquire_end_wait(&a));
+	ww_mutex_unlock(&besides);
+	ends();
+	MUST(!ww_mutex_destroy(&besides));
 }
 
 static void polls(void)
@@ -412,7 +492,80 @@ static void an_owner_stays(void)
 	MUST(!ww_table_close(t) && !ww_class_free(&ending));
 }
 
+/* Of four contexts two are suspended at a time; of a third one that leaves nothing is kept. */
+static void half_of_the_owners(void)
+{
+	struct ww_acquire_ctx *x;
+
+	MUST(!ww_table_open(&t, &four, 0));
+	for (uint64_t k = 1; k <= 3; k++)
+		MUST(!ww_table_join(t, k, k, NULL, &x) && !ww_table_leave(t, k, true));
+	MUST(ww_table_leave(t, 3, true) == -EINVAL && !ww_table_leave(t, 2, true) && !ww_table_leave(t, 1, false));
+	MUST(ww_class_free(&four) == -EBUSY && !ww_table_close(t) && !ww_class_free(&four));
+}
+
 /* ---- what is refused ---- */
+
+/* In a child of a fork that its class's context doesn't outlive there is no table to open. */
+static void forked(void)
+{
+	struct ww_table *other;
+	int status;
+
+	begins();
+	if (!fork())
+		_exit(ww_table_open(&other, &rows, 0) == -EINVAL ? 7 : 1);
+	MUST(wait(&status) > 0 && WIFEXITED(status) && WEXITSTATUS(status) == 7);
+	ends();
+}
+
+static const char *name_of(unsigned k)
+{
+	static char name[16];
+
+	snprintf(name, sizeof name, "%u", k);
+	return name;
+}
+
+static void names(void *data, const struct ww_table_user *user) { strncat(data, user->key, 1); }
+
+/* Where a key is in a table, and so which keys come together, differs from table to table. */
+static void seeds(void)
+{
+	char order[2][27] = { "", "" };
+
+	for (unsigned k = 0; k < 2; k++) {
+		MUST(!ww_table_open(&t, &rows, 0));
+		begins();
+		for (char key[] = "a"; *key <= 'z'; ++*key)
+			MUST(!writes(&a, key));
+		MUST(ww_table_see(t, NULL, 0, names, order[k]) == 26);
+		ends();
+		MUST(!ww_table_close(t));
+	}
+	MUST(strcmp(order[0], order[1]) != 0);
+}
+
+/* A context keeps the mutexes of 32 keys that it has released, for its next ones, and the table counts these. */
+static void keeps(void)
+{
+	unsigned count = 0;
+
+	MUST(!ww_table_open(&t, &more, 512));
+	ww_acquire_init(&a, &more);
+	ww_acquire_init(&b, &more);
+	for (unsigned k = 0; k < 40; k++)
+		MUST(!writes(&a, name_of(k)));
+	ww_table_unlock_to(t, &a, 0);
+	while (!writes(&b, name_of(count)))
+		count++;
+	MUST(count == 512 - 32 && writes(&b, name_of(count)) == -ENOSPC);
+	for (; count < 512; count++)
+		MUST(!writes(&a, name_of(count)));
+	MUST(writes(&a, name_of(count)) == -ENOSPC);
+	ends();
+	MUST(!ww_table_close(t) && !ww_class_free(&more));
+}
 
 /* Where the class has no number any more a key leaves nothing. */
 static void numbers(void)
@@ -428,7 +581,11 @@ static void numbers(void)
 	MUST(!writes(&x, "1") && writes(&x, "2") == -ENOSPC);
 	before = allocated;
 	MUST(writes(&x, "2") == -ENOSPC && allocated == before && !unlock(&x, "1") && ww_table_mark(t, &x) == 0 && !writes(&x, "2"));
+	/* of so few none is kept */
 	MUST(!unlock(&x, "2"));
+	ww_acquire_init(&a, &four);
+	MUST(!writes(&a, "3") && !unlock(&a, "3"));
+	ww_acquire_fini(&a);
 	ww_acquire_fini(&x);
 	MUST(!ww_table_close(t));
 	for (unsigned k = 0; k < 3; k++)
@@ -474,6 +631,9 @@ int main(void)
 	memory();
 	limit();
 	numbers();
+	seeds();
+	keeps();
+	half_of_the_owners();
 	an_owner_stays();
 	MUST(!ww_table_open(&t, &rows, 0));
 	modes();
@@ -483,10 +643,14 @@ int main(void)
 	marks();
 	all_at_once();
 	refused_arguments();
+	forked();
+	moved_and_cancelled();
 	told();
 	told_beside_a_mutex();
+	in_order();
 	expires();
 	polls();
+	asks_once();
 	ended_otherwise();
 	owners();
 	MUST(!ww_table_close(t) && !ww_class_free(&rows) && !ww_class_free(&others));

@@ -9,12 +9,16 @@
  * Whoever reads holds a mutex more, its seat's slot, from its first read to the last one's end.  A writer may wait for slots of which
  * nothing is known here, so what a call has to return is told exactly as long as no task reads or writes by a poll.
  *
+ * Contexts are suspended, too, into values of which copies are kept, and go on later, with their age: but those that tasks have for
+ * themselves don't, since the limiter counts those (tests/doors/retry.c).
+ *
  * The test draws which leases are over: that of a context's seat, before the context ends, and before that and before other calls that of
  * the task that was called first.  So what a call has to do doesn't depend on how busy the machine is.  How long a lease lasts is looked at
  * where it begins.
  */
 #include "../mutex_test.h"
 #include "../../lock/lock.h"
+#include "ww_retry.h"
 #include "ww_shared.h"
 #include <signal.h>
 
@@ -23,13 +27,14 @@ enum { OBJECTS = 3, NUMBERS = 5, SHARED_NUMBERS = 7, LOCKS = 9, SLOT = LOCKS };
 enum { WORLDS = 2, TASKS = 7, SPARES = 24, SAID = 64, LATEST = 24 };
 enum { STEPS = 2000, LATE = 1500 }; /* in each pair of classes, and when one of these may be cancelled */
 enum { NO_TASK = -1, ALONE = TASKS };
-enum what { LOCKED, READ, WRITTEN };
+enum what { LOCKED, READ, WRITTEN, AWAITED };
 
 /* What the model knows of a task and its context. */
 struct task {
 	struct ww_acquire_ctx *x;
 	struct ww_seek seek;
-	enum { ENDED, SEEKS, BEGUN } phase;
+	enum { ENDED, SEEKS, BEGUN, SUSPENDED } phase;
+	struct ww_retry retry, copy; /* into which it is suspended; and one of no use any more */
 	enum { NOT_LENT, LENT, WAS_CALLED, TAKEN } waker; /* TAKEN: back, so nobody calls it */
 	bool is_ended;	  /* what is in x may be used, and is refused; else it has never begun */
 	bool of_tasks;	  /* its context is one of those that tasks have for themselves */
@@ -47,6 +52,7 @@ struct task {
 	bool told;	  /* it got -EDEADLK, and hasn't backed off */
 	int contended;	  /* at which it got that, or NO_TASK */
 	bool slow;	  /* and no other lock call came since */
+	bool is_gone;	  /* the mutex was destroyed since */
 	bool cancelled, is_done;
 	bool loop, first; /* in a loop; and it begins with a wait for the contended one */
 	int owing;	  /* for which it has waited before the body asked, or NO_TASK */
@@ -111,7 +117,8 @@ static struct seen looks(void);
 
 static bool is_refusal(const char *call, long r)
 {
-	return r == -EINVAL || r == -EBUSY || (r == -EALREADY && !strstr(call, "_poll(")) || (r == 0 && strstr(call, "trylock") && !strchr(call, '?'));
+	return r == -EINVAL || r == -EBUSY || (r == -EALREADY && !strstr(call, "_poll(")) || (r == 0 && strstr(call, "trylock") && !strchr(call, '?')) ||
+	       (r == -EAGAIN && strstr(call, "suspend"));
 }
 
 /* Makes a call, which is remembered; if it is refused it has changed nothing. */
@@ -276,7 +283,7 @@ static int used(void)
 	int count = 0;
 
 	for (int j = 0; j < TASKS; j++)
-		count += w->tasks[j].phase == BEGUN && (w->is_limited || w->tasks[j].of_tasks);
+		count += (w->tasks[j].phase == BEGUN && (w->is_limited || w->tasks[j].of_tasks)) || (w->tasks[j].phase == SUSPENDED && w->is_limited);
 	for (int k = 0; k < LOCKS && w->is_limited; k++)
 		count += w->holder[k] == ALONE;
 	for (int j = 0; j < TASKS; j++)
@@ -535,6 +542,7 @@ static void is_told(struct task *t)
 {
 	t->told = t->count || t->loop;
 	t->slow = true;
+	t->is_gone = false;
 	t->contended = contended(t);
 }
 
@@ -556,6 +564,16 @@ static void waits_no_more(struct task *t, int r, bool polls)
 	}
 }
 
+/* By Wait-Die -EDEADLK comes of an older context, which has the mutex or waits for it. */
+static bool meets_older(const struct task *t, int k)
+{
+	bool meets = w->holder[k] == ALONE;
+
+	for (int j = 0; j < TASKS; j++)
+		meets |= (w->holder[k] == j || w->tasks[j].polled == k) && w->tasks[j].age < t->age;
+	return meets;
+}
+
 /* A call that may have waited for k has ended, or goes on. */
 static void waited(struct task *t, int k, int r, bool polls)
 {
@@ -567,7 +585,7 @@ static void waited(struct task *t, int k, int r, bool polls)
 			t->owing = NO_TASK;
 		break;
 	case -EDEADLK:
-		IS(t->count);
+		IS(t->count && (!w->kind || !w->is_limited || meets_older(t, k)));
 		is_told(t);
 		IS(t->contended == k);
 		break;
@@ -743,7 +761,7 @@ static void poll(struct task *t, int k)
 	t->polled = NO_TASK;
 	CALL(r, t, k, ww_mutex_lock_poll(object(k), t->x, lent ? &waker : NULL));
 	if (r == -EINPROGRESS)
-		t->polled = k;
+		t->polled = k, t->asks = LOCKED;
 	else
 		t->waker = NOT_LENT;
 	if (!waits && owes_amid_loop(t)) {
@@ -993,6 +1011,10 @@ static void ends_wait(struct task *t)
 	int r;
 
 	CALL(r, t, t->polled, ww_acquire_end_wait(t->x));
+	if (t->asks == AWAITED) { /* it may lock any */
+		t->contended = NO_TASK;
+		t->slow = false;
+	}
 	t->polled = NO_TASK;
 	t->waker = NOT_LENT;
 	if (r == -EDEADLK)
@@ -1292,6 +1314,18 @@ static void may_begin(struct task *t, int r, int otherwise, bool of_tasks, bool 
 		has_begun(t, of_tasks && !w->is_limited);
 }
 
+/* By the one call or the other, of which a value of zeros suspends nothing. */
+static int begins_by_poll(struct task *t, const struct ww_waker *waker)
+{
+	int r;
+
+	if (draw(2))
+		CALL(r, t, 0, ww_acquire_init_poll(t->x, &w->c, &t->seek, waker));
+	else
+		CALL(r, t, 0, ww_acquire_resume_poll(t->x, &w->c, &t->retry, &t->seek, waker));
+	return r;
+}
+
 static void begin(struct task *t)
 {
 	bool is_one = is_one_for_a_task(), is_late = draw_late();
@@ -1310,7 +1344,10 @@ static void begin(struct task *t)
 		CALL(r, t, 0, ww_acquire_init_checked(t->x, &w->c));
 		may_begin(t, r, -EAGAIN, false, is_one);
 	} else if (way == 1) {
-		CALL(r, t, 0, ww_acquire_init_until(t->x, &w->c, &past));
+		if (draw(2))
+			CALL(r, t, 0, ww_acquire_init_until(t->x, &w->c, &past));
+		else
+			CALL(r, t, 0, ww_acquire_resume(t->x, &w->c, &t->retry, &past));
 		may_begin(t, r, w->is_cancelled ? -EINTR : -ETIMEDOUT, false, is_one);
 	} else if (way == 2 && (!w->is_limited || used() < w->contexts)) {
 		says("ww_acquire_init", t, 0);
@@ -1322,7 +1359,7 @@ static void begin(struct task *t)
 	} else {
 		t->seek = (struct ww_seek){ 0 };
 		waker = lends(t);
-		CALL(r, t, 0, ww_acquire_init_poll(t->x, &w->c, &t->seek, &waker));
+		r = begins_by_poll(t, &waker);
 		if (!is_one && is_late && w->queued - uncalled() == w->contexts)
 			is_passed_on();
 		if (r == -EINPROGRESS) {
@@ -1370,7 +1407,7 @@ static void seek_on(struct task *t)
 		waker = lends(t);
 	else
 		t->waker = NOT_LENT;
-	CALL(r, t, 0, ww_acquire_init_poll(t->x, &w->c, &t->seek, lent ? &waker : NULL));
+	r = begins_by_poll(t, lent ? &waker : NULL);
 	t->is_roused = false;
 	if (t->place == SERVED && t->was_ended)
 		IS(r == -EINTR);
@@ -1422,6 +1459,154 @@ static void end_context(struct task *t)
 		is_given(seat, is_lent, is_late);
 }
 
+/* ---- contexts that are suspended ---- */
+
+/* A poll that resumes one counts among them. */
+static int suspended(void)
+{
+	int count = 0;
+
+	for (int j = 0; j < TASKS; j++)
+		count += w->tasks[j].phase == SUSPENDED || (w->tasks[j].polled != NO_TASK && w->tasks[j].asks == AWAITED);
+	return count;
+}
+
+static bool is_none(const struct ww_retry *retry)
+{
+	static const struct ww_retry none;
+
+	return !memcmp(retry, &none, sizeof none);
+}
+
+/* What the value named before is dropped, and that may be nothing. */
+static void suspends(struct task *t)
+{
+	int r;
+
+	if (t->of_tasks)
+		return;
+	if (draw(2))
+		t->retry = (struct ww_retry){ 0 };
+	CALL(r, t, 0, ww_acquire_suspend(t->x, &t->retry));
+	IS(r == (t->polled != NO_TASK ? -EBUSY : t->count ? -EINVAL : suspended() >= (int)seats_of(w->c.pool) / 2 ? -EAGAIN : 0));
+	if (r)
+		return;
+	t->phase = SUSPENDED;
+	if (t->is_gone)
+		t->contended = NO_TASK;
+	t->slow = t->slow && !t->loop && t->contended != SLOT;
+	t->cancelled = false;
+	t->is_ended = draw(2);
+	if (!t->is_ended)
+		memset(t->x, 0x5a, sizeof *t->x);
+}
+
+/* It goes on as one that has just begun, but with its age; or it waits by a poll. */
+static void goes_on(struct task *t, int awaits)
+{
+	struct task was = *t;
+
+	has_begun(t, false);
+	t->age = was.age;
+	t->cancelled = was.cancelled;
+	if (awaits == NO_TASK)
+		return;
+	t->waker = was.waker;
+	t->slow = was.slow;
+	t->contended = t->polled = awaits;
+	t->asks = AWAITED;
+}
+
+/*
+ * What a resume returned.  It doesn't wait if the contended mutex is gone.  If another call came after -EDEADLK, it isn't known whether it
+ * is to wait.
+ */
+static void resumed(struct task *t, const struct ww_retry *was, int r, bool polls)
+{
+	int k = t->contended;
+	bool may_wait = k == SLOT || (k != NO_TASK && !is_free(k)), is_to_wait = t->slow && w->holder[k] != NO_TASK;
+
+	if (was->ticket_)
+		t->copy = *was;
+	IS(r ? may_wait : !is_to_wait);
+	IS(is_none(&t->retry) == (!r || r == -EINPROGRESS));
+	IS(is_none(&t->retry) || !t->x->own);
+	if (r)
+		waits_no_more(t, r, polls);
+	if (!r || r == -EINPROGRESS) {
+		goes_on(t, r ? k : NO_TASK);
+	} else {
+		t->phase = SUSPENDED;
+		t->waker = NOT_LENT;
+	}
+}
+
+static void resume(struct task *t)
+{
+	const struct ww_retry was = t->retry;
+	int r;
+
+	if (rarely(4)) {
+		ww_retry_at_once(&t->retry);
+		t->contended = NO_TASK;
+		t->slow = false;
+	}
+	CALL(r, t, t->contended, ww_acquire_resume(t->x, &w->c, &t->retry, t->contended == NO_TASK && draw(2) ? NULL : &past));
+	resumed(t, &was, r, false);
+}
+
+/* A poll, the first one or another one. Which mutex a slot is of isn't known here, so for one it doesn't wait. */
+static void resume_poll(struct task *t)
+{
+	const struct ww_retry was = t->retry;
+	bool lent = t->contended != SLOT && !rarely(4), seeks = t->polled != NO_TASK || lent || draw(2);
+	struct ww_waker waker = { 0 };
+	int r;
+
+	if (lent)
+		waker = lends(t);
+	if (t->polled == NO_TASK)
+		t->seek = (struct ww_seek){ 0 };
+	t->polled = NO_TASK;
+	CALL(r, t, t->contended, ww_acquire_resume_poll(t->x, &w->c, &t->retry, seeks ? &t->seek : NULL, lent ? &waker : NULL));
+	resumed(t, &was, r, lent);
+}
+
+static void drop(struct task *t)
+{
+	ww_seat *seat = &w->c.pool->seats[t->retry.seat_];
+	bool is_late = draw_late();
+	int r;
+
+	t->copy = t->retry;
+	CALL(r, t, 0, ww_retry_drop(&t->retry));
+	IS(!r && is_none(&t->retry) && !ww_retry_drop(&t->retry));
+	t->phase = ENDED;
+	if (w->is_limited)
+		is_given(seat, false, is_late);
+}
+
+/* A copy of a value that was resumed or dropped; or the other class, to whose contexts the value doesn't belong. */
+static void of_no_use(struct task *t)
+{
+	bool of_others = t->phase == SUSPENDED && draw(2);
+	struct ww_class *c = of_others ? &worlds[w == worlds].c : &w->c;
+	struct ww_retry value = of_others ? t->retry : t->copy, was = value;
+	struct ww_acquire_ctx x = { 0 };
+	struct ww_seek me = { 0 };
+	int r;
+
+	if (!value.ticket_)
+		return;
+	if (draw(3))
+		CALL(r, t, 0, ww_acquire_resume(&x, c, &value, NULL));
+	else if (draw(2) || of_others)
+		CALL(r, t, 0, ww_acquire_resume_poll(&x, c, &value, draw(2) ? &me : NULL, NULL));
+	else
+		CALL(r, t, 0, ww_retry_drop(&value));
+	IS(r == -EINVAL && !memcmp(&value, &was, sizeof was) && !x.own);
+}
+
 static int destroy(int k)
 {
 	int r;
@@ -1446,7 +1631,7 @@ static void amid_a_wait(struct task *t)
 	int s = OBJECTS + (int)draw(NUMBERS - OBJECTS);
 	struct ww_mutex *list[2] = { object(k), object((k + 1) % OBJECTS) };
 
-	switch (draw(27)) {
+	switch (draw(28)) {
 	case 0: CALL(r, t, k, ww_mutex_lock(object(k), t->x)); break;
 	case 1: CALL(r, t, k, lock_of(object(k), t->x)); break;
 	case 2: CALL(r, t, k, ww_mutex_lock_until(object(k), t->x, &past)); break;
@@ -1456,7 +1641,7 @@ static void amid_a_wait(struct task *t)
 	case 6: CALL(r, t, n, ww_mutex_lock_until(object(n), t->x, &past)); break;
 	case 7: case 8:
 		k = draw(2) ? k : n;
-		if (k == t->polled)
+		if (k == t->polled && t->asks == LOCKED)
 			return;
 		CALL(r, t, k, ww_mutex_lock_poll(object(k), t->x, draw(2) ? &refused : NULL));
 		break;
@@ -1487,11 +1672,12 @@ static void amid_a_wait(struct task *t)
 	case 25:
 		if (t->polled == s && t->asks == READ)
 			CALL(r, t, s, ww_shared_mutex_lock_poll(shared(s), t->x, draw(2) ? &refused : NULL));
-		else if (t->polled == s)
+		else if (t->polled == s && t->asks == WRITTEN)
 			CALL(r, t, s, ww_shared_mutex_lock_shared_poll(shared(s), t->x, draw(2) ? &refused : NULL));
 		else
 			CALL(r, t, s, ww_shared_mutex_lock_shared_poll(shared(s), t->x, &refused));
 		break;
+	case 26: CALL(r, t, 0, ww_acquire_suspend(t->x, &t->copy)); break;
 	default: CALL(r, t, 0, ww_class_free(&w->c)); break;
 	}
 	IS(r == -EBUSY || (t->is_done && r == -EINVAL));
@@ -1506,7 +1692,7 @@ static void with_none(struct task *t)
 
 	if (!t->is_ended)
 		return;
-	switch (draw(21)) {
+	switch (draw(22)) {
 	case 0: CALL(r, t, k, ww_mutex_lock(object(k), t->x)); break;
 	case 1: CALL(r, t, k, lock_of(object(k), t->x)); break;
 	case 2: CALL(r, t, k, ww_mutex_lock_until(object(k), t->x, &past)); break;
@@ -1527,6 +1713,7 @@ static void with_none(struct task *t)
 	case 17: CALL(r, t, s, ww_shared_mutex_lock_poll(shared(s), t->x, draw(2) ? &refused : NULL)); break;
 	case 18: CALL(r, t, s, ww_shared_mutex_lock_shared_poll(shared(s), t->x, draw(2) ? &refused : NULL)); break;
 	case 19: CALL(r, t, 0, ww_acquire_end(t->x)); break;
+	case 20: CALL(r, t, 0, ww_acquire_suspend(t->x, &t->copy)); break;
 	default: CALL(r, t, 0, ww_poll_take_back(t->x, NULL) ? 1 : -EINVAL); break;
 	}
 	IS(r == -EINVAL);
@@ -1603,6 +1790,9 @@ static void comes_anew(int k)
 	for (int j = 0; j < TASKS; j++)
 		if (w->tasks[j].contended == k) { /* it may not wait for what was destroyed */
 			w->tasks[j].slow = false;
+			w->tasks[j].is_gone = true;
+			if (w->tasks[j].phase == SUSPENDED) /* nor does it */
+				w->tasks[j].contended = NO_TASK;
 			if (w->tasks[j].first && w->tasks[j].phase == BEGUN) {
 				ww_acquire_unlock_all(w->tasks[j].x);
 				w->tasks[j].first = false;
@@ -1682,7 +1872,9 @@ static void unlock_all(struct task *t)
 
 static void polls_on(struct task *t)
 {
-	if (is_shared(t->polled))
+	if (t->asks == AWAITED)
+		resume_poll(t);
+	else if (is_shared(t->polled))
 		poll_shared(t, t->polled, t->asks);
 	else
 		poll(t, t->polled);
@@ -1711,6 +1903,16 @@ static void step(void)
 			with_none(t);
 		else if (t->place == CALLED ? rarely(12) : t->waker == WAS_CALLED || rarely(3)) /* a called one's loop is busy */
 			seek_on(t);
+	} else if (rarely(24)) {
+		of_no_use(t);
+	} else if (t->phase == SUSPENDED) {
+		switch (draw(8)) {
+		case 0: with_none(t); break;
+		case 1: drop(t); break;
+		case 2: case 3: resume(t); break;
+		case 4: case 5: case 6: resume_poll(t); break;
+		default: break;
+		}
 	} else if (t->polled != NO_TASK) {
 		switch (draw(8)) {
 		case 0: case 1: amid_a_wait(t); break;
@@ -1720,6 +1922,8 @@ static void step(void)
 		}
 	} else if (t->loop && t->told && draw(2)) {
 		goes_round(t);
+	} else if ((t->told || t->slow) && !t->count && draw(2)) {
+		suspends(t);
 	} else if (t->first && draw(2)) {
 		lock_until(t, k);
 	} else if (t->owing != NO_TASK && rarely(4)) {
@@ -1739,7 +1943,7 @@ static void step(void)
 		case 17: begin_loop(t); break;
 		case 18: if (rarely(2)) goes_round(t); break;
 		case 19: if (rarely(4)) cancel(t); break;
-		case 20: if (rarely(2)) sets(t); break;
+		case 20: if (rarely(2)) sets(t); else suspends(t); break;
 		case 21: if (rarely(2)) of_others(t); else unlock_all(t); break;
 		default: end_context(t); break;
 		}
@@ -1755,6 +1959,8 @@ static bool gets_on(struct task *t)
 		return false;
 	if (t->phase == SEEKS) {
 		seek_on(t);
+	} else if (t->phase == SUSPENDED) {
+		drop(t);
 	} else if (t->polled != NO_TASK) {
 		polls_on(t);
 	} else if (t->count) {
