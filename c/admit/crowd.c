@@ -381,6 +381,7 @@ static void wait_for_permit(struct ww_pool *p, uint64_t now, uint64_t until, boo
 	*me.link = me.next;
 	*(me.next ? &me.next->link : &crowd->end) = me.link;
 	call_one(p, now);
+	DTRACE_PROBE1(ww, permit_wait_end, p->class_);
 }
 
 /*

@@ -10,7 +10,7 @@
 const struct ww_layout {
 	struct ww_open *const *open; /* the list of open classes */
 	struct ww_mine *const *owners; /* the owners of the threads' own seats */
-	struct ww_row rows[48];
+	struct ww_row rows[49];
 } ww_layout_ __attribute__((section(".ww_layout"))) = {
 	&ww_all_open, ww_owners, {
 		SIZE(ww_seat), AT(ww_seat, handle), AT(ww_seat, token), AT(ww_seat, busy), AT(ww_seat, slot), AT(ww_seat, waker),
@@ -22,5 +22,6 @@ const struct ww_layout {
 		AT(ww_seek, next_), AT(ww_mine, thread), AT(ww_mine, lwp), AT(ww_mine, since), AT(ww_slot, seat),
 		AT(ww_slot, marks), AT(ww_mutex, ctx), AT(ww_mutex, pool), AT(ww_mutex, number), AT(ww_mutex, waiters),
 		AT(ww_class, is_wait_die), AT(ww_class, name), VALUE(BUSY), VALUE(ARMED), VALUE(IS_SLOT), VALUE(MANY_OWN), VALUE(STAMP_AT),
+		VALUE(DRAWN_BEFORE),
 	},
 };

@@ -113,12 +113,13 @@ struct ww_pool {
 
 /*
  * The words of the proved library's locks, two for each lock. As that library is compiled, a seat's memory begins with the address
- * of its table, and the table's second word is the address of an array, in which 16 words come before these. tests/base/numbers.c
- * tests that it is so.
+ * of its table, and the table's second word is the address of an array, in which so many words come before these. The first one of
+ * that array counts the timestamps that contexts have drawn, which a debugger reads. tests/base/numbers.c tests that it is so.
  */
+enum { DRAWN_BEFORE = 16 };
 static inline const uint64_t *words_of(const ww_seat *s)
 {
-	return (const uint64_t *)(*(void **const *)s->handle.at)[1] + 16;
+	return (const uint64_t *)(*(void **const *)s->handle.at)[1] + DRAWN_BEFORE;
 }
 
 /* So many bytes behind the begin of a seat's memory there is the timestamp of the seat's context, or 0. A debugger reads it. */

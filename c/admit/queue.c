@@ -381,7 +381,7 @@ bool ww_queue_up(struct ww_seek *me)
 	pthread_mutex_unlock(&p->queue);
 	call_waker(waker);
 	if (waits) {
-		DTRACE_PROBE1(ww, context_wait, p->class_);
+		DTRACE_PROBE2(ww, context_wait, p->class_, me);
 		NOTE(CONTEXT_QUEUED, .seats = of);
 	}
 	return served;
@@ -403,19 +403,22 @@ COLD int ww_seek_seat(struct ww_pool *p, const struct timespec *until, bool heed
 {
 	struct ww_seek me = { .of_ = &p->threads, .heeds_ = heeds };
 	ww_seat *own = own_seat(p);
+	bool waits;
 
 	if (p->gone)
 		return -EINVAL;
 	if (own && !is_made(own))
 		own = NULL;
 	me.waker_ = (struct ww_waker){ .wake = wake_seeker, .task = &me.served_ };
-	(void)ww_queue_up(&me);
+	waits = !ww_queue_up(&me);
 	NOTE(CONTEXT_SOUGHT, .seats = me.of_, .until = until);
 	while (!__atomic_load_n(&me.served_, __ATOMIC_ACQUIRE)) {
 		if (((own && !is_in_use(own)) || (until && ww_has_come(until))) && ww_leave_queue(&me))
 			break;
 		sleep_until(&me, own, until);
 	}
+	if (waits)
+		DTRACE_PROBE2(ww, context_wait_end, p->class_, &me);
 	NOTE(CONTEXT_FOUND, .seats = me.of_);
 	*s = own && !me.served_ ? use_own(own) : me.seat_;
 	if (*s)

@@ -8,7 +8,7 @@
 
 /*
  * The probes for perf and bpftrace, if SystemTap's header is installed. Each is an instruction that does nothing, at a place where
- * a call waits anyway.
+ * a call waits anyway. None has the program's call, which a tracer finds on the stack by the unwind tables, as tools/slow does.
  */
 #if __has_include(<sys/sdt.h>)
 #include <sys/sdt.h>
@@ -19,6 +19,7 @@
 #define DTRACE_PROBE1(...) ((void)0)
 #define DTRACE_PROBE2(...) ((void)0)
 #define DTRACE_PROBE3(...) ((void)0)
+#define DTRACE_PROBE5(...) ((void)0)
 #endif
 
 /*

@@ -15,6 +15,7 @@
  */
 #define _GNU_SOURCE
 #include "sleep.h"
+#include "message.h"
 #include "process.h"
 #include <errno.h>
 #include <linux/futex.h>
@@ -174,6 +175,7 @@ struct ww_waker ww_leave_token(ww_seat *s)
 	uint32_t was = __atomic_load_n(&s->token, __ATOMIC_SEQ_CST);
 	struct ww_waker waker = { 0 };
 
+	DTRACE_PROBE1(ww, wake, s);
 	do {
 		if (was >= ARMED) {
 			waker.wake = __atomic_load_n(&s->waker.wake, __ATOMIC_RELAXED);

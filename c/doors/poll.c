@@ -113,6 +113,8 @@ static __attribute__((noinline)) int seek(struct ww_class *c, struct ww_seek *me
 	served = !waits ? ww_queue_up(me) : waker ? ww_poll_seat(me, waker) : !ww_leave_queue(me);
 	if (!served && waker)
 		return -EINPROGRESS;
+	if (waits)
+		DTRACE_PROBE2(ww, context_wait_end, me->of_->pool->class_, me);
 	*s = served ? me->seat_ : NULL;
 	*me = (struct ww_seek){ 0 };
 	return !served ? -ETIMEDOUT : *s ? 0 : -EINTR;

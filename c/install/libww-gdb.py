@@ -161,11 +161,12 @@ class Class:
         return word(self.pool + self.at[field], form)
 
     def so_far(self, seats, count):
-        """What happened since the class was opened, as ww_class_stats counts it."""
+        """What happened since the class was opened, as ww_class_stats counts it; and as many timestamps as contexts drew, of which several may share one."""
         size, sought = self.at["sizeof ww_seat"], self.at["ww_seats.sought"]
         waits, back_offs = (sum(struct.unpack_from("<Q", seats, k * size + self.at[it])[0] for k in range(count)) for it in ("ww_seat.waits", "ww_seat.back_offs"))
         for_context = sum(word(self.pool + self.at["ww_pool." + it] + sought) for it in ("threads", "tasks"))
-        return {"waits": waits, "back-offs": back_offs, "waits for a context": for_context, "waits for a permit": self.of("ww_pool.crowd.sought")}
+        drawn = word(self.of("ww_pool.words") - 8 * self.at["DRAWN_BEFORE"])
+        return {"contexts or more": drawn, "waits": waits, "back-offs": back_offs, "waits for a context": for_context, "waits for a permit": self.of("ww_pool.crowd.sought")}
 
     def owner_words(self):
         """Of each mutex that is held: its number, and the seat and the timestamp in its owner word (crates/ww_word)."""

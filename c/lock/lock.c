@@ -40,7 +40,7 @@ static void begin_wait(struct ww_mutex *m, struct ww_acquire_ctx *x, ww_seat *s,
 	note_asked(m, s, how);
 	__atomic_store_n(&s->awaits, m->number + 1, __ATOMIC_RELEASE);
 	count(&s->waits);
-	DTRACE_PROBE2(ww, contention_begin, m, x);
+	DTRACE_PROBE3(ww, contention_begin, m, x, s);
 	NOTE(LOCK_WAITS, .seat = s, .mutex = m, .how = how);
 	count_waiter(m, how, counts_for(how));
 }
@@ -49,7 +49,7 @@ static void end_wait(struct ww_mutex *m, struct ww_acquire_ctx *x, ww_seat *s, c
 {
 	(void)x, (void)r; /* only a probe uses them */
 	__atomic_store_n(&s->awaits, 0, __ATOMIC_RELAXED);
-	DTRACE_PROBE3(ww, contention_end, m, x, r);
+	DTRACE_PROBE5(ww, contention_end, m, x, s, r, wait->from);
 	NOTE(LOCK_WAITED, .seat = s);
 	count_waiter(m, wait->how, -counts_for(wait->how));
 	if (wait->how->who == THREAD)
@@ -71,7 +71,7 @@ static int lock_ends(struct ww_mutex *m, struct ww_acquire_ctx *x, ww_seat *s, i
 		note_meeting(s);
 		note_asked(m, s, how);
 		count(&s->back_offs);
-		DTRACE_PROBE2(ww, back_off, m, x);
+		DTRACE_PROBE3(ww, back_off, m, x, s);
 		x->contending_lock = m;
 		x->puts = puts_of(&s->pool->numbers, m->number);
 		s->told = m->number;

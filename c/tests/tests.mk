@@ -230,7 +230,7 @@ check-picture: $(OUT)/misuse
 # The compiler has left in what only fetches ahead. The libraries wait by futexes, and by no call at which a thread ends that
 # pthread_cancel told to. And where SystemTap's header is here, the probes are there.
 ENDS_THREADS = nanosleep|clock_nanosleep|usleep|sleep|pause|poll|ppoll|select|pselect|sem_wait|sem_timedwait|pthread_cond_wait|pthread_cond_timedwait
-PROBES = contention_begin contention_end back_off context_wait permit_wait
+PROBES = contention_begin contention_end back_off wake context_wait context_wait_end permit_wait permit_wait_end
 check-objects: $(OBJECTS) $(DEBUG_OBJECTS) $(OUT)/libww.so
 	$(OBJCOPY:%objcopy=%objdump) -d $(OUT)/lock/list.o | grep -qE 'prefetch|prfm'
 	! nm -u $(filter %.o,$^) | grep -E '^ *[Uw] ($(ENDS_THREADS))$$'

@@ -306,7 +306,10 @@ static void word_says(ww_seat *s)
 	MUST(stamp == word >> (0xD4 >> word % 8 & 1 ? 15 : 8) && !stamp == !!seat_of(&owned));
 }
 
-/* By each seat of a class of few and of many, with a context and without one, and with somebody who waits for it. */
+/*
+ * By each seat of a class of few and of many, with a context and without one, and with somebody who waits for it. Only contexts draw
+ * timestamps, of which a word before the locks' words has the count.
+ */
 static void words_say_owners(uint32_t contexts)
 {
 	static struct ww_acquire_ctx all[4094];
@@ -334,6 +337,7 @@ static void words_say_owners(uint32_t contexts)
 		word_says(seat_of(&owned));
 		ww_mutex_unlock(&owned);
 	}
+	MUST(words_of(few.pool->seats)[-DRAWN_BEFORE] == contexts - 1);
 	for (uint32_t k = 0; k + 1 < contexts; k++)
 		ww_acquire_fini(&all[k]);
 	MUST(!ww_mutex_destroy(&owned) && !ww_class_free(&few));
