@@ -9,6 +9,8 @@
  *
  *	do {
  *		err = ww_acquire_resume(&ctx, &boxes, &retry, NULL);
+ *		if (err)
+ *			return err;
  *		err = transfer(&ctx);
  *		unlock what was locked;
  *	} while (err == -EDEADLK && !ww_acquire_suspend(&ctx, &retry));
