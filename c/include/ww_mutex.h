@@ -64,9 +64,10 @@
  * fork.  In the child, a class goes on with its mutexes if no mutex of it was held, no context had begun and no thread was in a call at
  * the fork.  Any other class that was open gives out no mutexes and no contexts (-EINVAL) until ww_class_free has released it there, and
  * a mutex that had its number can't be locked until it is destroyed and initialized again.  A context from before the fork may release
- * what it holds, and end.  Once one of its lock calls would have to wait, that call and all later ones return -EINVAL.  A program's own
- * handlers of pthread_atfork may lock mutexes, unless they were registered before the library was loaded (dlopen).  A child of
- * _Fork or clone, which call no such handlers, may use nothing of the library.
+ * what it holds, and end.  Once one of its lock calls would have to wait, that call and all later ones return -EINVAL; only a read
+ * beside other reads of the context may return 0.  A program's own handlers of pthread_atfork may lock mutexes, unless they were
+ * registered before the library was loaded (dlopen).  A child of _Fork or clone, which call no such handlers, may use nothing of the
+ * library.
  *
  * Several copies.  Each copy of the library, as in a plugin that is linked with the archive, has classes of its own: the program ends
  * with a message where a copy uses a class that another one opened, also before it was closed and loaded again.  Each loaded copy of the
@@ -124,9 +125,10 @@ void ww_acquire_done(struct ww_acquire_ctx *ctx) WW_NONNULL_(1);
 /* Ends the context. The program ends with a message if the context still holds a mutex, or has ended already. */
 void ww_acquire_fini(struct ww_acquire_ctx *ctx) WW_NONNULL_(1);
 /*
- * Ends the context in whatever state it is, for destructors and languages with exceptions: ends a poll's wait and all reads, and does
- * what ww_acquire_unlock_all and ww_acquire_fini do.  -EINVAL: the context has ended before, or never began.  ww_acquire_cancel may
- * run at the same time, or later, if no other context begins in this memory and the class isn't freed.
+ * Ends the context, for destructors and languages with exceptions: ends a poll's wait and all reads, and does what ww_acquire_unlock_all
+ * and ww_acquire_fini do.  So after ww_acquire_begin_tries it ends a context in any state; without that, tries, a loop or a list, the
+ * program ends with a message if the context holds what it doesn't list.  -EINVAL: the context has ended before, or never began.
+ * ww_acquire_cancel may run at the same time, or later, if no other context begins in this memory and the class isn't freed.
  */
 int ww_acquire_end(struct ww_acquire_ctx *ctx) WW_NONNULL_(1);
 /*

@@ -51,7 +51,7 @@ void ww_mutex_name(struct ww_mutex *lock, const char *name) WW_NONNULL_(1);
  * Writes a table, as the kernel's lock_stat: for each line that locks how often it waited, how long in all and how long at most,
  * and how often a context backed off there; and the line at which the mutex of the longest wait had been acquired.  A wait
  * counts once it has ended; each that hasn't has a line of its own.  If the environment has WW_LOCK_STAT, the library writes the table
- * to standard error as the program ends.
+ * to standard error as the program ends.  The call waits for threads that are just opening or freeing a class.
  */
 void ww_lock_stat(FILE *to) WW_NONNULL_(1);
 /* How many calls were misuse, also those of which nothing was written. */

@@ -38,7 +38,7 @@ void ww_number_leave(uint32_t number, struct ww_class *ww_class) WW_NONNULL_(2);
  * ww_shared_mutex_lock, since ww_number_lock waits for no reader.  What a context writes is unlocked by its number, or by
  * ww_shared_mutex_unlock, and what it reads by ww_shared_mutex_unlock_shared.  A struct ww_acquire_ctx may move in memory only outside
  * loops and tries, and only if it makes no ww_mutex_lock and no ww_mutex_trylock, which leave its address in the mutex.  The mutex stays
- * where it is until the class is freed.  NULL: nobody has taken the number.
+ * where it is until the class is freed, also while nobody has its number.  NULL: the number was never taken.
  */
 struct ww_shared_mutex;
 struct ww_shared_mutex *ww_number_at(uint32_t number, struct ww_class *ww_class) WW_NONNULL_(2);

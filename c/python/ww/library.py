@@ -51,6 +51,13 @@ def check_body(body: Any, result: Any, is_async: bool = False) -> None:
         raise unexpected(what, body) from None
 
 
+class Single:
+    """What stands for something of the library, which would have two ends if it were copied."""
+
+    def __reduce__(self) -> Any:
+        raise TypeError(f"a ww.{type(self).__name__} can't be copied or pickled")
+
+
 class Deadlock(OSError):
     """EDEADLK: an older context goes first, so this one must release everything that it holds."""
 

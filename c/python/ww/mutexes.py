@@ -16,7 +16,7 @@ import types
 import weakref
 from typing import TYPE_CHECKING, Any, Awaitable, Callable, Dict, Iterable, List, NamedTuple, Optional, Set, TypeVar
 
-from .library import UNRUN, WAIT_DIE, WOUND_WAIT, Already, Counted, Counts, Deadlock, Library, Reasons, Retry, Time
+from .library import UNRUN, WAIT_DIE, WOUND_WAIT, Already, Counted, Counts, Deadlock, Library, Reasons, Retry, Single, Time
 from .library import at_caller, check_body, opened, told, unexpected, whole
 
 if TYPE_CHECKING:
@@ -156,7 +156,7 @@ def _in_slices(call: Callable[[Optional[Time]], int], until: Optional[int]) -> i
     return call(None)
 
 
-class Class:
+class Class(Single):
     """A class of mutexes, among which deadlocks are detected. It has at most this many mutexes and contexts at a time (0:
     65,536, and 1,024 besides one for each thread), and allocates memory for as many. In a forked child it goes on, unless a
     mutex was locked or a context in use at the fork: then each call is EINVAL there. `library` is the path of another libww.so
@@ -249,7 +249,7 @@ class Class:
                 context.unlock_all()
 
 
-class Suspended:
+class Suspended(Single):
     """The age of a context that was suspended, by which another one goes on, in whichever thread: a new one would be the youngest. It is
     true if it has an age. One without an age begins a new context; and so does what was resumed before, or whose class had half of its
     contexts suspended."""
@@ -318,7 +318,7 @@ def _place(it: Any) -> Optional[Place]:
     return Place(it.number, it.by.label, ("nobody", "holds", "reads", "waits")[it.by.part]) if it.mutex else None
 
 
-class Mutex:
+class Mutex(Single):
     """A mutex of a class. `with mutex:` holds only this one, in a context of its own, and in a task `async with mutex:` does.
     acquire, release and locked are those of threading.Lock, so threading.Condition takes a Mutex. One thing differs: a thread that
     would wait for itself without a limit gets Already. A block always releases, also where the handler of a signal raises in it or
@@ -403,7 +403,7 @@ class SharedMutex(Mutex):
     _calls = "ww_shared_mutex_"
 
 
-class Holder:
+class Holder(Single):
     """What the contexts of threads and of tasks have in common. The library knows what they hold. But there all reads end together:
     so `_reads` has the numbers of what the program hasn't unlocked, and the last unlock ends the reads. Where an exception comes
     between two lines it may have one too many, and then the reads last until the block ends."""

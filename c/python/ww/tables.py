@@ -8,7 +8,7 @@ import functools
 import threading
 from typing import Any, Callable, Dict, List, NamedTuple, Optional, TypeVar, Union
 
-from .library import UNRUN, Deadlock, Library, Time, at_caller, check_body, told, unexpected, whole
+from .library import UNRUN, Deadlock, Library, Single, Time, at_caller, check_body, told, unexpected, whole
 from .mutexes import Class, Suspended, _Call, _ending, _Exit, _in_slices, _is_main, _until, _wrong
 
 _T = TypeVar("_T")
@@ -75,7 +75,7 @@ def _bytes(key: Key) -> bytes:
     return key
 
 
-class Table:
+class Table(Single):
     """A table of locks, by keys of any bytes; a str is its UTF-8. At most `keys` keys are locked or waited for at a time, and kept; 0:
     as many as the class has mutexes. In a forked child it isn't used."""
 
@@ -133,7 +133,7 @@ class Table:
         return found
 
 
-class Transaction:
+class Transaction(Single):
     """What has keys of a table: `with Table.transaction() as transaction`, for one thread. Where it would have to wait in a thread that
     runs a loop of asyncio, it raises RuntimeError."""
 

@@ -153,7 +153,7 @@ static void puts_no_other_back(void)
 
 	MUST(ww_number_put(0, c) == -EINVAL && ww_number_put(COUNT - 1, c) == -EINVAL);
 	takes();
-	MUST(!ww_number_put(n[0], c) && ww_number_put(n[0], c) == -EINVAL);
+	MUST(!ww_number_put(n[0], c) && ww_number_put(n[0], c) == -EINVAL && ww_number_at(n[0], c));
 	m = as_for(n[0]);
 	ww_mutex_init(m, c);
 	MUST(m->number == n[0] && ww_number_put(n[0], c) == -EINVAL);

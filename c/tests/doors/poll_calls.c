@@ -356,7 +356,7 @@ static void goes_on_without_who_was_called(void)
 	ww_acquire_fini(&both[0]);
 	MUST(called[0] == 1 && looks(1, &y) == -EINPROGRESS);
 	may_come_until(seeks[0].seat_, 1);
-	MUST(!looks(1, &both[0]) && looks(0, &y) == -EINPROGRESS);
+	MUST(!looks(1, &both[0]) && !called[1] && looks(0, &y) == -EINPROGRESS); /* nor is a waker called by its own task's poll */
 	ww_acquire_fini(&both[0]);
 	MUST(called[0] == 2 && !looks(0, &both[0]));
 	end_both(both);
@@ -477,12 +477,13 @@ static void looks_after_a_wait(void)
 	MUST(!ww_mutex_destroy(&m[0]));
 }
 
-/* Whoever comes to wait looks, too.  Contexts count only if their seats may be claimed. */
+/* Whoever comes to wait looks, too.  Each context counts once, as it ends, and only if its seat may be claimed. */
 static void looks_before_a_wait(void)
 {
 	struct ww_acquire_ctx both[2];
 	struct ww_seats *tasks = &c->pool->tasks;
 	struct ww_limiter limiter = tasks->limiter;
+	uint32_t count;
 
 	all_in_use(both, 0);
 	tasks->limiter = (struct ww_limiter){
@@ -494,7 +495,9 @@ static void looks_before_a_wait(void)
 	MUST(looks(0, &y) == -EINPROGRESS && tasks->due > ww_now() && tasks->open == 2 && tasks->limiter.since == 1);
 	ww_seek_end(&seeks[0]);
 	tasks->limiter = limiter;
+	count = given(tasks);
 	end_both(both);
+	MUST(given(tasks) == count + 2);
 }
 
 /* No limit is as many as there are. */

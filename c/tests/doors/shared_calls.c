@@ -1230,6 +1230,16 @@ static void destroys_n(void)
 	if (ww_shared_mutex_destroy(&n))
 		abort();
 }
+/* Where it would wait, and after that, it acquires nothing; but without the debug library it reads more beside what it reads. */
+static struct ww_shared_mutex third;
+static void reads_more(void)
+{
+	if (writes(&n, &x) != -EINVAL || writes(&third, &x) != -EINVAL || reads(&third, &x) != (TOLD ? -EINVAL : 0))
+		abort();
+	ww_acquire_end_reads(&x);
+	if (reads(&third, &x) != -EINVAL)
+		abort();
+}
 static void wake_nobody(void *loop, void *task) { (void)loop, (void)task; }
 
 /* Nor does a downgrade go on amid a poll. */
@@ -1250,6 +1260,9 @@ static void a_child_waits_for_nobody(void)
 	ww_mutex_unlock(slot);
 	MUST(ww_shared_mutex_lock_poll(&n, &x, &waker) == -EINPROGRESS && ends_in_a_child(downgrades_m) == SIGABRT);
 	MUST(ww_shared_mutex_lock_poll(&n, &x, NULL) == -ETIMEDOUT);
+	unlocks(&m, &x);
+	ww_shared_mutex_init(&third, c);
+	MUST(!reads(&m, &x) && !ends_in_a_child(reads_more) && !ww_shared_mutex_destroy(&third));
 	unlocks(&m, &x);
 	unlocks(&n, &y);
 	end_both();

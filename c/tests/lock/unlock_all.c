@@ -95,7 +95,9 @@ static const char message[] =
 	"ww_acquire_unlock_all: class \"boxes\": outside a loop the context acquired a mutex by number, or before it released another one "
 	"(unlock each by itself, or acquire them after ww_acquire_begin_tries)\n";
 
-static void must_end(void (*acquires)(struct ww_acquire_ctx *x))
+static int unlocks_all(struct ww_acquire_ctx *x) { return ww_acquire_unlock_all(x), 0; }
+
+static void must_end(void (*acquires)(struct ww_acquire_ctx *x), int (*releases)(struct ww_acquire_ctx *x))
 {
 	char said[256] = "";
 	struct ww_acquire_ctx known;
@@ -111,8 +113,7 @@ static void must_end(void (*acquires)(struct ww_acquire_ctx *x))
 		dup2(ends[1], 2);
 		begins(&x);
 		acquires(&x);
-		ww_acquire_unlock_all(&x);
-		_exit(0);
+		_exit(releases(&x));
 	}
 	close(ends[1]);
 	for (ssize_t got = 0, more = 1; more > 0; got += more) { /* the message may come in parts */
@@ -126,7 +127,8 @@ static void must_end(void (*acquires)(struct ww_acquire_ctx *x))
 	begins(&known);
 	ww_acquire_begin_tries(&known);
 	acquires(&known);
-	releases_all(&known);
+	MUST(!releases(&known) && !known.acquired);
+	(void)ww_acquire_end(&known);
 }
 
 int main(void)
@@ -137,8 +139,10 @@ int main(void)
 	in_each_way();
 	behind_unlocks();
 	with_reads();
-	must_end(from_before_an_unlock);
-	must_end(by_number);
+	must_end(from_before_an_unlock, unlocks_all);
+	must_end(by_number, unlocks_all);
+	must_end(from_before_an_unlock, ww_acquire_end);
+	must_end(by_number, ww_acquire_end);
 	puts("unlock_all: without a loop all is released that was acquired since the last unlock");
 	return 0;
 }

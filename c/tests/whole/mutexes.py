@@ -2,12 +2,14 @@
 
 mutexes.py libww.so"""
 import contextlib
+import copy
 import ctypes
 import errno
 import functools
 import gc
 import inspect
 import os
+import pickle
 import signal
 import subprocess
 import sys
@@ -305,6 +307,19 @@ def refuses_others():
     assert a not in context and not a.locked()
     for call in (*calls, context.cancel):
         assert fault_of(call) == errno.EINVAL
+
+
+def is_neither_copied_nor_pickled():
+    """A copy would put the number back that the mutex has."""
+    buffers = made()
+    table = ww.Table(buffers)
+    for it in (buffers, ww.Mutex(buffers), ww.SharedMutex(buffers), buffers.context(), ww.Suspended(buffers), table, table.transaction()):
+        for call in (copy.copy, copy.deepcopy, pickle.dumps):
+            try:
+                call(it)
+                assert False, it
+            except TypeError as error:
+                assert str(error) == f"a ww.{type(it).__name__} can't be copied or pickled"
 
 
 def begins_once():
@@ -926,6 +941,7 @@ ends_all_waits()
 debugs()
 is_typed()
 refuses_others()
+is_neither_copied_nor_pickled()
 begins_once()
 gives_numbers_back()
 waits_for_nothing_that_is_gone()

@@ -9,6 +9,7 @@ import sys
 C = os.path.dirname(os.path.dirname(os.path.dirname(os.path.abspath(__file__))))
 HEAD = """#include "ww_table.hpp"
 #include <memory>
+#include <shared_mutex>
 #include <vector>
 using namespace std::chrono_literals;
 ww::mutex_class boxes{ ww::mutex_class::wound_wait, "boxes" };
@@ -50,6 +51,8 @@ PROGRAMS = [
      "ww::transaction t(table, 1); (void)t.lock(std::vector<int>(1), shared);"),
     ("two of one age", "deleted", "ww::suspended age; ww::suspended other(age);", "ww::suspended age; ww::suspended other(std::move(age));"),
     ("an age that is lost", "ignoring return", "ww::transaction t(table, 1); t.suspend();", "ww::transaction t(table, 1); auto age = t.suspend();"),
+    ("a read without a context", "lock_shared", "ww::shared_mutex m(boxes); std::shared_lock reads(m);",
+     "ww::shared_mutex m(boxes); ww::context x(boxes); if (x.lock_shared(m)) return;"),
     ("money without its lock", "requires holding", "ww::context x(boxes); a.money++;",
      "ww::context x(boxes); if (x.lock(a.lock)) return; a.money++;"),
     ("money of another", "requires holding", "ww::context x(boxes); if (x.lock(a.lock)) return; b.money++;",
