@@ -220,7 +220,7 @@ check-tables:
 		$(wildcard ../checks/check_layers ../checks/check_prototypes); do $(LIMITED) python3 $$it || exit 1; done))
 
 # What the debug library tells of who waits, as a picture: with its threads numbered as they come, and without the numbers of lines.
-NUMBERED = awk '{ gsub(/[.]c:[0-9]+/, ".c"); said = ""; \
+NUMBERED = awk '{ gsub(/[.]c:[0-9]+/, ".c"); gsub(/waits [0-9.]+ s/, "waits"); said = ""; \
 	while (match($$0, /thread [0-9]+/)) { it = substr($$0, RSTART, RLENGTH); if (!(it in of)) of[it] = "thread " ++n; \
 		said = said substr($$0, 1, RSTART - 1) of[it]; $$0 = substr($$0, RSTART + RLENGTH) } print said $$0 }'
 check-picture: $(OUT)/misuse
