@@ -64,6 +64,8 @@ WORDS_closed = $(abspath $(OUT))/closable.so 1500
 # name. The thread sanitizer finds race.c wrong.
 ASKS_examples/demo = && grep -qE '^pthread_mutex: deadlocked after [0-9]+ transfers$$' $(LOG) && \
 	grep -qE '^ww_mutex: 400000 transfers, [1-9][0-9]* deadlocks avoided$$' $(LOG)
+# A program that doesn't call it has nothing of print.c.
+ASKS_examples/first = && ! $(NM) $(OUT)/examples/first | grep ww_class_print
 ASKS_closed = && $(LIMITED) $(OUT)/closed $(abspath $(OUT))/libww.so 1500
 ASKS_many_unseen = >/dev/null && test "$$(grep -v '\[0x\|\[link' $(LOG) | grep -c .)" = 1 && grep -q 'compiled with -DWW_DEBUG' $(LOG)
 ASKS_line = && ! grep -q '^\[link' $(LOG) && sed -n 's/^.*line.cpp:\([0-9]*\): .*/\1/p' $(LOG) | uniq >$@.told && \
