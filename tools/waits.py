@@ -7,13 +7,14 @@ LEGEND = "(A ── M ──► B: A waits for M, which B holds; ══►: a cy
 # Of a schedule.
 LOCK = re.compile(r"lock (\S+) (?:-|([^ /]+)/\d+(h?)) :((?: [^ /]+/\d+\+?)*)")
 SEAT = re.compile(r"seat (\S+) (\d+) (\d+)")
-# Of the debug library.
-WHO = r"(thread \d+|the user of context \d+)"
+# Of ww_class_print, to which the debug library adds lines.
+WHO = r"((?:unknown )?thread \d+|the user of context \d+)"
 USED = re.compile(r'class "(.*)": .* in use, .*')
-MUTEX = r'mutex (\d+(?: ".*")?)'  # by its number, and its name, if it has one
-USES = re.compile(WHO + rf": (?:(context \d+)|a lock (without a context)) began at (.*?)(?:; suspended at (.*)|; waits at (.*) for {MUTEX})?")
+MUTEX = r'mutex (\d+(?: ".*?")?)(?: at 0x\w+)?'  # by its number, and its name, if it has one
+WAIT = rf"waits(?: ([\d.]+ s))?(?: at (.*))? for {MUTEX}"
+USES = re.compile(WHO + rf": (?:(context \d+)|a lock (without a context)(?:, or .*)?)(?: began at (.*?))?(?:; (suspended(?: at .*)?)|; {WAIT}(?:, which {WHO} holds)?)?")
 HELD = re.compile(rf"{MUTEX} is held by {WHO}(?: since (.*))?")
-REPORTED = re.compile(rf'{WHO} waits at (.*) for {MUTEX} of class "(.*)", which {WHO} holds')
+REPORTED = re.compile(rf'{WHO} {WAIT} of class "(.*)", which {WHO} holds')
 # Of gdb.
 OF_GDB = re.compile(r'class "(.*)" \((?:Wound-Wait|Wait-Die)\): .*')
 THREAD = re.compile(r"  ((?:thread|task|a thread|an unknown thread|suspended context)\b.*?)(?: at (\S+, .*?))?((?:, (?:also )?(?:timestamp \d+|without a context))+)")
@@ -22,6 +23,10 @@ HOLDS = re.compile(rf"    (holds|reads) (.*?){ALSO}")
 WAITS = re.compile(rf"    waits (?:(\S+ s|since .*) )?for (?:(what .*) reads|(.*?){ALSO}, which (?:nobody|(.*)) holds)")
 MORE = re.compile(r"  and \d+ more threads at .*")
 BACKS_OFF = re.compile(r"  (.*) backs off as soon as it runs")
+
+
+def waits_since(seconds, place):
+    return "waits" + (f" {seconds}" if seconds else "") + (f" at {place}" if place else "")
 
 
 def cycle_of(awaits):
@@ -94,20 +99,20 @@ class Waits:
             if found := USED.fullmatch(line):
                 of = f" of {found[1]}" if several else ""
             elif found := USES.fullmatch(line):
-                who, context, none, place, suspended, waits, mutex = found.groups()
-                self.add(who, f"{context + of if context else none} since {place}", suspended and f"suspended at {suspended}")
+                who, context, none, place, suspended, seconds, waits, mutex, _ = found.groups()
+                self.add(who, (context + of if context else none) + (f" since {place}" if place else ""), suspended)
                 began[who] = max(began.get(who, 0), int(context.split()[1]) if context else 0)
-                if waits:
-                    self.waits[who], self.places[who] = f"mutex {mutex}{of}", f"waits at {waits}"
+                if mutex:
+                    self.waits[who], self.places[who] = f"mutex {mutex}{of}", waits_since(seconds, waits)
             elif found := HELD.fullmatch(line):
                 self.add(found[2])
                 self.holds.setdefault(found[2], []).append(f"mutex {found[1]}{of}")
                 self.since[f"mutex {found[1]}{of}"] = f" since {found[3]}" if found[3] else ""
             elif found := REPORTED.fullmatch(line):
-                who, place, mutex, name, holder = found.groups()
+                who, seconds, place, mutex, name, holder = found.groups()
                 self.add(holder)
                 self.add(who)
-                self.waits[who], self.places[who] = f"mutex {mutex} of {name}", f"waits at {place}"
+                self.waits[who], self.places[who] = f"mutex {mutex} of {name}", waits_since(seconds, place)
                 self.readers[self.waits[who]] = holder
         if not (self.about or self.heads):
             raise ValueError("nothing is known")

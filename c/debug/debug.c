@@ -12,7 +12,32 @@
 #define _GNU_SOURCE
 #include "parts.h"
 #ifdef WW_DEBUG
+#include "../doors/print.h"
 static __thread const ww_seat *seen_seat; /* the seat of the last context that this thread found to be one */
+
+/*
+ * Says which mutex the next report is about: its address, and its number and name if it is one of an open class, of which a mutex that
+ * is wrong may be none.
+ */
+static void about(const struct ww_mutex *m)
+{
+	const struct ww_pool *of = ww_lock_pools(), *p = m ? pool_at(m) : NULL;
+
+	while (of && of != p)
+		of = next_pool(of);
+	if (of && !of->gone && m->number < of->numbers.locks)
+		snprintf(ww_about, sizeof ww_about, " [mutex %u" NAMED " at %p]", m->number, NAME(name_of_mutex(of, m->number)), (const void *)m);
+	else if (m)
+		snprintf(ww_about, sizeof ww_about, " [mutex at %p]", (const void *)m);
+	ww_unlock_pools();
+}
+
+/* Reports misuse of a mutex that has a number. */
+static void fault_of(const struct ww_mutex *m, const char *call, const struct place *earlier, const char *why)
+{
+	about(m);
+	ww_fault(m->pool->class_, call, earlier, why);
+}
 
 /* ---- contexts ---- */
 
@@ -75,17 +100,33 @@ static void note_end(const struct ww_acquire_ctx *x)
 	ww_watch_end(s);
 }
 
+/* The next report is about a mutex that the seat holds, if there is one. */
+static void about_held(const ww_seat *s)
+{
+	const struct ww_numbers *n = &s->pool->numbers;
+	uint32_t number = 0;
+
+	while (number < n->locks && holder_with(s->pool, number) != watch_of(s))
+		number++;
+	if (number < n->locks)
+		about(mutex_with(n, number));
+}
+
 /* Reports a context that got -EDEADLK and still holds a mutex, and so may neither acquire another mutex nor end. */
 static void report_unreleased(const char *call, const ww_seat *s)
 {
+	about_held(s);
 	ww_fault(s->pool->class_, call, &watch_of(s)->asked,
-		 "the context still holds a mutex, and got -EDEADLK at");
+		 "the context has to release all (ww_acquire_unlock_all), and still holds a mutex; it got -EDEADLK at");
 }
 
 static void note_stays(const struct ww_acquire_ctx *x)
 {
-	if (x->own && watch_of(x->own)->refused)
+	if (!x->own)
+		return;
+	if (watch_of(x->own)->refused)
 		report_unreleased("ww_acquire_fini", x->own);
+	about_held(x->own);
 }
 
 /* Whether the context was ever begun, in any class, or has ended. */
@@ -125,13 +166,14 @@ static const char a_copy[] = "the mutex is a copy of another one, or was moved";
 static void report_copy(const struct ww_mutex *m, const char *call)
 {
 	if (mutex_with(&m->pool->numbers, m->number) != m)
-		ww_fault(m->pool->class_, call, NULL, a_copy);
+		fault_of(m, call, NULL, a_copy);
 }
 
 /* A mutex that has no number yet gets one, as by its first lock. Of what `name` was before, a reader may see one half. */
 void ww_mutex_name(struct ww_mutex *m, const char *name)
 {
 	if (!pool_at(NEEDED(m)) && ww_number_at_first(m)) {
+		about(m);
 		ww_fault(NULL, "ww_mutex_name", NULL, "the mutex isn't initialized");
 		return;
 	}
@@ -146,10 +188,12 @@ bool ww_debug_refuses(const char *call, const struct ww_mutex *m, const struct w
 	const char *why = !is_context(x) ? "the context was never begun" :
 			  ww_debug_has_ended(x) ? "the context has ended by a copy of it" : NULL;
 
-	if (why)
+	if (why) {
+		about(m);
 		ww_fault(NULL, call, NULL, why);
-	else if (m && fits(m, x))
+	} else if (m && fits(m, x)) {
 		report_copy(m, call);
+	}
 	return why;
 }
 
@@ -160,8 +204,10 @@ static void note_alone(const struct ww_mutex *m, const struct timespec *until)
 
 	if (p)
 		report_copy(m, "ww_mutex_lock");
-	if (s)
-		ww_warn(ONCE, p->class_, "ww_mutex_lock", &watch_of(s)->began,
+	if (!s)
+		return;
+	about(m);
+	ww_warn(ONCE, p->class_, "ww_mutex_lock", &watch_of(s)->began,
 			  "deadlocks through locks without a context are not detected; "
 			  "the thread holds a mutex by what began at");
 }
@@ -192,13 +238,13 @@ static void note_taken_back(const struct ww_acquire_ctx *x)
 static void got_lock(const struct ww_mutex *m, const struct ww_acquire_ctx *x, struct watch *s)
 {
 	if (x->state & IS_DONE && holder_with(m->pool, m->number) == s)
-		ww_fault(m->pool->class_, "ww_mutex_lock", NULL, "the context is done");
+		fault_of(m, "ww_mutex_lock", NULL, "the context is done");
 	if (s->refused && s->refused != m && s->taken_back.file)
-		ww_fault(m->pool->class_, "ww_mutex_lock", &s->taken_back,
+		fault_of(m, "ww_mutex_lock", &s->taken_back,
 			 "after its back-off the context retries at once, and doesn't wait for the mutex at which -EDEADLK "
 			 "came: that wait was taken back at");
 	else if (s->refused && s->refused != m)
-		ww_fault(m->pool->class_, "ww_mutex_lock", &s->asked,
+		fault_of(m, "ww_mutex_lock", &s->asked,
 			 "after -EDEADLK another mutex comes first than that at which it came, at");
 	s->is_injected = false;
 	WRITE_ONCE(s->refused, NULL);
@@ -224,7 +270,7 @@ static void note_return(const struct ww_mutex *m, const struct ww_acquire_ctx *x
 	if (r == -EINVAL && watch_of(x->own)->refused)
 		report_unreleased("ww_mutex_lock", x->own);
 	else if (r == -EINVAL)
-		ww_fault(m->pool->class_, "ww_mutex_lock", NULL, reason_of(r));
+		fault_of(m, "ww_mutex_lock", NULL, reason_of(r));
 }
 
 /* Makes up an -EDEADLK. The next one comes after three and a half times as many locks as this one. */
@@ -274,6 +320,8 @@ static bool report_unlooked(const struct ww_mutex *m)
 	const ww_seat *s = ww_any_seat_with(REFUSED_AT, (uintptr_t)m);
 
 	if (s)
+		about(m);
+	if (s)
 		ww_fault(s->pool->class_, "ww_mutex_unlock", &watch_of(s)->asked,
 			 "the context doesn't hold the mutex: nothing looked at the -EDEADLK that its lock returned at");
 	return s;
@@ -291,7 +339,7 @@ static void note_released(const struct ww_mutex *m)
 
 	report_copy(m, "ww_mutex_unlock");
 	if (is_seen() && thread != this_thread() && !(by && !user_of(by)) && !report_unlooked(m))
-		ww_fault(m->pool->class_, "ww_mutex_unlock", NULL, by_context ?
+		fault_of(m, "ww_mutex_unlock", NULL, by_context ?
 			 "its context is another thread's, which named it last in a call: see ww_acquire_here" :
 			 "another thread acquired the mutex");
 	if (by)
@@ -322,9 +370,10 @@ static void note_unheld(const struct ww_mutex *m)
 
 	ww_unlock_pools();
 	if (why)
-		ww_fault(m->pool->class_, "ww_mutex_unlock", NULL, why);
+		fault_of(m, "ww_mutex_unlock", NULL, why);
 	else
 		(void)report_unlooked(m);
+	about(m);
 }
 
 bool ww_debug_is_stale(const struct ww_mutex *m)
@@ -336,30 +385,34 @@ bool ww_debug_is_stale(const struct ww_mutex *m)
 
 /* ---- classes ---- */
 
-/*
- * Writes to the file what of the class is in use. Without a file it reports that, the first time that the class can't be freed at
- * this line, unless nothing is in use by now. Nobody frees the class while the list of classes is locked. In a forked child nothing
- * is shown of a class that was open before.
- */
-static void show_class(const struct ww_class *c, FILE *to)
+/* A text that says what of the class is in use, which the caller frees, or NULL. */
+static char *text_of(const struct ww_pool *p)
+{
+	struct ww_out to = { 0 };
+	char *words;
+	size_t size;
+
+	to.file = open_memstream(&words, &size);
+	if (to.file)
+		ww_print_pool(p, &to);
+	return to.file && !fclose(to.file) ? words : NULL;
+}
+
+/* Reports what of the class is in use, the first time that the class can't be freed at this line, unless nothing is in use by now. */
+static void report_in_use(const struct ww_class *c)
 {
 	struct ww_pool *p;
 	char *text = NULL;
 
-	of_this_copy_alone(__atomic_load_n(&c->pool, __ATOMIC_ACQUIRE));
 	(void)ww_lock_pools();
 	p = c->pool;
-	if (p && !p->gone && (to || (ww_is_any_used(p) && ww_times_here(c, "ww_class_free", NULL) == 1)))
-		text = ww_text_of(p);
+	if (p && !p->gone && ww_is_any_used(p) && ww_times_here(c, "ww_class_free", NULL) == 1)
+		text = text_of(p);
 	ww_unlock_pools();
-	if (text && to)
-		fprintf(to, "%s\n", text);
-	else if (text)
+	if (text)
 		ww_warn(NOW, NULL, "ww_class_free", NULL, "%s", text);
 	free(text);
 }
-
-void ww_class_print(struct ww_class *c, FILE *to) { show_class(NEEDED(c), NEEDED(to)); }
 
 /* ---- what is noted ---- */
 
@@ -382,9 +435,10 @@ void ww_debug_note(const struct ww_note *note)
 {
 	check_states(note);
 	switch (note->what) {
+	case ABOUT: about(note->mutex); break;
 	case MISUSE: ww_fault(note->class_, note->call, NULL, note->why); break;
 	case TIME_LIMIT: note_time(note->until); break;
-	case CLASS_STAYS: show_class(note->class_, NULL); break;
+	case CLASS_STAYS: report_in_use(note->class_); break;
 	case CLASS_FREED: free(note->pool->debug); break;
 	case CONTEXT_SOUGHT: ww_seek_begins(note->seats, note->until); break;
 	case CONTEXT_FOUND: ww_seek_ends(); break;

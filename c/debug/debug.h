@@ -9,6 +9,7 @@
 /* What is noted, when, and with which fields of struct ww_note. */
 enum ww_noted {
 	MISUSE,		   /* a call is refused, or ends the program: class_, call, why */
+	ABOUT,		   /* the misuse that is noted next is of this mutex: mutex */
 	TIME_LIMIT,	   /* a call has this time limit: until */
 	CLASS_STAYS,	   /* a class can't be freed, since somebody uses it: class_ */
 	CLASS_FREED,	   /* a class is freed, noted before its memory is: pool */
@@ -51,6 +52,23 @@ struct ww_note {
 	int r;
 };
 
+/* A place in the program at which a call is made. */
+struct place {
+	const char *file;
+	int line;
+};
+
+/*
+ * What is seen of a seat that is in use: its thread's number in the system, the number of its context, and the number, plus 1, of the
+ * mutex that it waits for, each 0 if there is none or it isn't known; and since when it waits. The debug library knows where, too.
+ */
+struct ww_use {
+	bool is_used, is_suspended;
+	uint32_t thread, wants;
+	uint64_t context, since;
+	struct place began, waits, suspended;
+};
+
 #ifdef WW_DEBUG
 /* The debug library looks at each call, so no call takes a short cut. */
 enum { IS_DEBUG = true };
@@ -75,6 +93,11 @@ WW_HIDDEN bool ww_debug_forbids(const struct ww_acquire_ctx *x, uint32_t number)
 /* Whether the last -EDEADLK of the context was made up, at this mutex, and the context has released all since. */
 WW_HIDDEN bool ww_debug_has_injected(const struct ww_mutex *m, const struct ww_acquire_ctx *x);
 
+/* What the debug library knows of a seat that is in use; a mutex's name, or NULL; and where a mutex that is held was acquired. */
+WW_HIDDEN void ww_debug_use(const struct ww_pool *p, uint32_t seat, struct ww_use *use);
+WW_HIDDEN const char *ww_debug_name(const struct ww_pool *p, uint32_t number);
+WW_HIDDEN void ww_debug_acquired(const struct ww_pool *p, uint32_t number, struct place *at);
+
 #else
 enum { IS_DEBUG = false };
 #define NOTE(noted, ...) ((void)(0 && ((struct ww_note){ .what = noted, __VA_ARGS__ }).what)) /* read by compilers alone */
@@ -85,8 +108,12 @@ enum { IS_DEBUG = false };
 #define ww_debug_injects(m, x, r) (r)
 #define ww_debug_forbids(x, number) false
 #define ww_debug_has_injected(m, x) false
+#define ww_debug_use(p, seat, use) ((void)0)
+#define ww_debug_name(p, number) NULL
+#define ww_debug_acquired(p, number, at) ((void)0)
 #endif
 
+#define NOTE_MISUSE_OF(m, ...) (NOTE(ABOUT, .mutex = m), NOTE_MISUSE(__VA_ARGS__))
 #define NOTE_MISUSE(c, name, reason) NOTE(MISUSE, .class_ = c, .call = name, .why = reason)
 
 #endif

@@ -14,11 +14,7 @@
 
 static inline const char *name_of(const struct ww_class *c) { return c->name ? c->name : ""; }
 
-/* A place in the program at which a call is made. `ww_here` is the place of this thread's call. */
-struct place {
-	const char *file;
-	int line;
-};
+/* The place in the program at which this thread's call is made. */
 WW_HIDDEN extern __thread struct place ww_here;
 /* Sets a place to that of this thread's call; or to another place, which may change meanwhile. */
 WW_HIDDEN void ww_set_place(struct place *at);
@@ -30,6 +26,8 @@ WW_HIDDEN void ww_print_place(const struct place *at, FILE *to);
  */
 static inline bool is_seen(void) { return ww_here.file; }
 
+/* Which mutex this thread's next report is about: the end of its line, or an empty text. */
+WW_HIDDEN extern __thread char ww_about[160];
 /*
  * Reports misuse, with the name of the class and the place of what began earlier, if these aren't NULL. The same words at the same
  * line, of the same class, come once with a backtrace, and then each time that their number has doubled.
@@ -183,15 +181,8 @@ WW_HIDDEN const ww_seat *ww_seat_with(const struct ww_pool *p, bool further, enu
 /* A seat of which this is so, in any class; or NULL. */
 WW_HIDDEN const ww_seat *ww_any_seat_with(enum has what, uintptr_t value);
 
-/* Writes a line that says what a context reads, if the mutex of this number is its reader slot's; and a line that describes a wait. */
-WW_HIDDEN void ww_print_reads(const struct ww_pool *p, uint32_t number, FILE *to);
-WW_HIDDEN void ww_print_wait(const ww_seat *s, FILE *to);
-/*
- * Whether anything of the class is in use; and a text that says what, which the caller frees, or NULL. The list of classes is
- * locked.
- */
+/* Whether anything of the class is in use. The list of classes is locked. */
 WW_HIDDEN bool ww_is_any_used(const struct ww_pool *p);
-WW_HIDDEN char *ww_text_of(struct ww_pool *p);
 
 /* ---- waits.c ---- */
 

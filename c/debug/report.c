@@ -14,6 +14,7 @@
 
 static unsigned long faults, warnings;
 __thread struct place ww_here;
+__thread char ww_about[160];
 static __thread const char *near_call; /* an address near the code that makes this thread's call, if that is of C or C++ */
 
 void ww_debug_line_(const char *file, int line)
@@ -142,6 +143,7 @@ static void end_report(struct report *report, const struct place *earlier, unsig
 		fputc(' ', report->to);
 		ww_print_place(earlier, report->to);
 	}
+	fputs(ww_about, report->to);
 	if (times > 1)
 		fprintf(report->to, " [%u times by now]", times);
 	fputc('\n', report->to);
@@ -166,6 +168,7 @@ void ww_fault(const struct ww_class *c, const char *call, const struct place *ea
 		fputs(why, report.to);
 		end_report(&report, earlier, times);
 	}
+	*ww_about = 0;
 	__atomic_fetch_add(&faults, 1, __ATOMIC_RELAXED);
 }
 
@@ -175,13 +178,16 @@ void ww_warn(enum when when, const struct ww_class *c, const char *call, const s
 	struct report report;
 	va_list words;
 
-	if (when == ONCE && ww_times_here(c, call, format) > 1)
+	if (when == ONCE && ww_times_here(c, call, format) > 1) {
+		*ww_about = 0;
 		return;
+	}
 	begin_report(&report, c, call);
 	va_start(words, format);
 	vfprintf(report.to, format, words);
 	va_end(words);
 	end_report(&report, earlier, 1);
+	*ww_about = 0;
 	__atomic_fetch_add(&warnings, 1, __ATOMIC_RELAXED);
 }
 #endif

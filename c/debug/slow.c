@@ -5,6 +5,7 @@
 #define _GNU_SOURCE
 #include "parts.h"
 #ifdef WW_DEBUG
+#include "../doors/print.h"
 
 /* In the search of schedules nothing is counted: there are no times, and each word that threads share makes more schedules. */
 #ifdef WW_FEW
@@ -84,10 +85,12 @@ static void print_line(const struct line *line, FILE *to)
 /* Writes a line for each wait that hasn't ended, and so isn't counted yet: of a program that hangs these are the ones. */
 static void print_present_waits(FILE *to)
 {
+	struct ww_out out = { .file = to };
+
 	for (const struct ww_pool *p = ww_lock_pools(); p; p = next_pool(p))
 		for (uint32_t k = 0; k < seats_of(p) && !p->gone; k++)
 			if (READ_ONCE(p->debug->seats[k].wants))
-				ww_print_wait(&p->seats[k], to);
+				ww_print_wait(&p->seats[k], &out);
 	ww_unlock_pools();
 }
 

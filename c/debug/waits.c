@@ -10,6 +10,7 @@
 #define _GNU_SOURCE
 #include "parts.h"
 #ifdef WW_DEBUG
+#include "../doors/print.h"
 #include <errno.h>
 #include <sys/syscall.h>
 #include <unistd.h>
@@ -130,18 +131,15 @@ static uint64_t deadlock(const struct ww_pool *of, unsigned *count)
 /* A text with a line for each wait of the deadlock, or NULL. Each of the waits may still end by a cancel. */
 static char *text_of_deadlock(const struct ww_pool *of, unsigned count)
 {
-	const ww_seat *s = mine.seat, *next;
+	const ww_seat *s = mine.seat;
+	struct ww_out to = { 0 };
 	char *words;
 	size_t size;
-	FILE *to = open_memstream(&words, &size);
 
-	for (; to && count && (next = next_wait(of, s)); count--, s = next) {
-		ww_print_wait(s, to);
-		fprintf(to, " of class \"%s\", which thread %ld holds", name_of(s->pool->class_),
-			READ_ONCE(watch_of(next)->tid));
-		ww_print_reads(s->pool, READ_ONCE(watch_of(s)->wants) - 1, to);
-	}
-	return to && !fclose(to) ? words : NULL;
+	to.file = open_memstream(&words, &size);
+	for (; to.file && s && count; count--, s = next_wait(of, s))
+		ww_print_wait(s, &to);
+	return to.file && !fclose(to.file) ? words : NULL;
 }
 
 /*
@@ -186,8 +184,8 @@ static void look_for_long_wait(void)
 
 	if (holder && !mine.seen && seconds_of_patience() && ww_has_come(&mine.is_long))
 		ww_warn(ONCE, p->class_, "a wait", &holder->began,
-			  "it has lasted %u seconds; mutex %u" NAMED " is held by what %sbegan at", seconds_of_patience(), number,
-			  NAME(name_of_mutex(p, number)), has_ended(holder) ? "a thread that has ended left; it " : "");
+			  "it has lasted %u seconds; mutex %u" NAMED " at %p is held by what %sbegan at", seconds_of_patience(), number,
+			  NAME(name_of_mutex(p, number)), (void *)mutex_with(&p->numbers, number), has_ended(holder) ? "a thread that has ended left; it " : "");
 }
 
 static uint64_t *handed(const struct ww_seats *of) { return &of->pool->debug->handed[of == &of->pool->tasks]; }

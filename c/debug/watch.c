@@ -1,8 +1,9 @@
-/* watch.c - what the debug library knows of seats and mutexes: who uses them, and since where; and what it shows. */
+/* watch.c - what the debug library knows of seats and mutexes: who uses them, and since where. */
 #define _GNU_SOURCE
 #include "parts.h"
 #ifdef WW_DEBUG
 #include "../admit/layout.h"
+#include "../doors/print.h"
 #include <sys/syscall.h>
 #include <unistd.h>
 
@@ -163,132 +164,53 @@ const ww_seat *ww_any_seat_with(enum has what, uintptr_t value)
 
 /* ---- what is in use ---- */
 
-static const struct ww_slot *slot_at(const struct ww_pool *p, uint32_t number)
+void ww_debug_use(const struct ww_pool *p, uint32_t seat, struct ww_use *use)
 {
-	const struct ww_slot *slot = NULL;
+	const struct debug *debug;
+	struct watch it;
 
-	for (unsigned k = 0; k < MANY_BITS && !slot; k++)
-		for (slot = __atomic_load_n(&p->slots[k], __ATOMIC_SEQ_CST); slot && slot->mutex.number != number;)
-			slot = slot->next;
-	return slot;
-}
-
-/*
- * Writes who uses the seat: a thread; or a context's user, if that is a task or has suspended the context, and so may go on in any
- * thread.
- */
-static void print_user(const struct watch *s, FILE *to)
-{
-	if (READ_ONCE(s->thread))
-		fprintf(to, "thread %ld", READ_ONCE(s->tid));
-	else
-		fprintf(to, "the user of context %lu", READ_ONCE(s->stamp));
-}
-
-/*
- * Writes what the context reads whose reader slot has the mutex of this number. A mark may be from a read that has ended, as long
- * as another read of its context hasn't.
- */
-void ww_print_reads(const struct ww_pool *p, uint32_t number, FILE *to)
-{
-	const struct ww_slot *slot = slot_at(p, number);
-	const char *before = "";
-
-	if (!slot || !holder_of(&slot->mutex) || !READ_ONCE(slot->reads))
+	if (!SEES(debug, p->debug) || !debug || !SEES(it, debug->seats[seat]))
 		return;
-	fputc('\n', to);
-	print_user(&p->debug->seats[slot->seat], to);
-	fputs(" reads mutex", to);
-	for (uint32_t n = 0; n < p->numbers.locks; n++)
-		if (has_mark(slot, n)) {
-			fprintf(to, "%s %u" NAMED, before, n, NAME(name_of_mutex(p, n)));
-			before = ",";
-		}
-	fprintf(to, "; for that it holds mutex %u", number);
+	use->thread = it.thread ? (uint32_t)it.tid : 0;
+	use->context = it.stamp;
+	use->wants = it.wants;
+	use->since = it.from;
+	use->began = it.began;
+	use->waits = it.waits;
+	use->suspended = it.suspended;
 }
 
-static void print_want(const struct ww_pool *of, const struct watch *s, const char *before, FILE *to)
+static bool see_holding(const struct ww_pool *p, uint32_t number, struct holding *it)
 {
-	uint32_t number = READ_ONCE(s->wants) - 1;
+	const struct holding *all;
+	const struct debug *debug;
 
-	fprintf(to, "%swaits at ", before);
-	ww_print_place(&s->waits, to);
-	fprintf(to, " for mutex %u" NAMED, number, NAME(name_of_mutex(of, number)));
+	return SEES(debug, p->debug) && debug && SEES(all, debug->mutexes) && SEES(*it, all[number]);
 }
 
-void ww_print_wait(const ww_seat *s, FILE *to)
+const char *ww_debug_name(const struct ww_pool *p, uint32_t number)
 {
-	fputc('\n', to);
-	print_user(watch_of(s), to);
-	print_want(s->pool, watch_of(s), " ", to);
+	const uint32_t *all;
+	struct holding it;
+	uint32_t puts;
+
+	return see_holding(p, number, &it) && SEES(all, p->numbers.puts) && SEES(puts, all[number]) && puts == it.puts ? it.name : NULL;
 }
 
-static void print_use(const struct ww_pool *of, uint32_t k, FILE *to)
+void ww_debug_acquired(const struct ww_pool *p, uint32_t number, struct place *at)
 {
-	const struct watch *s = &of->debug->seats[k];
-	unsigned long stamp = READ_ONCE(s->stamp);
+	struct holding it;
 
-	fputc('\n', to);
-	print_user(s, to);
-	fprintf(to, ": %s%.0lu began at ", stamp ? "context " : "a lock without a context", stamp);
-	ww_print_place(&s->began, to);
-	if (is_suspended(&of->seats[k])) {
-		fprintf(to, "; suspended at ");
-		ww_print_place(&s->suspended, to);
-	} else if (READ_ONCE(s->wants)) {
-		print_want(of, s, "; ", to);
-	}
+	if (see_holding(p, number, &it))
+		*at = it.acquired;
 }
 
-static void print_mutex(const struct ww_pool *p, uint32_t number, FILE *to)
+bool ww_is_any_used(const struct ww_pool *p)
 {
-	const struct watch *holder = holder_with(p, number);
+	bool is = taken_numbers(&p->numbers);
 
-	if (!holder)
-		return;
-	fprintf(to, "\nmutex %u" NAMED " is held by ", number, NAME(name_of_mutex(p, number)));
-	print_user(holder, to);
-	fputs(" since ", to);
-	ww_print_place(&p->debug->mutexes[number].acquired, to);
-	ww_print_reads(p, number, to);
-}
-
-static uint32_t used_seats(const struct ww_pool *p)
-{
-	uint32_t used = 0;
-
-	for (uint32_t k = 0; k < seats_of(p); k++)
-		used += is_seat_used(&p->debug->seats[k]);
-	return used;
-}
-
-static void print_counts(struct ww_pool *p, FILE *to)
-{
-	fprintf(to, "class \"%s\": %u of %u mutexes and %u of %u contexts in use, waits for a context: %u",
-		name_of(p->class_), taken_numbers(&p->numbers), p->numbers.mutexes, used_seats(p), seats_of(p),
-		waiters_of(&p->threads) + waiters_of(&p->tasks));
-	pthread_mutex_lock(&p->queue);
-	if (is_crowded(p) && p->crowd.limiter.width != NO_LIMIT)
-		fprintf(to, "; a crowd, permits: %u, waits for one: %u", p->crowd.limiter.width, p->crowd.waiting);
-	pthread_mutex_unlock(&p->queue);
-}
-
-bool ww_is_any_used(const struct ww_pool *p) { return taken_numbers(&p->numbers) || used_seats(p); }
-
-char *ww_text_of(struct ww_pool *p)
-{
-	char *words;
-	size_t size;
-	FILE *to = open_memstream(&words, &size);
-
-	if (!to)
-		return NULL;
-	print_counts(p, to);
-	for (uint32_t k = 0; k < seats_of(p); k++)
-		if (is_seat_used(&p->debug->seats[k]))
-			print_use(p, k, to);
-	for (uint32_t n = 0; n < p->numbers.locks; n++)
-		print_mutex(p, n, to);
-	return fclose(to) ? NULL : words;
+	for (uint32_t k = 0; k < seats_of(p) && !is; k++)
+		is = is_seat_used(&p->debug->seats[k]);
+	return is;
 }
 #endif

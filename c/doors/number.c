@@ -102,7 +102,7 @@ static struct ww_mutex *mutex_asked(const char *call, uint32_t number, const str
 	struct ww_shared_mutex *m = x && x->own ? mutex_at(x->own->pool, number) : NULL;
 
 	if (!m)
-		NOTE_MISUSE(NULL, call, !x ? "there is no context" : !x->own ? "the context has ended" : "the class has no mutex of this number");
+		NOTE_MISUSE(NULL, call, !x ? "there is no context" : !x->own ? "the context has ended, or was never begun" : "the class has no mutex of this number");
 	return m ? &m->mutex_ : NULL;
 }
 
@@ -132,7 +132,7 @@ int ww_number_unlock(uint32_t number, struct ww_acquire_ctx *x)
 	r = is_loop(x) ? 0 : ww_has_(&x->own->handle, number); /* in a loop the context's list says whether it holds the mutex */
 	r = !r || is_orphaned_by_fork(x->own, r) ? ww_unlock_of(m, x) : -EINVAL;
 	if (r)
-		NOTE_MISUSE(x->own->pool->class_, "ww_number_unlock", "the context doesn't hold the mutex");
+		NOTE_MISUSE_OF(m, x->own->pool->class_, "ww_number_unlock", "the context doesn't hold the mutex");
 	return r;
 }
 

@@ -127,8 +127,8 @@ int ww_retry_drop(struct ww_retry *retry)
 int ww_acquire_suspend(struct ww_acquire_ctx *x, struct ww_retry *retry)
 {
 	ww_seat *s = ww_debug_has_ended(NEEDED(x)) ? NULL : x->own;
-	const char *why = !s ? "the context has ended" : is_polled(x) ? WAITS_BY_POLL :
-		x->acquired ? "the context still holds a mutex" : NULL;
+	const char *why = !s ? "the context has ended, or was never begun" : is_polled(x) ? WAITS_BY_POLL :
+		x->acquired ? "the context still holds a mutex: release all before (ww_acquire_unlock_all)" : NULL;
 
 	if (why) {
 		NOTE_MISUSE(s ? s->pool->class_ : NULL, "ww_acquire_suspend", why);

@@ -246,7 +246,7 @@ static bool reports_use(const struct ww_shared_mutex *m)
 	bool is = p && !p->gone && ww_has_users(&p->numbers, m->mutex_.number, m);
 
 	if (is)
-		NOTE_MISUSE(p->class_, "ww_shared_mutex_destroy", "a context reads, holds or awaits the mutex");
+		NOTE_MISUSE_OF(&m->mutex_, p->class_, "ww_shared_mutex_destroy", "a context reads, holds or awaits the mutex");
 	return is;
 }
 
@@ -582,7 +582,7 @@ int ww_shared_mutex_unlock(struct ww_shared_mutex *m, struct ww_acquire_ctx *x)
 	note_used(x);
 	if (holds_it(x, &NEEDED(m)->mutex_))
 		return ww_unlock_of(&m->mutex_, x);
-	NOTE_MISUSE(NULL, "ww_shared_mutex_unlock", "the context doesn't write the mutex");
+	NOTE_MISUSE_OF(&m->mutex_, NULL, "ww_shared_mutex_unlock", "the context doesn't write the mutex");
 	return -EINVAL;
 }
 
@@ -592,7 +592,7 @@ int ww_shared_mutex_unlock_shared(struct ww_shared_mutex *m, struct ww_acquire_c
 		return -EBUSY;
 	note_used(x);
 	if (!reads_it(x, &NEEDED(m)->mutex_)) {
-		NOTE_MISUSE(NULL, "ww_shared_mutex_unlock_shared", NOT_READ);
+		NOTE_MISUSE_OF(&m->mutex_, NULL, "ww_shared_mutex_unlock_shared", NOT_READ);
 		return -EINVAL;
 	}
 	leave_reads(x, x->own->slot->reads - 1);
@@ -610,7 +610,7 @@ int ww_shared_mutex_end_read(struct ww_shared_mutex *m, struct ww_acquire_ctx *x
 		return -EBUSY;
 	note_used(x);
 	if (!reads_it(x, &NEEDED(m)->mutex_)) {
-		NOTE_MISUSE(NULL, "ww_shared_mutex_end_read", NOT_READ);
+		NOTE_MISUSE_OF(&m->mutex_, NULL, "ww_shared_mutex_end_read", NOT_READ);
 		return -EINVAL;
 	}
 	if (x->own->slot->reads > 1)

@@ -110,7 +110,7 @@ static uint64_t hash_of(const struct ww_table *t, const uint8_t *at, size_t leng
 static inline int ask(struct asked *asked, const char *call, struct ww_table *t, struct ww_acquire_ctx *x, const void *key, size_t length)
 {
 	if (!NEEDED_BY(call, x)->own || x->own->pool != NEEDED_BY(call, t)->pool || is_loop(x)) {
-		NOTE_MISUSE(t->pool->class_, call, "the context has ended, is of another class, or in a loop");
+		NOTE_MISUSE(t->pool->class_, call, "the context has ended or was never begun, is of another class, or in a loop (ww_acquire_begin_tries)");
 		return -EINVAL;
 	}
 	*asked = (struct asked){ t, x, &t->seats[place_among(x->own) - 1], hash_of(t, key, length), { .key = key, .length = length, .waits = true } };

@@ -344,6 +344,17 @@ struct ww_class_counts {
  * and how many tasks may have at a time (task_contexts: see ww_poll.h).  All are 0 if it isn't open.
  */
 void ww_class_stats(struct ww_class *ww_class, struct ww_class_counts *counts) WW_NONNULL_(1, 2);
+/*
+ * Writes to the file descriptor what of the class is in use, or of all open classes if it is NULL: a line for each thread that has a
+ * context, or locks without one, with what it waits for, since when, and who holds that; and a line for each mutex that is held.  Threads
+ * have their numbers in the system (gettid); what is over by then may be there, too.  It takes no lock, allocates nothing and needs a
+ * millisecond or two, and may be called in a signal handler.  The debug library adds lines of the program, and names of mutexes.
+ *
+ * A program that is linked with libww.so or the debug library needn't call it: if the environment has WW_PRINT=SIGUSR2, or another
+ * signal's number, that signal writes all classes to standard error.  One that is linked with libww.a has this by
+ * -Wl,-u,ww_class_print.  tools/picture draws from these lines who waits for whom.
+ */
+void ww_class_print(struct ww_class *ww_class, int fd);
 
 /* ---- other calls that the kernel doesn't have ---- */
 

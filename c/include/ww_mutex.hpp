@@ -158,7 +158,7 @@ public:
 		WW_NOWHERE_;
 		ww_mutex_end_(&it_);
 	}
-	mutex(const mutex &) = delete;
+	mutex(const mutex &) = delete; // it stays where it is: keep it by a pointer, as std::unique_ptr
 	mutex &operator=(const mutex &) = delete;
 	void lock(WW_FROM_) noexcept WW_SAFETY_(acquire_capability()) { ww_mutex_lock(&it_, nullptr); }
 	[[nodiscard]] bool try_lock(WW_FROM_) noexcept WW_SAFETY_(try_acquire_capability(true))
@@ -448,7 +448,7 @@ public:
 	}
 	// 0, or why it didn't begin, as it may only with limits: -ETIMEDOUT, -EINTR, -ENOMEM, or -EINVAL in a forked child.
 	[[nodiscard]] int error() const noexcept { return error_; }
-	context(const context &) = delete;
+	context(const context &) = delete; // it stays where it began: pass it on by reference
 	context &operator=(const context &) = delete;
 
 	// 0, or -EDEADLK, -EALREADY, -EINVAL, -ENOSPC, -ENOMEM, as ww_mutex_lock; after -EDEADLK call back_off(). With limits also

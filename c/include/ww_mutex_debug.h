@@ -35,11 +35,6 @@
 extern "C" {
 #endif
 /*
- * Writes what of a class is in use, which may be out of date by then: a line for each context and each lock with NULL, with where it
- * began and what it waits for, and a line for each mutex that is held.  tools/picture draws from these lines who waits for whom.
- */
-void ww_class_print(struct ww_class *ww_class, FILE *to) WW_NONNULL_(1, 2);
-/*
  * Names the mutex in all that this library reports and gdb shows.  The library keeps the pointer: the text must stay as it is until the
  * mutex is destroyed or gets another name, and no other thread is in ww_class_print.  NULL takes the name away.  Without WW_DEBUG the call
  * compiles to nothing.

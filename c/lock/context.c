@@ -146,12 +146,13 @@ int ww_acquire_fini_checked(struct ww_acquire_ctx *x)
 static const char *why_unended(struct ww_acquire_ctx *x)
 {
 	if (phase_of(x) == HAS_ENDED)
-		return "the context has ended";
+		return "the context has ended, or was never begun (ww_acquire_init)";
 	if (phase_of(x) == IN_POLL)
 		return WAITS_BY_POLL;
 	if (!x->acquired || ww_debug_has_ended(x))
 		return "the context has ended by a copy of it, or the class has begun as many as it may";
-	return holds_slot(x) && x->acquired == 1 ? "the context still reads a mutex" : "the context still holds a mutex";
+	return holds_slot(x) && x->acquired == 1 ? "the context still reads a mutex (ww_acquire_end_reads ends that)" :
+		"the context still holds a mutex (unlock it before, or end by ww_acquire_end)";
 }
 
 COLD static void fini_else(struct ww_acquire_ctx *x)

@@ -107,7 +107,7 @@ int ww_end_mutex(struct ww_mutex *m, void (*gives)(struct ww_numbers *n, uint32_
 		pthread_mutex_unlock(&p->numbers.lock);
 	}
 	if (is_used)
-		NOTE_MISUSE(p->class_, "ww_mutex_destroy", "somebody holds the mutex, or waits for it");
+		NOTE_MISUSE_OF(m, p->class_, "ww_mutex_destroy", "somebody holds the mutex, or waits for it");
 	return is_used ? -EBUSY : 0;
 }
 
@@ -118,7 +118,7 @@ int ww_mutex_destroy(struct ww_mutex *m)
 	int r = pool_at(NEEDED(m)) || m->class_ ? ww_mutex_end_(m) : -EINVAL;
 
 	if (r == -EINVAL)
-		NOTE_MISUSE(NULL, "ww_mutex_destroy", "the mutex isn't initialized");
+		NOTE_MISUSE_OF(m, NULL, "ww_mutex_destroy", "the mutex isn't initialized");
 	if (!r)
 		m->class_ = NULL;
 	return r;
@@ -146,7 +146,7 @@ static int check_call(enum lock_call call, struct ww_mutex *m, const struct ww_a
 	int r;
 
 	*why = !is_timely ? "the time is none" :
-		phase == HAS_ENDED ? (x ? "the context has ended" : "there is no context") :
+		phase == HAS_ENDED ? (x ? "the context has ended, or was never begun (ww_acquire_init)" : "there is no context") :
 		phase == IN_POLL ? WAITS_BY_POLL :
 		phase == LOOP_OWES && call == CALL_POLL ? "the context waited for a mutex that it has yet to lock" :
 		call == CALL_SLOW && !(x->state & IS_TOLD) ? not_due : NULL;
@@ -170,7 +170,7 @@ int ww_admit(const char *name, enum lock_call call, struct ww_mutex *m, struct w
 	if (x)
 		note_used(x);
 	if (r)
-		NOTE_MISUSE(r == -EINVAL || !m ? NULL : ww_find_class_of(m), name, why);
+		NOTE_MISUSE_OF(m, r == -EINVAL || !m ? NULL : ww_find_class_of(m), name, why);
 	else if (x && call != CALL_LIST)
 		draw_age_by_hand(x);
 	return r;
@@ -231,7 +231,7 @@ static int slowly_or_report(struct ww_mutex *m, struct ww_acquire_ctx *x, const 
 	int r = ww_lock_slowly(m, x, how);
 
 	if (r == -EINVAL || r == -EBUSY)
-		NOTE_MISUSE(NULL, "ww_mutex_lock_slow", not_due);
+		NOTE_MISUSE_OF(m, NULL, "ww_mutex_lock_slow", not_due);
 	return r;
 }
 
@@ -240,7 +240,7 @@ int ww_mutex_lock_slow_checked(struct ww_mutex *m, struct ww_acquire_ctx *x) { r
 void ww_mutex_lock_slow(struct ww_mutex *m, struct ww_acquire_ctx *x)
 {
 	if (UNLIKELY(ww_lock_slowly(m, x, &waits_on)))
-		end_of(ww_find_class_of(m), "ww_mutex_lock_slow", not_due);
+		NOTE(ABOUT, .mutex = m), end_of(ww_find_class_of(m), "ww_mutex_lock_slow", not_due);
 }
 
 int ww_mutex_lock_slow_until(struct ww_mutex *m, struct ww_acquire_ctx *x, const struct timespec *until)
@@ -311,7 +311,7 @@ int ww_mutex_lock_alone_(struct ww_mutex *m)
 	int r = lock_alone(m, &waits_on);
 
 	if (UNLIKELY(r))
-		end_of(ww_find_class_of(m), "ww_mutex_lock", reason_of_first(m, r));
+		NOTE(ABOUT, .mutex = m), end_of(ww_find_class_of(m), "ww_mutex_lock", reason_of_first(m, r));
 	return 0;
 }
 
@@ -376,7 +376,7 @@ int ww_mutex_trylock_else_(struct ww_mutex *m, struct ww_acquire_ctx *x)
 	int r = try_admitted(m, x, check_call(x ? CALL_LOCK : CALL_ALONE, m, x, NULL, &why));
 
 	if (UNLIKELY(r < 0))
-		end_of(ww_find_class_of(m), "ww_mutex_trylock", why);
+		NOTE(ABOUT, .mutex = m), end_of(ww_find_class_of(m), "ww_mutex_trylock", why);
 	return r;
 }
 

@@ -327,7 +327,7 @@ TABLE = {
         "await_readers": "load sc, fetch_and sc", "write_by": "load sc", "ww_has_users": "load sc",
         "is_vain_write": "load sc", "ww_shared_mutex_is_locked": "load sc",
     },
-    "slots": {"make_slot": "store sc", "ww_is_read_by": "load sc", "ww_mutex_users": "load sc", "await_readers": "load sc", "is_vain_write": "load sc", "slot_at": "load sc"},
+    "slots": {"make_slot": "store sc", "ww_is_read_by": "load sc", "ww_mutex_users": "load sc", "await_readers": "load sc", "is_vain_write": "load sc"},
     # What was read comes before a mark that is gone. Others than its own thread look at marks alone.
     "marks": {
         "mark": "load rlx, exchange sc", "unmark": "load rlx, store rel", "clear_marks": "store rel", "await_slot": "load sc",
@@ -341,7 +341,7 @@ TABLE = {
     # All of an open class; and of a mutex the number, which its first lock may just have given it.
     "pool": {
         "open_pool_of": "load acq, load acq", "ww_number_at": "load acq", "pool_at": "load acq", "open_now": "store rel", "ww_number_at_first": "load acq, store rel", "ww_class_open_with": "load acq",
-        "ww_class_stats": "load acq", "show_class": "load acq",
+        "ww_class_stats": "load acq", "ww_class_print": "load acq",
         "ww_class_free": "load acq, store rel", "is_open": "load rlx", "ww_acquire_init": "load acq", "begin_by_any": "load acq", "ww_acquire_init_poll": "load acq", "ww_mutex_lock": "load acq",
         "ww_mutex_trylock": "load acq", "ww_end_mutex": "store rel", "ww_number_take": "store rel",
         "take": "load acq",
@@ -658,11 +658,25 @@ def is_under(lock, code, above):
     return taken in code or said in above
 
 
+# This source copies what threads share through the system, by the calls SEES and ww_look, and else names its own copies alone.
+LOOKS, OWN_COPIES = "doors/print.c", {"c", "to", "use", "place"}
+
+
+def unlooked(folder):
+    """What the source LOOKS reaches by a pointer, and doesn't copy."""
+    for name, code, _ in functions_of(folder, [LOOKS]):
+        rest = re.sub(r"\b(SEES|ww_look)\((?:[^()]|\((?:[^()]|\([^()]*\))*\))*\)", "", code)
+        rest = re.sub(r"&(?:\w+->)+", "&", rest)  # an address alone
+        for pointer in sorted({*re.findall(r"(?:\b(\w+)|[\])])->", rest)} - OWN_COPIES):
+            yield f"in {name} {pointer or 'a pointer'} is followed, and not by SEES or ww_look"
+
+
 def uncovered(folder):
     """Plain accesses of what PLAIN has that it doesn't cover, what it says and isn't so, and shared fields that it lacks."""
     seen, lacking = {}, {}
+    looks = {name for name, _, _ in functions_of(folder, [LOOKS])}
     for name, code, above in functions_of(folder, OF_BOTH):
-        for field, writes in plain_accesses(code):
+        for field, writes in () if name in looks else plain_accesses(code):
             lock, _, others = PLAIN.get(field, "").partition(": ")
             if lock in LOCKS and not is_under(lock, code, above) or lock == "by" and writes:
                 seen.setdefault(field, set()).add(name)
@@ -1150,7 +1164,7 @@ def ours():
 
 def main():
     folder = sys.argv[1] if len(sys.argv) > 1 else os.path.join(os.path.dirname(os.path.abspath(__file__)), "..")
-    failed = [*differences(folder), *uncovered(folder), *untold(folder), *unshaken(folder)]
+    failed = [*differences(folder), *uncovered(folder), *unlooked(folder), *untold(folder), *unshaken(folder)]
     failed += [f"{name}: another answer than is known" for name, due, *words in known() if asks(*words) != due]
     failed += [f"{name}: this isn't found wrong" for name, words in wrong() if asks(*words) == RIGHT]
     count = 0

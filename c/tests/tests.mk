@@ -64,6 +64,8 @@ WORDS_closed = $(abspath $(OUT))/closable.so 1500
 # name. The thread sanitizer finds race.c wrong.
 ASKS_examples/demo = && grep -qE '^pthread_mutex: deadlocked after [0-9]+ transfers$$' $(LOG) && \
 	grep -qE '^ww_mutex: 400000 transfers, [1-9][0-9]* deadlocks avoided$$' $(LOG)
+# A program that doesn't call it has nothing of print.c.
+ASKS_examples/first = && ! $(NM) $(OUT)/examples/first | grep ww_class_print
 ASKS_closed = && $(LIMITED) $(OUT)/closed $(abspath $(OUT))/libww.so 1500
 ASKS_many_unseen = >/dev/null && test "$$(grep -v '\[0x\|\[link' $(LOG) | grep -c .)" = 1 && grep -q 'compiled with -DWW_DEBUG' $(LOG)
 ASKS_line = && ! grep -q '^\[link' $(LOG) && sed -n 's/^.*line.cpp:\([0-9]*\): .*/\1/p' $(LOG) | uniq >$@.told && \
@@ -224,7 +226,7 @@ check-tables:
 		$(wildcard ../checks/check_layers ../checks/check_prototypes); do $(LIMITED) python3 $$it || exit 1; done))
 
 # What the debug library tells of who waits, as a picture: with its threads numbered as they come, and without the numbers of lines.
-NUMBERED = awk '{ gsub(/[.]c:[0-9]+/, ".c"); said = ""; \
+NUMBERED = awk '{ gsub(/[.]c:[0-9]+/, ".c"); gsub(/waits [0-9.]+ s/, "waits"); said = ""; \
 	while (match($$0, /thread [0-9]+/)) { it = substr($$0, RSTART, RLENGTH); if (!(it in of)) of[it] = "thread " ++n; \
 		said = said substr($$0, 1, RSTART - 1) of[it]; $$0 = substr($$0, RSTART + RLENGTH) } print said $$0 }'
 check-picture: $(OUT)/misuse

@@ -3,7 +3,7 @@ use core::ffi::c_int;
 use core::fmt;
 
 /// Why a mutex wasn't locked.
-#[derive(Clone, Copy, Debug, PartialEq, Eq, Hash)]
+#[derive(Clone, Copy, PartialEq, Eq, Hash)]
 #[non_exhaustive]
 pub enum Error {
     /// An older context goes first. Drop all guards of this context, and then try again:
@@ -36,7 +36,7 @@ impl Error {
 impl fmt::Display for Error {
     fn fmt(&self, f: &mut fmt::Formatter<'_>) -> fmt::Result {
         f.write_str(match self {
-            Error::Deadlock => "an older context goes first",
+            Error::Deadlock => "an older context goes first: return this by `?`, and the body runs again",
             Error::Duplicate => {
                 "the context holds this mutex already, or reads what it would write: see `Tx::read_upgradable`"
             }
@@ -48,6 +48,22 @@ impl fmt::Display for Error {
             Error::OutOfMemory => "there is no memory to open the class, or for a key",
             Error::Taken => "another transaction has the key",
             Error::NotHeld => "the transaction doesn't have the key",
+        })
+    }
+}
+
+/// As derived, but an `unwrap` of [`Deadlock`](Error::Deadlock) says what to do instead.
+impl fmt::Debug for Error {
+    fn fmt(&self, f: &mut fmt::Formatter<'_>) -> fmt::Result {
+        f.write_str(match self {
+            Error::Deadlock => "Deadlock (not to be unwrapped: return it by `?`, and the body runs again)",
+            Error::Duplicate => "Duplicate",
+            Error::Cancelled => "Cancelled",
+            Error::TimedOut => "TimedOut",
+            Error::Exhausted => "Exhausted",
+            Error::OutOfMemory => "OutOfMemory",
+            Error::Taken => "Taken",
+            Error::NotHeld => "NotHeld",
         })
     }
 }

@@ -2,9 +2,9 @@ use crate::class::OfClass;
 use crate::context::Context;
 use crate::{ArcMutexGuard, ArcRead, ArcSharedMutexGuard, Class, Error, Guards, Mutex, MutexGuard};
 use crate::{SharedMutex, SharedMutexGuard, UpgradableGuard};
-use core::cell::Cell;
 use core::fmt;
 use core::marker::PhantomData;
+use core::sync::atomic::{AtomicU32, Ordering};
 use std::sync::Arc;
 
 /// The context of a body that [`Class::run`] runs: it locks mutexes of the class, in any order.
@@ -52,15 +52,19 @@ use std::sync::Arc;
 /// Boxes::run(|tx| std::thread::scope(|scope| scope.spawn(|| tx.lock(&BOX).map(|value| *value)).join().unwrap()));
 /// ```
 pub struct Tx<C: Class> {
+    stays: PhantomData<*const OneThreadRunsATransaction>,
     context: Context,
-    attempts: Cell<u32>,
+    attempts: AtomicU32, // no Cell, which the compiler would name first
     class: OfClass<C>,
 }
+
+/// The compiler names it first where another thread would use a transaction.
+enum OneThreadRunsATransaction {}
 
 impl<C: Class> Tx<C> {
     #[inline]
     pub(crate) fn new(context: Context) -> Self {
-        Tx { context, attempts: Cell::new(1), class: PhantomData }
+        Tx { stays: PhantomData, context, attempts: AtomicU32::new(1), class: PhantomData }
     }
 
     /// Locks it, and waits for it.
@@ -346,7 +350,7 @@ impl<C: Class> Tx<C> {
     /// How often the body has begun: 1 the first time.
     #[must_use]
     pub fn attempts(&self) -> u32 {
-        self.attempts.get()
+        self.attempts.load(Ordering::Relaxed)
     }
 
     #[inline]
@@ -384,7 +388,7 @@ impl<C: Class> Tx<C> {
     pub(crate) unsafe fn back_off(&self) -> Result<(), Error> {
         // SAFETY: as asked for here.
         unsafe { self.context.back_off() }?;
-        self.attempts.set(self.attempts.get().saturating_add(1));
+        self.attempts.store(self.attempts().saturating_add(1), Ordering::Relaxed);
         Ok(())
     }
 }

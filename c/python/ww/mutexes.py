@@ -140,6 +140,17 @@ def _may_wait(until: Optional[int]) -> None:
         raise RuntimeError("this would stop the running event loop: begin the context by `async with`, and await its lock")
 
 
+class _Acquired:
+    """What a thread's lock returns where a loop runs: an await of it says what is wrong."""
+
+    def __await__(self) -> Any:
+        raise TypeError("a context that begins by `with` locks at once, for a thread: begin it by `async with` to await its lock")
+
+
+def _acquired() -> None:
+    return _Acquired() if _runs_loop() else None  # type: ignore[return-value]
+
+
 def _in_slices(call: Callable[[Optional[Time]], int], until: Optional[int]) -> int:
     """What a call that waits until this time returns in the end."""
     if _runs_loop():
@@ -570,6 +581,7 @@ class Context(Holder):
         would be the youngest, and give way again. Already: it holds one of them. If it fails, it has released what it acquired here."""
         self._check(*mutexes)
         self._lock_until(mutexes, _until(timeout))
+        return _acquired()
 
     def read(self, *mutexes: SharedMutex, timeout: Optional[float] = None) -> None:
         """As lock, for each a SharedMutex, which it reads from now on, beside other contexts that do; what it holds already it may
@@ -578,6 +590,7 @@ class Context(Holder):
         if not all(isinstance(it, SharedMutex) for it in mutexes):
             raise unexpected("a ww.SharedMutex", next(it for it in mutexes if not isinstance(it, SharedMutex)))
         self._lock_until([it for it in mutexes if it not in self], _until(timeout), "lock_shared_until")
+        return _acquired()
 
     def _lock_until(self, mutexes: Iterable[Mutex], until: Optional[int], name: str = "lock_until") -> None:
         if self._library.is_debug:

@@ -12,6 +12,7 @@
 #include "../../admit/class.h"
 #include "ww_poll.h"
 #include "../later.h"
+#include "../said.h"
 #include <string.h>
 #include <sys/wait.h>
 
@@ -62,6 +63,7 @@ static void says(const char *words)
 	count = read(said, all, sizeof all - 1);
 	MUST(count > 0);
 	all[count - 1] = 0;
+	without_addresses(all);
 	for (char *line; (line = strsep(&rest, "\n"));) {
 		const char *from = strstr(line, "a wait"), *end = strstr(line, "began at ");
 

@@ -86,7 +86,7 @@ static bool shows_wait(int line)
 	ww_lock_stat(to);
 	MUST(!fclose(to));
 	snprintf(words, sizeof words, "lock_stat.c:%d for mutex ", line);
-	shows = strstr(text, " waits at ") && strstr(text, words);
+	shows = strstr(text, " waits") && strstr(text, words);
 	free(text);
 	return shows;
 }

@@ -8,9 +8,11 @@
 #define WW_DEBUG
 #endif
 #include "../mutex_test.h"
+#include "../said.h"
 #include "ww_poll.h"
 #include "ww_shared.h"
 #include "ww_table.h"
+#include <fcntl.h>
 #include <sys/mman.h>
 #include <sys/wait.h>
 
@@ -313,11 +315,12 @@ static void hear(bool function, void (*what)(void))
 	while ((count = read(ends[0], said + all, sizeof said - 1 - (size_t)all)) > 0)
 		all += count;
 	said[all] = 0;
+	without_addresses(said);
 	close(ends[0]);
 	MUST(waitpid(child, &status, 0) == child);
 }
 
-/* $ is the place of the call that got -EDEADLK, and * any words. */
+/* $ is the place of the call that got -EDEADLK, * any words, and @ the mutex that the report is about. */
 static void tells_by(bool function, void (*what)(void), const char *message)
 {
 	char place[512], asked[64] = "";
@@ -327,7 +330,8 @@ static void tells_by(bool function, void (*what)(void), const char *message)
 	hear(function, what);
 	if (at && *at == '$')
 		snprintf(asked, sizeof asked, "tests/debug/misuse.c:%d", lines->asked);
-	snprintf(place, sizeof place, "misuse.c:%d: %.*s%s%s", lines->here, length, message, asked, at && *at == '*' ? "" : "\n");
+	snprintf(place, sizeof place, "misuse.c:%d: %.*s%s%s%s", lines->here, length, message, asked, at && *at == '$' ? at + 1 : "",
+		 at && *at == '*' ? "" : "\n");
 	if (!strstr(said, place) || (HAS_BACKTRACE && !strstr(strstr(said, place), "[0x"))) {
 		fprintf(stderr, "not told: %s\nbut %s\n", place, said);
 		exit(1);
@@ -435,7 +439,7 @@ static void *waits(void *ctx)
 }
 
 /* The older one waits for the younger, and one without a context for both. */
-static void prints(FILE *to)
+static void prints(int to)
 {
 	pthread_t threads[2];
 
@@ -476,22 +480,22 @@ static void *transacts(void *arg)
 /* The waits can be written out while others acquire and release. */
 static void prints_beside_others(void)
 {
-	FILE *to = fopen("/dev/null", "w");
+	int to = open("/dev/null", O_WRONLY);
 	pthread_t threads[4];
 
-	MUST(to && !ww_class_limit(&busy, 8, 8));
+	MUST(to >= 0 && !ww_class_limit(&busy, 8, 8));
 	for (unsigned k = 0; k < 3; k++)
 		ww_mutex_init(&shared[k], &busy);
 	for (size_t k = 0; k < 4; k++)
 		threads[k] = begin_thread(transacts, (void *)k);
-	for (unsigned k = 0; k < 20000; k++)
+	for (unsigned k = 0; k < 2000; k++)
 		ww_class_print(&busy, to);
 	__atomic_store_n(&is_over, true, __ATOMIC_RELAXED);
 	for (unsigned k = 0; k < 4; k++)
 		end_thread(threads[k]);
 	for (unsigned k = 0; k < 3; k++)
 		MUST(!ww_mutex_destroy(&shared[k]));
-	MUST(!ww_class_free(&busy) && !fclose(to));
+	MUST(!ww_class_free(&busy) && !close(to));
 }
 
 #define NO_STATE " is in a state that none has, by an internal error, or since the program overwrote memory: "
@@ -504,50 +508,50 @@ int main(int count, char **words)
 	if (count > 1 && !strcmp(words[1], "waits")) {
 		MUST(!ww_class_limit(&c, 8, 4));
 		prepare();
-		prints(stdout);
+		prints(1);
 		return 0;
 	}
-	tells(wrong_class, "ww_mutex_lock: the mutex is of another class, or isn't initialized");
-	tells_how_often("ww_mutex_lock: the mutex is of another class, or isn't initialized");
-	tells(after_done, "ww_mutex_lock: class \"c\": the context is done");
-	tells(tries_after_done, "ww_mutex_lock: class \"c\": the context is done");
+	tells(wrong_class, "ww_mutex_lock: the mutex is of another class, or isn't initialized@");
+	tells_how_often("ww_mutex_lock: the mutex is of another class, or isn't initialized@");
+	tells(after_done, "ww_mutex_lock: class \"c\": the context is done@");
+	tells(tries_after_done, "ww_mutex_lock: class \"c\": the context is done@");
 	tells(done_twice, "ww_acquire_done: class \"c\": the context is done, or has ended");
-	tells(fini_with_a_mutex, "ww_acquire_fini: class \"c\": the context still holds a mutex");
-	tells(fini_while_it_reads, "ww_acquire_fini: class \"c\": the context still reads a mutex");
-	tells(ends_without_looking, "ww_acquire_fini: class \"c\": the context still holds a mutex, and got -EDEADLK at $");
-	tells(another_after_deadlk, "ww_mutex_lock: the mutex is of another class, or isn't initialized");
-	tells(holds_after_deadlk, "ww_mutex_lock: class \"c\": the context still holds a mutex, and got -EDEADLK at $");
-	tells(told_without_need, "ww_mutex_lock: class \"c\": the context still holds a mutex, and got -EDEADLK at $");
-	tells(another_first, "ww_mutex_lock: class \"c\": after -EDEADLK another mutex comes first than that at which it came, at $");
-	tells(tries_another_first, "ww_mutex_lock: class \"c\": after -EDEADLK another mutex comes first than that at which it came, at $");
+	tells(fini_with_a_mutex, "ww_acquire_fini: class \"c\": the context still holds a mutex (unlock it before, or end by ww_acquire_end)@");
+	tells(fini_while_it_reads, "ww_acquire_fini: class \"c\": the context still reads a mutex (ww_acquire_end_reads ends that)@");
+	tells(ends_without_looking, "ww_acquire_fini: class \"c\": the context has to release all (ww_acquire_unlock_all), and still holds a mutex; it got -EDEADLK at $@");
+	tells(another_after_deadlk, "ww_mutex_lock: the mutex is of another class, or isn't initialized@");
+	tells(holds_after_deadlk, "ww_mutex_lock: class \"c\": the context has to release all (ww_acquire_unlock_all), and still holds a mutex; it got -EDEADLK at $@");
+	tells(told_without_need, "ww_mutex_lock: class \"c\": the context has to release all (ww_acquire_unlock_all), and still holds a mutex; it got -EDEADLK at $@");
+	tells(another_first, "ww_mutex_lock: class \"c\": after -EDEADLK another mutex comes first than that at which it came, at $@");
+	tells(tries_another_first, "ww_mutex_lock: class \"c\": after -EDEADLK another mutex comes first than that at which it came, at $@");
 	tells(retries_at_once, "ww_mutex_lock: class \"c\": after its back-off the context retries at once, and doesn't wait for "
-	      "the mutex at which -EDEADLK came: that wait was taken back at $");
+	      "the mutex at which -EDEADLK came: that wait was taken back at $@");
 	tells(slow_without_cause,
-	      "ww_mutex_lock_slow: no -EDEADLK of this mutex came before, or the context still holds a mutex");
-	tells(slow_ends, "ww_mutex_lock_slow: class \"c\": no -EDEADLK of this mutex came before, or the context still holds a mutex");
-	tells(destroys_held, "ww_mutex_destroy: class \"c\": somebody holds the mutex, or waits for it");
-	tells(told_by_a_thread_that_ends, "ww_mutex_destroy: class \"c\": somebody holds the mutex, or waits for it");
-	tells(destroys_twice, "ww_mutex_destroy: the mutex isn't initialized");
-	tells(names_a_copy, "ww_mutex_name: class \"c\": the mutex is a copy of another one, or was moved");
-	tells(names_none, "ww_mutex_name: the mutex isn't initialized");
-	tells(locks_a_copy, "ww_mutex_lock: class \"c\": the mutex is a copy of another one, or was moved");
-	tells(unlocks_a_copy, "ww_mutex_unlock: class \"c\": the mutex is a copy of another one, or was moved");
-	tells(unlocks_a_copy_without_context, "ww_mutex_unlock: class \"other\": the mutex is a copy of another one, or was moved");
-	tells(unlocks_behind_a_copy, "ww_mutex_unlock: nobody holds the mutex, or it is a copy of that which is held");
+	      "ww_mutex_lock_slow: no -EDEADLK of this mutex came before, or the context still holds a mutex@");
+	tells(slow_ends, "ww_mutex_lock_slow: class \"c\": no -EDEADLK of this mutex came before, or the context still holds a mutex@");
+	tells(destroys_held, "ww_mutex_destroy: class \"c\": somebody holds the mutex, or waits for it@");
+	tells(told_by_a_thread_that_ends, "ww_mutex_destroy: class \"c\": somebody holds the mutex, or waits for it@");
+	tells(destroys_twice, "ww_mutex_destroy: the mutex isn't initialized@");
+	tells(names_a_copy, "ww_mutex_name: class \"c\": the mutex is a copy of another one, or was moved@");
+	tells(names_none, "ww_mutex_name: the mutex isn't initialized@");
+	tells(locks_a_copy, "ww_mutex_lock: class \"c\": the mutex is a copy of another one, or was moved@");
+	tells(unlocks_a_copy, "ww_mutex_unlock: class \"c\": the mutex is a copy of another one, or was moved@");
+	tells(unlocks_a_copy_without_context, "ww_mutex_unlock: class \"other\": the mutex is a copy of another one, or was moved@");
+	tells(unlocks_behind_a_copy, "ww_mutex_unlock: nobody holds the mutex, or it is a copy of that which is held@");
 	tells(ends_behind_a_copy, "ww_acquire_fini: class \"c\": the context has ended by a copy of it, or the class has begun as many as it may");
-	tells(locks_amid_a_poll, "ww_mutex_lock: class \"other\": the context waits by a poll");
-	tells(locks_slowly_without_context, "ww_mutex_lock_slow: no -EDEADLK of this mutex came before, or the context still holds a mutex");
-	tells(unlocks_what_was_made_anew, "ww_mutex_unlock: class \"c\": the mutex was initialized once more while somebody held it");
-	tells(locks_by_garbage, "ww_mutex_lock: the context was never begun");
+	tells(locks_amid_a_poll, "ww_mutex_lock: class \"other\": the context waits by a poll@");
+	tells(locks_slowly_without_context, "ww_mutex_lock_slow: no -EDEADLK of this mutex came before, or the context still holds a mutex@");
+	tells(unlocks_what_was_made_anew, "ww_mutex_unlock: class \"c\": the mutex was initialized once more while somebody held it@");
+	tells(locks_by_garbage, "ww_mutex_lock: the context was never begun@");
 	tells(overwrites_a_context, "libww_debug: a context" NO_STATE "*");
 	tells(overwrites_a_seat, "libww_debug: a seat" NO_STATE "*");
 	tells(limits_late, "ww_class_crowd: class \"c\": the class is open: this comes before its first use");
 	tells(limits_beyond, "ww_class_limit: class \"c\": a class has at most 16,777,216 mutexes and 4,094 contexts");
-	tells(unlocks_in_vain, "ww_mutex_unlock: nobody holds the mutex, or it is a copy of that which is held");
-	tells(unlocks_what_nobody_holds, "ww_mutex_unlock: class \"c\": " NOT_LOOKED_AT " $");
-	tells(unlocks_anothers, "ww_mutex_unlock: class \"c\": " NOT_LOOKED_AT " $");
-	tells(unlocked_by_another, "ww_mutex_unlock: class \"c\": its context is another thread's, which named it last in a call: see ww_acquire_here");
-	tells(locks_a_key_in_a_loop, "ww_table_lock: class \"c\": the context has ended, is of another class, or in a loop");
+	tells(unlocks_in_vain, "ww_mutex_unlock: nobody holds the mutex, or it is a copy of that which is held@");
+	tells(unlocks_what_nobody_holds, "ww_mutex_unlock: class \"c\": " NOT_LOOKED_AT " $@");
+	tells(unlocks_anothers, "ww_mutex_unlock: class \"c\": " NOT_LOOKED_AT " $@");
+	tells(unlocked_by_another, "ww_mutex_unlock: class \"c\": its context is another thread's, which named it last in a call: see ww_acquire_here@");
+	tells(locks_a_key_in_a_loop, "ww_table_lock: class \"c\": the context has ended or was never begun, is of another class, or in a loop (ww_acquire_begin_tries)");
 	tells(unlocks_a_key_twice, "ww_table_unlock: class \"c\": the context doesn't have the key");
 	releases_keys();
 	goes_on();

@@ -11,6 +11,7 @@
 #include "ww_retry.h" /* before the next one, behind which no call says its line */
 #include "../crowd.h"
 #include "../later.h"
+#include "../said.h"
 #include <sys/mman.h>
 #include <sys/syscall.h>
 #include <sys/wait.h>
@@ -117,19 +118,6 @@ static void without_context_beside_one(void)
 	MUST(!AT(1, ww_mutex_lock_interruptible(&b, NULL)));
 }
 
-/* What ww_class_print writes of c; its caller frees it. */
-static char *printed(void)
-{
-	size_t size;
-	char *text;
-	FILE *to = open_memstream(&text, &size);
-
-	MUST(to);
-	ww_class_print(&c, to);
-	MUST(!fclose(to));
-	return text;
-}
-
 static void *waits_for_a(void *arg)
 {
 	(void)arg;
@@ -144,7 +132,7 @@ static void awaits_seekers(unsigned count)
 
 	sprintf(words, "waits for a context: %u\n", count);
 	for (bool is_there = false; !is_there;) {
-		char *text = printed();
+		char *text = printed(&c);
 
 		is_there = strstr(text, words);
 		free(text);
@@ -616,6 +604,7 @@ static void hear(uint32_t contexts, uint32_t others, void (*what)(void))
 	while ((count = read(ends[0], said + all, sizeof said - 1 - (size_t)all)) > 0)
 		all += count;
 	said[all] = 0;
+	without_addresses(said);
 	close(ends[0]);
 	MUST(waitpid(child, &status, 0) == child);
 	if (status) {
@@ -666,8 +655,8 @@ static void tells_warnings(void)
 				    "$2: ww_acquire_init: class \"c\": " OTHER_CONTEXT "$0\n");
 	tells(4, 4, loses_its_age, "$1: ww_acquire_fini: class \"c\": the context loses its age: one that begins in its place is the youngest, and "
 				   "gives way again; let it back off, and go on, or suspend it (ww_retry.h); it got -EDEADLK at $0\n");
-	tells(4, 4, without_context, "$2: ww_mutex_lock: class \"c\": " BESIDE "$1\n");
-	tells(4, 4, without_context_beside_one, "$1: ww_mutex_lock: class \"c\": " BESIDE "$0\n");
+	tells(4, 4, without_context, "$2: ww_mutex_lock: class \"c\": " BESIDE "$1@\n");
+	tells(4, 4, without_context_beside_one, "$1: ww_mutex_lock: class \"c\": " BESIDE "$0@\n");
 	tells(2, 2, wait_for_context, "$1: a wait for a context: class \"c\": " NONE_LEFT "$0\n");
 	tells(2, 2, for_a_mutex, "$1: a wait: class \"c\": it has lasted 10 seconds; mutex 0 \"what was left\" is held by what began at $0\n");
 	tells(2, 2, for_what_a_thread_left, "$1: a wait: class \"c\": it has lasted 10 seconds; mutex 0 is held by what a thread that has "
@@ -695,27 +684,27 @@ static void tells_deadlocks(void)
 	tells(2, 2, two_with_names, "$1: a wait: no class detects this deadlock of 2 threads\n"
 				    "~0 waits at $1 for mutex 0 \"the user\" of class \"d\", which ~1 holds\n"
 				    "~1 waits at $1 for mutex 0 \"the account\" of class \"c\", which ~0 holds\n");
-	tells(4, 2, two_without, "$1: ww_mutex_lock: class \"c\": " BESIDE "$0\n"
+	tells(4, 2, two_without, "$1: ww_mutex_lock: class \"c\": " BESIDE "$0@\n"
 				 "$1: a wait: no class detects this deadlock of 2 threads\n"
 				 "~0 waits at $1 for mutex 4 of class \"c\", which ~1 holds\n"
 				 "~1 waits at $1 for mutex 0 of class \"c\", which ~0 holds\n");
-	tells(4, 2, behind, "$1: ww_mutex_lock: class \"c\": " BESIDE "$0\n"
+	tells(4, 2, behind, "$1: ww_mutex_lock: class \"c\": " BESIDE "$0@\n"
 			    "$1: a wait: no class detects this deadlock of 2 threads\n"
 			    "~0 waits at $1 for mutex 4 of class \"c\", which ~1 holds\n"
 			    "~1 waits at $1 for mutex 0 of class \"c\", which ~0 holds\n");
-	tells(4, 2, one_without, "$1: ww_mutex_lock: class \"c\": " BESIDE "$0\n"
+	tells(4, 2, one_without, "$1: ww_mutex_lock: class \"c\": " BESIDE "$0@\n"
 				 "$1: a wait: no class detects this deadlock of 2 threads\n"
 				 "~0 waits at $1 for mutex 4 of class \"c\", which ~1 holds\n"
 				 "~1 waits at $1 for mutex 0 of class \"c\", which ~0 holds\n");
-	tells(4, 2, itself, "$1: ww_mutex_lock: class \"c\": " BESIDE "$0\n"
+	tells(4, 2, itself, "$1: ww_mutex_lock: class \"c\": " BESIDE "$0@\n"
 			    "$1: a wait: the thread waits for what it holds itself\n"
 			    "~0 waits at $1 for mutex 0 of class \"c\", which ~0 holds\n");
-	tells(4, 2, three, "$1: ww_mutex_lock: class \"c\": " BESIDE "$0\n"
+	tells(4, 2, three, "$1: ww_mutex_lock: class \"c\": " BESIDE "$0@\n"
 			   "$1: a wait: no class detects this deadlock of 3 threads\n"
 			   "~0 waits at $1 for mutex 0 of class \"d\", which ~1 holds\n"
 			   "~1 waits at $1 for mutex 4 of class \"c\", which ~2 holds\n"
 			   "~2 waits at $1 for mutex 0 of class \"c\", which ~0 holds\n");
-	tells(2, 2, no_context_left, "$1: ww_mutex_lock: class \"c\": " BESIDE "$0\n"
+	tells(2, 2, no_context_left, "$1: ww_mutex_lock: class \"c\": " BESIDE "$0@\n"
 				     "$1: a wait for a context: class \"c\": " NONE_LEFT "$0\n"
 				     "$1: a wait for a context: class \"c\": " ALL_IN_USE("2") "$0\n");
 }
@@ -736,7 +725,7 @@ static void *acquires(void *arg)
 static void prints(unsigned mutexes, unsigned contexts, const char *words)
 {
 	static char expected[8192];
-	char *text = printed();
+	char *text = printed(&c);
 	int count = sprintf(expected, "class \"c\": %u of 8 mutexes and %u of 4 contexts in use, waits for a context: 0\n",
 			    mutexes, contexts);
 
@@ -763,7 +752,7 @@ static void prints_what_is(void)
 	MUST(!AT(3, ww_mutex_lock(&a, &x)));
 	thread = begin_thread(acquires, NULL);
 	awaits_waiter(&a);
-	prints(2, 2, "~2: context 1 began at $0\n~0: a lock without a context began at $1; waits at $1 for mutex 0\nmutex 0 is held by ~2 since $3\n");
+	prints(2, 2, "~2: context 1 began at $0\n~0: a lock without a context began at $1; waits at $1 for mutex 0, which ~2 holds\nmutex 0 is held by ~2 since $3\n");
 	ww_mutex_unlock(&a);
 	pthread_barrier_wait(&all_hold);
 	prints(2, 2, "~2: context 1 began at $0\n~0: a lock without a context began at $1\nmutex 0 is held by ~0 since $1\n");
@@ -779,7 +768,7 @@ static void prints_what_is(void)
 
 static bool is_printed(const char *words)
 {
-	char *text = printed();
+	char *text = printed(&c);
 	bool is = strstr(text, words) != NULL;
 
 	free(text);
@@ -825,7 +814,7 @@ static bool is_over;
 static void *prints_on(void *arg)
 {
 	while (!__atomic_load_n(&is_over, __ATOMIC_RELAXED))
-		free(printed());
+		free(printed(&c));
 	return arg;
 }
 
@@ -851,8 +840,8 @@ int main(void)
 	MUST(seen != MAP_FAILED);
 	tells_warnings();
 	tells_deadlocks();
-	tells(4, 2, for_a_while, "$1: ww_mutex_lock: class \"c\": " BESIDE "$0\n");
-	tells(2, 2, one_is_awake, "$1: ww_mutex_lock: class \"c\": " BESIDE "$0\n"
+	tells(4, 2, for_a_while, "$1: ww_mutex_lock: class \"c\": " BESIDE "$0@\n");
+	tells(2, 2, one_is_awake, "$1: ww_mutex_lock: class \"c\": " BESIDE "$0@\n"
 				  "$1: a wait for a context: class \"c\": " NONE_LEFT "$0\n");
 	hear(4, 2, one_is_woken);
 	hear(4, 2, no_deadlock);

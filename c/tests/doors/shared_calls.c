@@ -7,6 +7,7 @@
 #include "../mutex_test.h"
 #include "ww_poll.h"
 #include "ww_shared.h"
+#include "../said.h"
 #include "../../admit/class.h" /* behind those, whose calls say where they are */
 #include <signal.h>
 #include <sys/wait.h>
@@ -1087,19 +1088,15 @@ static void all_is_released(void)
 
 /* ---- who reads ---- */
 
-#ifdef WW_DEBUG
 static void readers_are_printed(void)
 {
 	uint32_t first = m.mutex_.number < n.mutex_.number ? m.mutex_.number : n.mutex_.number;
 	char *words, both[80], one[80];
-	size_t size;
-	FILE *to = open_memstream(&words, &size);
 
 	begin_both();
-	MUST(to && !reads(&m, &x) && !reads(&n, &x) && !reads(&m, &y));
-	ww_class_print(c, to);
-	MUST(!fclose(to));
-	snprintf(both, sizeof both, " reads mutex %u, %u; for that it holds mutex ", first, m.mutex_.number + n.mutex_.number - first);
+	MUST(!reads(&m, &x) && !reads(&n, &x) && !reads(&m, &y));
+	words = printed(c);
+	snprintf(both, sizeof both, " reads mutex %u, mutex %u; for that it holds mutex ", first, m.mutex_.number + n.mutex_.number - first);
 	snprintf(one, sizeof one, " reads mutex %u; for that it holds mutex ", m.mutex_.number);
 	MUST(strstr(words, both) && strstr(words, one) && !strstr(strstr(words, one) + 1, one));
 	free(words);
@@ -1108,6 +1105,7 @@ static void readers_are_printed(void)
 	end_both();
 }
 
+#ifdef WW_DEBUG
 static DEFINE_WW_CLASS(second_class);
 static struct ww_mutex of_second;
 static pthread_barrier_t both_hold;
@@ -1168,6 +1166,7 @@ static void deadlocks_name_readers(void)
 		fflush(stderr);
 		MUST(!fseek(said, 0, SEEK_SET));
 		words[fread(words, 1, sizeof words - 1, said)] = 0;
+		without_addresses(words);
 	}
 	MUST(dup2(standard_error, 2) == 2 && strstr(words, "no class detects this deadlock of 2 threads"));
 	MUST(!ww_class_cancel(c) && !ww_class_cancel(&second_class));
@@ -1350,9 +1349,7 @@ static void of(struct ww_class *class)
 	each_call_refuses();
 	waits_end_by_themselves();
 	all_is_released();
-#ifdef WW_DEBUG
 	readers_are_printed();
-#endif
 	if (c->is_wait_die) {
 		a_poll_backs_off();
 		whoever_was_told_reads_no_more();

@@ -303,7 +303,7 @@ static void finds_free(struct mutex *m, unsigned seat)
 /* ---- what hooks.c tells ---- */
 
 /* What lies there: the bits of a mutex, its lock's word, a word of a slot's marks, or the list of the slots with a bit. */
-static enum place { ELSEWHERE, BITS, OWNER, MARKS, LIST } place_of(const volatile void *at, unsigned *whose, unsigned *word)
+static enum home { ELSEWHERE, BITS, OWNER, MARKS, LIST } place_of(const volatile void *at, unsigned *whose, unsigned *word)
 {
 	size_t list, mark;
 
@@ -328,7 +328,7 @@ static enum place { ELSEWHERE, BITS, OWNER, MARKS, LIST } place_of(const volatil
 void il_puts(const volatile void *at, uint64_t was, uint64_t is, const void *pc)
 {
 	unsigned whose, word;
-	enum place place = place_of(at, &whose, &word);
+	enum home place = place_of(at, &whose, &word);
 
 	if (place == ELSEWHERE || !is_hall(pc))
 		return;
@@ -342,7 +342,7 @@ void il_puts(const volatile void *at, uint64_t was, uint64_t is, const void *pc)
 void il_gets(const volatile void *at, uint64_t value, const void *pc)
 {
 	unsigned whose, word;
-	enum place place = place_of(at, &whose, &word);
+	enum home place = place_of(at, &whose, &word);
 
 	if (place == ELSEWHERE || !is_hall(pc))
 		return;

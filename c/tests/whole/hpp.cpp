@@ -336,7 +336,7 @@ static void tries() WW_NO_SAFETY_ANALYSIS
 static void reports()
 {
 	const auto runs_one_twice = [] {
-		const char *const expected = "ww_acquire_fini: the context has ended";
+		const char *const expected = "ww_acquire_fini: the context has ended, or was never begun (ww_acquire_init)";
 		auto exits = [expected](const char *message) { std::_Exit(std::strcmp(message, expected) != 0); };
 		ww_acquire_ctx ended = {};
 

@@ -89,6 +89,18 @@ def raises(kind, call, *words, **named):
     return False
 
 
+async def awaits(lock, mutex):
+    await lock(mutex)
+
+
+async def why(awaited):
+    """The TypeError that it raises."""
+    try:
+        await awaited
+    except TypeError as it:
+        return it
+
+
 async def stops_no_loop():
     """A thread's call that would have to wait raises where a loop runs, since it may wait for a task of that; others are made."""
     buffers = made(contexts=2)
@@ -102,6 +114,8 @@ async def stops_no_loop():
             assert raises(RuntimeError, buffers.context().__enter__) and raises(RuntimeError, buffers.context(LIMIT).__enter__)
             one.unlock(a)
             two.lock(a)
+            two.unlock(a)
+            assert "begin it by `async with`" in str(await why(awaits(two.lock, a))) and a in two
     with a, b:
         assert a.locked()
     await begin_all(buffers, 2)

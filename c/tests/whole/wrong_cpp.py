@@ -31,6 +31,8 @@ PROGRAMS = [
     ("a number of flags beside a time", "no matching ", LIST + "[] {}, ww::limits(1s, 2)); (void)r;",
      LIST + "[] {}, ww::limits(1s, WW_INTERRUPTIBLE)); (void)r;"),
     ("a context with a number", "a time has a unit", "ww::context x(boxes, 2);", "ww::context x(boxes, WW_INTERRUPTIBLE);"),
+    ("a context that is moved", "pass it on by reference", "ww::context x(boxes); ww::context y(std::move(x));", "ww::context x(boxes); ww::context &y = x; (void)y;"),
+    ("a mutex that is moved", "keep it by a pointer", "ww::mutex m(std::move(a.lock));", "auto m = std::make_unique<ww::mutex>(boxes);"),
     ("a callable that returns whether it succeeded", "returns 0 or the first error",
      "auto r = ww::lock_by(boxes, [](ww::context &x) { return x.lock(a.lock) == 0; }, [] {}); (void)r;",
      "auto r = ww::lock_by(boxes, [](ww::context &x) { return x.lock(a.lock); }, [] {}); (void)r;"),
