@@ -269,7 +269,7 @@ static void print_counts(struct ww_pool *p, FILE *to)
 		waiters_of(&p->threads) + waiters_of(&p->tasks));
 	pthread_mutex_lock(&p->queue);
 	if (is_crowded(p) && p->crowd.limiter.width != NO_LIMIT)
-		fprintf(to, "; a crowd, permits: %u, waits for one: %u", p->crowd.limiter.width, p->crowd.waiting);
+		fprintf(to, "; a crowd, permits: %u, waits for one: %u", p->crowd.limiter.width, waiting_threads(p));
 	pthread_mutex_unlock(&p->queue);
 }
 
