@@ -30,8 +30,10 @@ timespec After(int64_t microseconds)
 const std::string& KeyOf(ColumnFamilyId cf, const std::string& key)
 {
   thread_local std::string both;
-  both.assign(reinterpret_cast<const char*>(&cf), sizeof cf);
-  return both += key;
+  both.resize(sizeof cf + key.size());
+  memcpy(&both[0], &cf, sizeof cf);
+  memcpy(&both[sizeof cf], key.data(), key.size());
+  return both;
 }
 
 std::pair<ColumnFamilyId, std::string> KeyOf(const ww_table_user* user)

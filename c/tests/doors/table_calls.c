@@ -506,7 +506,7 @@ static void half_of_the_owners(void)
 
 /* ---- what is refused ---- */
 
-/* In a child of a fork that its class's context doesn't outlive there is no table to open. */
+/* In a child of a fork that came while the class was in use no table is opened. */
 static void forked(void)
 {
 	struct ww_table *other;
