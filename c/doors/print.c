@@ -108,7 +108,8 @@ static bool see(struct seen *c, const struct ww_pool *p)
 	bool gone;
 
 	c->at = p;
-	return SEES(gone, p->gone) && !gone && SEES(c->seats, p->seats) && SEES(c->class_, p->class_) && SEES(c->words, p->words) && SEES(c->lies_at, p->numbers.lies_at) &&
+	return SEES(gone, p->gone) && !gone && SEES(c->seats, p->seats) && SEES(c->class_, p->class_) && SEES(c->words, p->words) &&
+	       SEES(c->lies_at, p->numbers.lies_at) &&
 	       SEES(c->anybodys, p->threads.count) && SEES(c->own, p->own_seats) && SEES(c->locks, p->numbers.locks) &&
 	       SEES(c->mutexes, p->numbers.mutexes) && SEES(c->taken, p->numbers.taken);
 }

@@ -110,10 +110,12 @@ static uint64_t hash_of(const struct ww_table *t, const uint8_t *at, size_t leng
 static inline int ask(struct asked *asked, const char *call, struct ww_table *t, struct ww_acquire_ctx *x, const void *key, size_t length)
 {
 	if (!NEEDED_BY(call, x)->own || x->own->pool != NEEDED_BY(call, t)->pool || is_loop(x)) {
-		NOTE_MISUSE(t->pool->class_, call, "the context has ended or was never begun, is of another class, or in a loop (ww_acquire_begin_tries)");
+		NOTE_MISUSE(t->pool->class_, call,
+			    "the context has ended or was never begun, is of another class, or in a loop (ww_acquire_begin_tries)");
 		return -EINVAL;
 	}
-	*asked = (struct asked){ t, x, &t->seats[place_among(x->own) - 1], hash_of(t, key, length), { .key = key, .length = length, .waits = true } };
+	*asked = (struct asked){ t, x, &t->seats[place_among(x->own) - 1], hash_of(t, key, length),
+				 { .key = key, .length = length, .waits = true } };
 	return 0;
 }
 
@@ -566,7 +568,7 @@ static void add_owner(struct ww_table *t, uint64_t owner, struct of_seat *seat)
 	pthread_mutex_unlock(&b->lock);
 }
 
-/* The seat of the owner, or NULL. Who takes the seat, maybe only that of an owner that has left, finds it as one that isn't listed any more. */
+/* The seat of the owner, or NULL. A call that takes the seat, maybe only that of an owner that has left, takes it out of the list. */
 enum finding { FINDS, TAKES, TAKES_LEFT };
 static struct of_seat *find_owner(struct ww_table *t, uint64_t owner, enum finding how)
 {

@@ -82,9 +82,9 @@ int ww_table_unlock(struct ww_table *table, struct ww_acquire_ctx *ctx, const vo
 size_t ww_table_mark(struct ww_table *table, const struct ww_acquire_ctx *ctx) WW_NONNULL_(1, 2);
 void ww_table_unlock_to(struct ww_table *table, struct ww_acquire_ctx *ctx, size_t mark) WW_NONNULL_(1, 2);
 /*
- * Calls `see` with each user of the key, the newest first; or, if `key` is NULL, of all keys, part by part.  While a context waits to raise its
- * lock it is seen twice.  `see` calls nothing of the table.  Returns how many there are.  The calls of ww_why.h know contexts by labels, and
- * name no keys: this does, and `meets`.
+ * Calls `see` with each user of the key, the newest first; or, if `key` is NULL, of all keys, part by part.  A context that waits to
+ * raise its lock is seen twice.  `see` calls nothing of the table.  Returns how many there are.  The calls of ww_why.h know contexts by
+ * labels, and name no keys: this does, and `meets`.
  */
 size_t ww_table_see(struct ww_table *table, const void *key, size_t length, void (*see)(void *data, const struct ww_table_user *user),
 		    void *data) WW_NONNULL_(1);
