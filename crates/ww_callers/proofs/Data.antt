@@ -19,7 +19,7 @@ use Rattle.ww_protocols.proofs.Data.{reads_get_the_last_write}
 use Rattle.ww_callers.specs.Deeds.{steps}
 use Rattle.ww_callers.specs.Drives.{thread_move}
 use Rattle.ww_callers.specs.Data.{DataAct, does, accesses, as_deed, seen, owner_of, DrivesAreGuarded, ReadsGetTheLastWriteInDrives}
-use Rattle.ww_callers.proofs.Runs.{event_of, driven, is_endless}
+use Rattle.ww_callers.proofs.Runs.{event_by, driven_by, is_endless_by}
 use Rattle.ww_callers.proofs.Passing.{in_hand}
 
 is_taken : (o : Holder) (t : ℕ) → owner_of o ≡ Some t → o ≡ Taken t
@@ -48,14 +48,14 @@ module _ (d n : ℕ) where
 pub drives_are_guarded : DrivesAreGuarded
 drives_are_guarded key lock_of stage act keeps =
     let endless = keeps.endless in
-    let a = runs_along (λ k. (stage k).moment) (λ k. thread_move (as_deed (act k))) (is_endless stage (λ k. as_deed (act k)) endless) in
+    let a = runs_along (λ k. (stage k).moment) (λ k. thread_move (as_deed (act k))) (is_endless_by stage (λ k. as_deed (act k)) endless) in
     let core_at : (k n u : ℕ) → (core (stage k).moment).owner n ≡ Taken u → (a.scene k).core.owner n ≡ Taken u =
     λ k n u is. ap (λ (c : State). c.owner n) (a.shown k).core ∙ is in
     let at_core : (k n u : ℕ) → (a.scene k).core.owner n ≡ Taken u → (core (stage k).moment).owner n ≡ Taken u =
     λ k n u is. sym (ap (λ (c : State). c.owner n) (a.shown k).core) ∙ is in
     let by_desk : (k : ℕ) (e : Event) → step_of key (thread_move (as_deed (act k))) ≡ performs e →
     as_deed (act k) ≡ steps (actor e) (Some (performs e)) = λ k e is.
-    event_of (stage k) (stage (suc k)) (driven stage (λ i. as_deed (act i)) endless k) (as_deed (act k)) e (endless.goes_on k)
+    event_by (stage k) (stage (suc k)) (driven_by stage (λ i. as_deed (act i)) endless k) (as_deed (act k)) e (endless.goes_on k)
     (performed key (thread_move (as_deed (act k))) e is) in record {
       comes = λ i t n has. ⊎_elim
           (λ had. inl (ap owner_of had))
@@ -77,7 +77,7 @@ drives_are_guarded key lock_of stage act keeps =
           (taken_or_not ((core (stage (suc i)).moment).owner n) t);
       has = λ i d x made. let h = keeps.locked i d x made in let m = (stage i).moment in
           ap owner_of ((knows_there m d h.seat).owned.has (lock_of x)
-          (in_hand (stage i) (driven stage (λ k. as_deed (act k)) endless i) d (lock_of x) h)
+          (in_hand (stage i) (driven_by stage (λ k. as_deed (act k)) endless i) d (lock_of x) h)
           ∙ ap Taken (who_there m d h.seat));
     }
 

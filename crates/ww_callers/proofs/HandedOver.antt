@@ -17,11 +17,13 @@ use Rattle.ww_steps.specs.declared.turn.Answer.TheVariants.{Done}
 use Rattle.ww_steps.specs.Situations.{Situation}
 use Rattle.ww_callers.specs.Stages.{Stage}
 use Rattle.ww_callers.specs.Deeds.{steps, calls, answers, halts, lock, unlock, Does}
+use Rattle.ww_callers.specs.Drives.{IsEndlessDrive}
 use Rattle.ww_callers.specs.Handing.{HasInHand}
 use Rattle.ww_protocols.specs.Memory.{writes, reads, WritesAt, AccessesAt, IsVisible, wrote}
 use Rattle.ww_protocols.specs.Data.{releases as lets_go, HappensBefore, in_order, handed, through}
 use Rattle.ww_protocols.proofs.Data.{comes_first}
 use Rattle.ww_callers.specs.Data.{DataAct, does, accesses, as_deed, seen, access_at, ReadsOfADrive, DataIsHandedOver, DataIsStaleWithoutItsLock}
+use Rattle.ww_callers.proofs.Runs.{accounted_on}
 use Rattle.ww_callers.proofs.Shown.{Desks, staged, called, answered, IsAnswer, calls_does, steps_does, answers_does}
 use Rattle.ww_callers.proofs.Turns.{once_locked}
 use Rattle.ww_callers.proofs.Starting.{is_of_world, q_3, g_3}
@@ -188,6 +190,9 @@ memory j e x value is = let there : reads 1 0 7 ≡ reads e x value = ap (access
     let place : 0 ≡ x = cc in let same : 7 ≡ value = cc in
     inl (0, 0, ap (λ y. writes 0 y 7) place ∙ ap (writes 0 x) same, is_visible x j)
 
+on : (kind : Kind) → IsEndlessDrive (stage kind) (λ i. as_deed (act i))
+on kind = record { begins = (g_3 kind).driven; goes_on = goes_on kind }
+
 pub data_is_handed_over : DataIsHandedOver
 data_is_handed_over kind = record {
   key = small kind;
@@ -197,10 +202,8 @@ data_is_handed_over kind = record {
   first = λ _. 0;
   of_kind = refl;
   world = is_of_world kind;
-  keeps = record {
-    endless = record { begins = (g_3 kind).driven; goes_on = goes_on kind };
-    locked = in_hand kind;
-  };
+  endless = on kind;
+  keeps = record { endless = accounted_on (stage kind) (λ i. as_deed (act i)) (on kind); locked = in_hand kind };
   memory = memory;
   read = (7, 0, 1, 0, 7, refl, refl, (λ is. omega arith), λ is. omega arith);
 }

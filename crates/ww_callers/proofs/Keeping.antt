@@ -16,9 +16,8 @@ use Rattle.ww_steps.specs.declared.turn.Answer.{Answer}
 use Rattle.ww_steps.specs.Situations.{Situation, is_inside}
 use Rattle.ww_steps.specs.Answers.{IsMarkTaken, IsWakeAnswer, owed_so_far}
 use Rattle.ww_callers.specs.Stages.{Stage}
-use Rattle.ww_callers.specs.Deeds.{Call, Deed, calls, steps, reads, answers, names, wakes, parks, rises, halts, is_sleeps, Calls, Names, Wakes, Parks, Rises, Steps, ReadsOnly, Answers, Does}
+use Rattle.ww_callers.specs.Deeds.{Call, SaidOfDesks, Deed, calls, steps, reads, answers, names, wakes, parks, rises, halts, is_sleeps, Calls, Names, Wakes, Parks, Rises, Steps, ReadsOnly, Answers, Accounts, DoesBy}
 use Rattle.ww_callers.specs.Drives.{thread_move}
-use Rattle.ww_callers.proofs.Answered.{each_accounts}
 use Rattle.ww_callers.proofs.Kept.{OfDesk, of_desk, IsKept, Keeps, owed_there, other_part, call_untold, called, answered, names_one, wakes_one, sleeps_on, rises_up}
 use Rattle.ww_invariant.specs.declared.cells.Part.{Part}
 use Rattle.ww_invariant.specs.Rule.{wakes_owed}
@@ -34,13 +33,13 @@ module _ {key : Start} (g g' : Stage key) (i : IsInOrder g) where
   amid d low calling = let k = i d low in let free = call_untold d (of_desk g d) k calling in (free.1, k.rises.up free.0)
 
   -- ... so it acts, until it left a guard as a waiter
-  pub acts : (d : ℕ) (x : Option Step) → Steps g g' d x → Acts g.moment d
+  pub acts : {says : SaidOfDesks} (d : ℕ) (x : Option Step) → Steps says g g' d x → Acts g.moment d
   acts d x h = let free = amid d h.seat h.calling in record { seat = h.seat; awake = free.0; risen = free.1 ∙ sym h.stays_up }
 
-  steps_there : (d : ℕ) (x : Option Step) → Steps g g' d x → StepsThere g.moment g'.moment d
+  steps_there : {says : SaidOfDesks} (d : ℕ) (x : Option Step) → Steps says g g' d x → StepsThere g.moment g'.moment d
   steps_there d x h = (h.there (acts d x h)).there
 
-  pub reads_there : (d : ℕ) → ReadsOnly g g' d → Reads g.moment g'.moment d
+  pub reads_there : {says : SaidOfDesks} (d : ℕ) → ReadsOnly says g g' d → Reads g.moment g'.moment d
   reads_there d h = let free = amid d h.seat h.calling in h.there (record {
     seat = h.seat;
     is_asleep = free.0;
@@ -73,8 +72,8 @@ module _ {key : Start} (g g' : Stage key) (i : IsInOrder g) where
       (let a = put_here g.calling d true in cc) (called d (of_desk g d) (i d h.at_hand.seat) h.rose)
       (λ t low isnt. let a = put_else g.calling d true t isnt in cc)
 
-  answers_keep : (d : ℕ) (call : Call) (a : Answer) → Answers g g' d call a → IsInOrder g'
-  answers_keep d call a h = let s' = g'.desk d in let b = each_accounts call (g.desk d) a s' h.done in
+  answers_keep : (d : ℕ) (call : Call) (a : Answer) → Answers Accounts g g' d call a → IsInOrder g'
+  answers_keep d call a h = let s' = g'.desk d in let b = h.done in
       each_keeps _ h.now d (record (of_desk g d) { desk = s'; calling = false; told = is_sleeps a })
       (let x = put_here g.desk d s' in let y = put_here g.calling d false in
       let z = put_here g.to_sleep d (is_sleeps a) in cc)
@@ -190,7 +189,7 @@ module _ {key : Start} (g g' : Stage key) (i : IsInOrder g) where
   stays_there z is same = subst (λ (m : Moment key). Follows g.moment m None) (sym (ap (λ (z : Stage key). z.moment) is ∙ same))
       (idles g.moment)
 
-  pub follows : (x : Deed) → Does g g' x → Follows g.moment g'.moment (thread_move x)
+  pub follows : (x : Deed) → DoesBy Accounts g g' x → Follows g.moment g'.moment (thread_move x)
   follows (calls d) h = stays_there _ h.now refl
   follows (steps d x) h = (h.there (acts d x h)).follows
   follows (reads d) h = inr (d, inr (reads_there d h))
@@ -201,7 +200,7 @@ module _ {key : Start} (g g' : Stage key) (i : IsInOrder g) where
   follows (rises d) h = rises_follow d h
   follows halts h = stays_there g h refl
 
-  pub keep : (x : Deed) → Does g g' x → IsInOrder g'
+  pub keep : (x : Deed) → DoesBy Accounts g g' x → IsInOrder g'
   keep (calls d) h = calls_keep d h
   keep (steps d x) h = stays_keep d h.seat h.calling (steps_there d x h).stay h.now
   keep (reads d) h = stays_keep d h.seat h.calling (reads_there d h).stay h.now

@@ -92,7 +92,7 @@ first_shown key table a places parts = record {
       heeds = a.heeding;
     };
     places = places;
-    desks = λ d low. record { home = home key; left = 1; now = refl };
+    desks = λ d low. record { caller = refl; cancelled = refl; view = refl };
     calling = λ d. refl;
     to_sleep = λ d. refl;
     named = λ d. refl;
@@ -125,6 +125,7 @@ module _ {key : Start} {p : Picture} (a : At key p) (q : Desks) where
     calling = calling;
     stays_up = sym n.there.acts.risen ∙ ap (λ (f : ℕ → ℕ). f d) a.risen ∙ sym fresh;
     there = λ _. record { there = n.there; by = n.by; follows = n.follows };
+    notes = n.notes;
     now = refl;
   }
 

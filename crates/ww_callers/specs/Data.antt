@@ -11,8 +11,8 @@ use Rattle.ww_protocols.specs.Memory.{Access, writes, reads, none, AccessesAt, R
 use Rattle.ww_protocols.specs.Data as guarded
 use Rattle.ww_protocols.specs.Data.{LockAct, takes, releases, access_of, IsGuarded, HappensBefore}
 use Rattle.ww_callers.specs.Stages.{Stage}
-use Rattle.ww_callers.specs.Deeds.{Deed, steps, halts}
-use Rattle.ww_callers.specs.Drives.{IsEndlessDrive}
+use Rattle.ww_callers.specs.Deeds.{Deed, steps, halts, Accounts}
+use Rattle.ww_callers.specs.Drives.{IsEndlessDriveBy, IsEndlessDrive}
 use Rattle.ww_callers.specs.Handing.{HasInHand}
 use Rattle.ww_callers.specs.Witness.{IsOfWorld}
 
@@ -41,7 +41,7 @@ access_at act i = access_of (seen (act i))
 
 -- An endless drive with accesses. Each place has its lock, and who accesses it has that lock in hand.
 pub record KeepsData {key : Start} (lock_of : ℕ → ℕ) (stage : ℕ → Stage key) (act : ℕ → DataAct) : Type 0 where
-  pub endless : IsEndlessDrive stage (λ i. as_deed (act i))
+  pub endless : IsEndlessDriveBy Accounts stage (λ i. as_deed (act i))
   pub locked : (i d x : ℕ) → AccessesAt d x (access_at act i) → HasInHand (stage i) d (lock_of x)
 
 -- the seat that has taken a lock, if one has
@@ -75,6 +75,7 @@ pub record HasDataHandedOver (kind : Kind) : Type 0 where
   pub first : ℕ → ℕ
   pub of_kind : key.kind ≡ kind
   pub world : IsOfWorld key
+  pub endless : IsEndlessDrive stage (λ i. as_deed (act i))
   pub keeps : KeepsData lock_of stage act
   pub memory : ReadsOfADrive act first
   pub read : (j d e x value : ℕ) × (access_at act 0 ≡ writes d x value) × (access_at act j ≡ reads e x value) × (d ≢ e)

@@ -1,10 +1,12 @@
 -- What desks do, and what is asked of the drivers that make their calls.
 use Rattle.std.specs.Prelude.{ℕ, ◌≡◌, ◌<◌, ◌+◌, ◌-◌, Bool, true, false, List, Option, Some, Result}
-use Rattle.ww_model.specs.State.{put}
+use Rattle.ww_model.specs.State.{State, put}
+use Rattle.ww_view.specs.declared.view.View.{View}
 use Rattle.ww_invariant.specs.declared.cells.Start.{Start}
 use Rattle.ww_laws.specs.Scene.{Step}
 use Rattle.ww_invariant.specs.Rule.{wakes_owed}
-use Rattle.ww_refines.specs.Moment.{Moment, view, Acts, HasLeftToWait}
+use Rattle.ww_refines.specs.Moment.{Moment, core, view, Acts, HasLeftToWait}
+use Rattle.ww_refines.specs.Tables.{NotesWhatStands}
 use Rattle.ww_refines.specs.Moves.{StepsThere, Reads, Follows}
 use Rattle.ww_refines.specs.Plays.{IsBy}
 use Rattle.ww_seat.specs.Marks.{IsMarked}
@@ -14,7 +16,7 @@ use Rattle.ww_steps.specs.declared.turn.Answer.TheVariants.{Done, Sleeps}
 use Rattle.ww_steps.specs.declared.outlook.Outlook.{Outlook}
 use Rattle.ww_steps.specs.declared.outlook.NoOutlook.{NoOutlook}
 use Rattle.ww_steps.specs.Situations.{Situation, is_inside}
-use Rattle.ww_steps.specs.Answers.{BooksWakes, CountsNaps, HasSomeHeld, IsBeginAnswer, IsDoneAnswer, IsEndAnswer, IsLockAnswer, IsTryAnswer, IsSlowAnswer, IsNextAnswer, IsUnlockAnswer, IsEachAnswer, IsHasAnswer, IsFreeAnswer, IsCancelAnswer, IsHeedAnswer, IsWakeAnswer}
+use Rattle.ww_steps.specs.Answers.{Balances, BooksWakes, CountsNaps, HasSomeHeld, IsBeginAnswer, IsDoneAnswer, IsEndAnswer, IsLockAnswer, IsTryAnswer, IsSlowAnswer, IsNextAnswer, IsUnlockAnswer, IsEachAnswer, IsHasAnswer, IsFreeAnswer, IsCancelAnswer, IsHeedAnswer, IsWakeAnswer}
 use Rattle.ww_steps.specs.Outlooks.{IsOutlookAnswer, IsWoundedAnswer}
 use Rattle.ww_callers.specs.Stages.{Stage, StandsOutside, IsFirstStage}
 
@@ -56,10 +58,25 @@ HasDone is_wounded s a s' = (a ≡ Done) × ((seen : Result Bool NoOutlook) × I
 HasDone (cancel u) s a s' = IsCancelAnswer s u a s' × BooksWakes s s'
 HasDone heed s a s' = IsHeedAnswer s a s'
 
+-- What is said of desks: of each call, by what its desk was before, the answer, and what the desk is then; and of each step, by the
+-- locks before it, and by what its seat knew before and knows then.
+pub record SaidOfDesks : Type 1 where
+  pub calls : Call → Situation → Answer → Situation → Type 0
+  pub steps : Start → State → View → View → Type 0
+
+-- no more than what waking and sleeping go by: after each call the account of wakes still balances, and the desk left a guard as a
+-- waiter once if it is told to sleep, and otherwise not
+abbrev pub Accounts : SaidOfDesks
+Accounts = record { calls = λ call s a s'. Balances s s' × CountsNaps s a s'; steps = λ key c v v'. Unit {0} }
+
+-- ... or all that the clauses of calls say, and that a view notes of the locks' words only what stands there
+abbrev pub Clauses : SaidOfDesks
+Clauses = record { calls = HasDone; steps = NotesWhatStands }
+
 -- ---- deeds
 
--- A desk is called; makes a step at the table, or reads something there; answers. It names a seat to wake. Its driver gives a seat a token; its thread
--- falls asleep, and rises. Nothing happens.
+-- A desk is called; makes a step at the table, or reads something there; answers. It names a seat to wake. Its driver gives a seat a
+-- token; its thread falls asleep, and rises. Nothing happens.
 pub data Deed : Type 0 where
   calls : (d : ℕ) → Deed
   steps : (d : ℕ) (x : Option Step) → Deed
@@ -142,8 +159,9 @@ module _ {key : Start} (g g' : Stage key) where
     pub told : g.to_sleep d ≡ true
     pub now : g' ≡ record g { moment = risen_then g.moment d; to_sleep = put g.to_sleep d false }
 
-  -- ---- what desks do
+-- ---- what desks do
 
+module _ (says : SaidOfDesks) {key : Start} (g g' : Stage key) where
   -- Amid a call the desk makes a step at the table, if the table lets its seat. Once it left a guard as a waiter it makes none in
   -- the same call, unless it only reads.
   pub record Steps (d : ℕ) (x : Option Step) : Type 0 where
@@ -151,6 +169,7 @@ module _ {key : Start} (g g' : Stage key) where
     pub calling : g.calling d ≡ true
     pub stays_up : (view g.moment d).naps ≡ (g.desk d).view.naps
     pub there : Acts g.moment d → IsStepThere g.moment g'.moment d x
+    pub notes : says.steps key (core g.moment) (view g.moment d) (view g'.moment d)
     pub now : g' ≡ record g { moment = g'.moment }
 
   -- Amid a call, once it left a guard as a waiter, the desk reads something at the table, from outside the guards.
@@ -159,14 +178,14 @@ module _ {key : Start} (g g' : Stage key) where
     pub calling : g.calling d ≡ true
     pub left : (view g.moment d).naps ≡ (g.desk d).view.naps + 1
     pub there : HasLeftToWait g.moment d false → Reads g.moment g'.moment d
+    pub notes : says.steps key (core g.moment) (view g.moment d) (view g'.moment d)
     pub now : g' ≡ record g { moment = g'.moment }
 
-  -- The call is at its end, and the desk is what the clauses of that call say, and as each desk is; of the locks it knows what
-  -- the table tells.
+  -- The call is at its end: this is said of it, and the desk is as each desk is, and knows of the locks what its seat knows.
   pub record Answers (d : ℕ) (call : Call) (a : Answer) : Type 0 where
     pub seat : d < key.seats
     pub calling : g.calling d ≡ true
-    pub done : HasDone call (g.desk d) a (g'.desk d)
+    pub done : says.calls call (g.desk d) a (g'.desk d)
     pub outside : StandsOutside (g'.desk d)
     pub sees : (g'.desk d).view ≡ view g.moment d
     pub cancelled : (g'.desk d).cancelled ≡ (g.moment.part d).counts.cancelled
@@ -178,18 +197,25 @@ module _ {key : Start} (g g' : Stage key) where
 
   -- ---- all of it
 
-  abbrev pub Does : Deed → Type 0
-  Does (calls d) = Calls d
-  Does (steps d x) = Steps d x
-  Does (reads d) = ReadsOnly d
-  Does (answers d call a) = Answers d call a
-  Does (names d u) = Names d u
-  Does (wakes d u) = Wakes d u
-  Does (parks d) = Parks d
-  Does (rises d) = Rises d
-  Does halts = g' ≡ g
+  abbrev pub DoesBy : Deed → Type 0
+  DoesBy (calls d) = Calls g g' d
+  DoesBy (steps d x) = Steps d x
+  DoesBy (reads d) = ReadsOnly d
+  DoesBy (answers d call a) = Answers d call a
+  DoesBy (names d u) = Names g g' d u
+  DoesBy (wakes d u) = Wakes g g' d u
+  DoesBy (parks d) = Parks g g' d
+  DoesBy (rises d) = Rises g g' d
+  DoesBy halts = g' ≡ g
 
--- a stage to which some deeds lead from where nothing was called yet
-pub data IsDriven {key : Start} : Stage key → Type 0 where
-  begins : (g : Stage key) → IsFirstStage g → IsDriven g
-  goes_on : (g g' : Stage key) (x : Deed) → IsDriven g → Does g g' x → IsDriven g'
+-- a stage to which some deeds lead from where nothing was called yet, if this is said of desks
+pub data IsDrivenBy (says : SaidOfDesks) {key : Start} : Stage key → Type 0 where
+  begins : (g : Stage key) → IsFirstStage g → IsDrivenBy says g
+  goes_on : (g g' : Stage key) (x : Deed) → IsDrivenBy says g → DoesBy says g g' x → IsDrivenBy says g'
+
+-- ... where all of it is said of them
+abbrev pub Does : {key : Start} → Stage key → Stage key → Deed → Type 0
+Does g g' = DoesBy Clauses g g'
+
+abbrev pub IsDriven : {key : Start} → Stage key → Type 0
+IsDriven g = IsDrivenBy Clauses g

@@ -11,7 +11,8 @@ use Rattle.ww_laws.specs.Scene.{Step, performs}
 use Rattle.ww_laws.specs.Scene as scene
 use Rattle.ww_laws.specs.Premises.{InTheEnd}
 use Rattle.ww_laws.specs.GoingOn.{AreDeadlocked}
-use Rattle.ww_refines.specs.Moment.{core, view, HasToWake, Acts, HasLeftToWait, IsToldOf}
+use Rattle.ww_refines.specs.Moment.{core, view, HasToWake, Acts, HasLeftToWait}
+use Rattle.ww_refines.specs.Tables.{IsToldOf, TableMoment, moment_of}
 use Rattle.ww_refines.specs.Moves.{Follows}
 use Rattle.ww_refines.specs.Naps.{ArePlaysOf, is_to_sleep, HaveNone, SleepsLast}
 use Rattle.ww_refines.specs.Runs.{IsOfRun, HasToWaitThere}
@@ -23,15 +24,19 @@ use Rattle.ww_steps.specs.declared.turn.Answer.TheVariants.{Done, Busy, Sleeps}
 use Rattle.ww_steps.specs.declared.outlook.Outlook.{Outlook}
 use Rattle.ww_steps.specs.Situations.{Situation, is_at_rest}
 use Rattle.ww_steps.specs.Outlooks.{IsOutlookAnswer, shown_by}
+use Rattle.ww_steps.specs.Opened.{fresh}
 use Rattle.ww_callers.specs.Stages.{Stage, IsDesk, StandsOutside, IsFirstStage}
-use Rattle.ww_callers.specs.Deeds.{Call, is_free, outlook, HasDone, Deed, calls, steps, answers, wakes, parks, rises, Does, IsDriven}
+use Rattle.ww_callers.specs.Deeds.{Call, is_free, outlook, HasDone, Deed, calls, steps, answers, wakes, parks, rises, Accounts, Clauses, DoesBy, IsDrivenBy, IsDriven, SaidOfDesks}
 
 -- ---- the first stage
 
--- a stage of this table at which nothing was called yet
-pub record Opens (key : Start) (s : St) : Type 0 where
+-- a stage of this table at which nothing was called yet, with the desks that opening gives, each of which may begin so many contexts
+pub record Opens (key : Start) (s : St) (home : TableId) (left : ℕ) : Type 0 where
+  pub moment : TableMoment key
+  pub table : moment.table ≡ s
   pub stage : Stage key
-  pub table : stage.moment.table ≡ s
+  pub shown : stage.moment ≡ moment_of moment
+  pub desks : (d : ℕ) → stage.desk d ≡ fresh home key.locks key.seats key.kind left d
   pub first : IsFirstStage stage
 
 -- Opening makes a table, and cuts a seat off for each desk. As long as none of them did anything, the table tells of each what
@@ -39,7 +44,7 @@ pub record Opens (key : Start) (s : St) : Type 0 where
 abbrev pub OpenedWorldsBegin : Type 0
 OpenedWorldsBegin = (key : Start) (s : St) (r : Ruled key s) (home : TableId) (left : ℕ) →
     ((t : ℕ) → t < key.seats → IsToldOf s t (first_part key.kind key.locks key.places t)) →
-    r.core ≡ start key.kind key.locks key.places → key.places ≡ places_for key.seats → Opens key s
+    r.core ≡ start key.kind key.locks key.places → key.places ≡ places_for key.seats → Opens key s home left
 
 -- what is asked of a desk that answers is true of each
 abbrev pub DesksStandOutside : Type 0
@@ -69,8 +74,8 @@ thread_move _ = None
 
 -- Each deed of a drive is a move of threads, or leaves all as it is; so each stage shows a moment of a run of threads.
 pub record DrivesAreRuns : Type 0 where
-  pub runs : (key : Start) (g : Stage key) → IsDriven g → IsOfRun g.moment
-  pub moves : (key : Start) (g g' : Stage key) (x : Deed) → IsDriven g → Does g g' x →
+  pub runs : (key : Start) (g : Stage key) → IsDrivenBy Accounts g → IsOfRun g.moment
+  pub moves : (key : Start) (g g' : Stage key) (x : Deed) → IsDrivenBy Accounts g → DoesBy Accounts g g' x →
       Follows g.moment g'.moment (thread_move x)
 
 -- ---- no wake-up is lost
@@ -87,22 +92,26 @@ IsAlertedByDesks {key = key} g s = (g.moment.token s ≡ true)
 
 -- each seat that sleeps, and neither was woken nor is about to be, has to wait
 abbrev pub NoWakeIsLostInDrives : Type 0
-NoWakeIsLostInDrives = (key : Start) (g : Stage key) → IsDriven g → (s : ℕ) → s < key.seats → g.moment.asleep s ≡ true →
+NoWakeIsLostInDrives = (key : Start) (g : Stage key) → IsDrivenBy Accounts g → (s : ℕ) → s < key.seats → g.moment.asleep s ≡ true →
     IsAlertedByDesks g s ⊎ HasToWaitThere g.moment s
 
 -- ---- a deadlock is no standstill
 
 -- Where all of these sleep, none has a token, and nobody has yet to see to its waking, they aren't deadlocked.
 abbrev pub NoStandstillInDrives : Type 0
-NoStandstillInDrives = (key : Start) (g : Stage key) → IsDriven g → (seats : List ℕ) →
+NoStandstillInDrives = (key : Start) (g : Stage key) → IsDrivenBy Accounts g → (seats : List ℕ) →
     ((s : ℕ) → IsOneOf s seats → (g.moment.asleep s ≡ true) × (¬ IsAlertedByDesks g s)) → ¬ AreDeadlocked (core g.moment) seats
 
 -- ---- nobody sleeps forever in vain
 
 -- a drive that goes on forever, if only by halts
-pub record IsEndlessDrive {key : Start} (stage : ℕ → Stage key) (deed : ℕ → Deed) : Type 0 where
-  pub begins : IsDriven (stage 0)
-  pub goes_on : (i : ℕ) → Does (stage i) (stage (suc i)) (deed i)
+pub record IsEndlessDriveBy (says : SaidOfDesks) {key : Start} (stage : ℕ → Stage key) (deed : ℕ → Deed) : Type 0 where
+  pub begins : IsDrivenBy says (stage 0)
+  pub goes_on : (i : ℕ) → DoesBy says (stage i) (stage (suc i)) (deed i)
+
+-- ... where all that the clauses of calls say is said of desks
+abbrev pub IsEndlessDrive : {key : Start} → (ℕ → Stage key) → (ℕ → Deed) → Type 0
+IsEndlessDrive stage deed = IsEndlessDriveBy Clauses stage deed
 
 -- Whatever desk has yet to see to a waking makes it in the end, and whoever sleeps with a token rises in the end.
 pub record WakesArriveByDesks {key : Start} (stage : ℕ → Stage key) (deed : ℕ → Deed) : Type 0 where
@@ -112,7 +121,7 @@ pub record WakesArriveByDesks {key : Start} (stage : ℕ → Stage key) (deed : 
 
 -- each seat that sleeps without having to is awake later
 abbrev pub NobodySleepsInVainInDrives : Type 0
-NobodySleepsInVainInDrives = (key : Start) (stage : ℕ → Stage key) (deed : ℕ → Deed) → IsEndlessDrive stage deed →
+NobodySleepsInVainInDrives = (key : Start) (stage : ℕ → Stage key) (deed : ℕ → Deed) → IsEndlessDriveBy Accounts stage deed →
     WakesArriveByDesks stage deed → (i s : ℕ) → s < key.seats → (stage i).moment.asleep s ≡ true →
     ¬ HasToWaitThere (stage i).moment s → InTheEnd i (λ j. (stage j).moment.asleep s ≡ false)
 
@@ -135,7 +144,7 @@ pub record IsServed {key : Start} (stage : ℕ → Stage key) (deed : ℕ → De
 -- Whenever seats are deadlocked, and their drivers scheduled, one of them gets EDEADLK or is cancelled in the end, whatever
 -- other drivers do.
 abbrev pub NoDeadlockLastsInDrives : Type 0
-NoDeadlockLastsInDrives = (key : Start) (stage : ℕ → Stage key) (deed : ℕ → Deed) → IsEndlessDrive stage deed →
+NoDeadlockLastsInDrives = (key : Start) (stage : ℕ → Stage key) (deed : ℕ → Deed) → IsEndlessDriveBy Accounts stage deed →
     (i : ℕ) (seats : List ℕ) → ((s : ℕ) → IsOneOf s seats → IsServed stage deed s) →
     AreDeadlocked (core (stage i).moment) seats →
     InTheEnd i (λ j. (s : ℕ) × IsOneOf s seats × ((n : ℕ) ×
@@ -146,9 +155,9 @@ NoDeadlockLastsInDrives = (key : Start) (stage : ℕ → Stage key) (deed : ℕ 
 -- An endless drive is an endless run of threads, in which each seat is scheduled whose driver is. So whatever holds of these
 -- holds of drives.
 pub record DrivesRunOn : Type 0 where
-  pub endless : (key : Start) (stage : ℕ → Stage key) (deed : ℕ → Deed) → IsEndlessDrive stage deed →
+  pub endless : (key : Start) (stage : ℕ → Stage key) (deed : ℕ → Deed) → IsEndlessDriveBy Accounts stage deed →
       IsEndless (λ j. (stage j).moment) (λ j. thread_move (deed j))
-  pub scheduled : (key : Start) (stage : ℕ → Stage key) (deed : ℕ → Deed) → IsEndlessDrive stage deed →
+  pub scheduled : (key : Start) (stage : ℕ → Stage key) (deed : ℕ → Deed) → IsEndlessDriveBy Accounts stage deed →
       (s : ℕ) → IsServed stage deed s → IsScheduledThere (λ j. (stage j).moment) (λ j. thread_move (deed j)) s
 
 -- ---- waits end
@@ -156,10 +165,20 @@ pub record DrivesRunOn : Type 0 where
 -- Whenever a seat waits, some wait ends later, if all drivers are scheduled, and whoever has a lock and waits for none
 -- releases it in the end or comes to wait.
 abbrev pub WaitsEndInDrives : Type 0
-WaitsEndInDrives = (key : Start) (stage : ℕ → Stage key) (deed : ℕ → Deed) → IsEndlessDrive stage deed →
+WaitsEndInDrives = (key : Start) (stage : ℕ → Stage key) (deed : ℕ → Deed) → IsEndlessDriveBy Accounts stage deed →
     ((s : ℕ) → s < key.seats → IsServed stage deed s) → HoldersGoOnThere (λ j. (stage j).moment) →
     (i s n : ℕ) → s < key.seats → (view (stage i).moment s).waits ≡ suc n →
     InTheEnd i (λ j. EndsSomeWaitThere (stage j).moment (thread_move (deed j)))
+
+-- ---- calls keep the account
+
+-- By its clauses each call keeps the account of wakes and sleeps. So what holds wherever no more than that is said of desks holds
+-- of all whose calls do what their clauses say.
+pub record DrivesKeepAccount : Type 0 where
+  pub calls : (call : Call) (s s' : Situation) (a : Answer) → HasDone call s a s' → Accounts.calls call s a s'
+  pub stages : (key : Start) (g : Stage key) → IsDriven g → IsDrivenBy Accounts g
+  pub endless : (key : Start) (stage : ℕ → Stage key) (deed : ℕ → Deed) → IsEndlessDrive stage deed →
+      IsEndlessDriveBy Accounts stage deed
 
 -- ---- what looks saw
 

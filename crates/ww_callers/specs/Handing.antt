@@ -8,8 +8,8 @@ use Rattle.ww_invariant.specs.declared.cells.Start.{Start}
 use Rattle.ww_laws.specs.Scene.{performs}
 use Rattle.ww_steps.specs.Situations.{Situation}
 use Rattle.ww_callers.specs.Stages.{Stage, IsDesk}
-use Rattle.ww_callers.specs.Deeds.{Deed, steps}
-use Rattle.ww_callers.specs.Drives.{IsEndlessDrive}
+use Rattle.ww_callers.specs.Deeds.{Deed, steps, Accounts}
+use Rattle.ww_callers.specs.Drives.{IsEndlessDriveBy}
 
 -- what a desk holds is what its seat knows that it owns
 abbrev pub DesksHoldWhatTheyOwn : Type 0
@@ -41,5 +41,5 @@ pub record PassesOnByDesks (deed : ℕ → Deed) (n d e i j : ℕ) : Type 0 wher
 
 -- Whenever one desk has a lock, between two calls, and later another has it.
 abbrev pub OwnersHandOverInDrives : Type 0
-OwnersHandOverInDrives = (key : Start) (stage : ℕ → Stage key) (deed : ℕ → Deed) → IsEndlessDrive stage deed → (i j d e n : ℕ) →
+OwnersHandOverInDrives = (key : Start) (stage : ℕ → Stage key) (deed : ℕ → Deed) → IsEndlessDriveBy Accounts stage deed → (i j d e n : ℕ) →
     i ≤ j → HasInHand (stage i) d n → HasInHand (stage j) e n → d ≢ e → PassesOnByDesks deed n d e i j

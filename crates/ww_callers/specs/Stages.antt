@@ -1,13 +1,12 @@
 -- Desks at a table, and the drivers that make their calls, at one moment.
-use Rattle.std.specs.Prelude.{ℕ, ◌≡◌, ◌<◌, Bool, false}
-use Rattle.atomic_table.specs.Seated.{TableId}
+use Rattle.std.specs.Prelude.{ℕ, ◌≡◌, ◌<◌, Bool, false, []}
+use Rattle.ww_view.specs.View.{first_view}
 use Rattle.ww_invariant.specs.declared.cells.Start.{Start}
 use Rattle.ww_invariant.specs.Rule.{places_for}
 use Rattle.ww_refines.specs.Moment.{Moment, IsFirstMoment}
 use Rattle.ww_steps.specs.declared.station.Station.{Station}
 use Rattle.ww_steps.specs.Situations.{Situation, is_inside}
 use Rattle.ww_steps.specs.Stations.{situation_of, Keeps}
-use Rattle.ww_steps.specs.Opened.{fresh}
 
 -- A moment of the table, with who has a token and who sleeps. Beside it, of each desk: how its last call left it; whether a
 -- call of it is on its way; whether its last call told it to sleep, and it hasn't risen since; and whom it named as to be
@@ -29,11 +28,11 @@ pub record IsDesk (s : Situation) : Type 0 where
 abbrev pub StandsOutside : Situation → Type 0
 StandsOutside s = is_inside s.turn ≡ false → s.view.inside ≡ 0
 
--- the desk of this number is one that opening a world gives
+-- the desk has this number, cancelled nobody's wait, and knows what a seat knows that has done nothing yet
 pub record IsFresh (key : Start) (d : ℕ) (s : Situation) : Type 0 where
-  pub home : TableId
-  pub left : ℕ
-  pub now : s ≡ fresh home key.locks key.seats key.kind left d
+  pub caller : s.caller ≡ d
+  pub cancelled : s.cancelled ≡ []
+  pub view : s.view ≡ first_view key.kind key.locks (places_for key.seats) d
 
 -- nothing was called yet
 pub record IsFirstStage {key : Start} (g : Stage key) : Type 0 where

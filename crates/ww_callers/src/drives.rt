@@ -1,5 +1,5 @@
 //! Desks whose callers wait by themselves, as runs of threads.
-ghost use Rattle.ww_callers.specs.Drives.{OpenedWorldsBegin, DesksStandOutside, CallsSleepLast, LooksAreTrue, DrivesAreRuns, NoWakeIsLostInDrives, NoStandstillInDrives, NobodySleepsInVainInDrives, NoDeadlockLastsInDrives, DrivesRunOn, WaitsEndInDrives};
+ghost use Rattle.ww_callers.specs.Drives.{OpenedWorldsBegin, DesksStandOutside, CallsSleepLast, DrivesKeepAccount, LooksAreTrue, DrivesAreRuns, NoWakeIsLostInDrives, NoStandstillInDrives, NobodySleepsInVainInDrives, NoDeadlockLastsInDrives, DrivesRunOn, WaitsEndInDrives};
 
 /// Opening a world gives a first stage: a table whose seats were cut off, and have done nothing.
 pub fn opened_worlds_begin()
@@ -14,6 +14,11 @@ pub fn desks_stand_outside()
 /// A call left a guard as a waiter only if it answers `Sleeps`, then once, and made no event after that.
 pub fn calls_sleep_last()
     ensures { CallsSleepLast }
+{}
+
+/// Each call keeps the account of wakes and sleeps, so whatever holds of drives whose calls do just that holds of each drive.
+pub fn drives_keep_account()
+    ensures { DrivesKeepAccount }
 {}
 
 /// What a desk's look at a lock told was true at some stage between the call and its answer.

@@ -23,7 +23,7 @@ use Rattle.ww_callers.specs.Stages.{Stage}
 use Rattle.ww_callers.specs.Deeds.{Call, Deed, calls, steps, reads, answers, names, wakes, parks, rises, halts, Does, IsDriven}
 use Rattle.ww_callers.specs.Drives.{thread_move, IsEndlessDrive}
 use Rattle.ww_callers.specs.Handing.{DeskAcquires}
-use Rattle.ww_callers.proofs.Runs.{in_order, driven}
+use Rattle.ww_callers.proofs.Runs.{in_order, driven, accounted_on}
 use Rattle.ww_loops.proofs.Ending.{along, event_at}
 
 -- ---- one deed
@@ -124,9 +124,9 @@ module _ {key : Start} (stage : ℕ → Stage key) (deed : ℕ → Deed) (endles
   -- who comes to have a lock takes it by a step of its own
   pub takes_by : (k d n : ℕ) → (core (stage k).moment).owner n ≢ Taken d → (core (stage (suc k)).moment).owner n ≡ Taken d →
       DeskAcquires d n (deed k)
-  takes_by k d n not has = let a = along stage deed endless in
+  takes_by k d n not has = let a = along stage deed (accounted_on stage deed endless) in
       let by : (e : Event) → step_of key (thread_move (deed k)) ≡ performs e → deed k ≡ steps (actor e) (Some (performs e)) =
-      λ e is. event_at stage deed endless k e (performed key (thread_move (deed k)) e is) in
+      λ e is. event_at stage deed (accounted_on stage deed endless) k e (performed key (thread_move (deed k)) e is) in
       ⊎_elim (λ is. inl (by (Fast d n) is)) (λ is. inr (by (Take d n) is))
       (gained_next (a.scene k) (step_of key (thread_move (deed k))) d n
       (λ z. not (sym (ap (λ (c : State). c.owner n) (a.shown k).core) ∙ z))

@@ -3,6 +3,7 @@ pub mod Desks
 pub mod Locking
 pub mod Looping
 pub mod Rounds
+pub mod Oldest
 pub mod Two
 pub mod Wanting
 pub mod Idling

@@ -36,7 +36,7 @@ use Rattle.ww_callers.specs.Stages.{Stage}
 use Rattle.ww_seat.proofs.Among.{last_among}
 use Rattle.ww_callers.specs.Deeds.{IsDriven, Call, begin, done, end, lock, try_lock, lock_slow, go_on, has, is_free, outlook, is_wounded, cancel, heed, HasDone, Deed, steps, answers, Does}
 use Rattle.ww_callers.specs.Drives.{thread_move, IsEndlessDrive}
-use Rattle.ww_callers.proofs.Runs.{driven}
+use Rattle.ww_callers.proofs.Runs.{driven, accounted_on}
 use Rattle.ww_loops.specs.Contexts.{as_scenes, steps_by}
 use Rattle.ww_loops.specs.Loops.{waits_at, lock_for, AnswersAt, KeepsToItsCalls, LoopState, outside, ease, owes, told, first, is_owed, after_lock, phase_after, asked_after, is_look, MayCall, Goes, HoldsJust, FitsLoop, AnswersInLoop, StaysInLoop, GoesInLoop, LoopsBy, AreLoops, BackOffFirst, LoopsBackOff}
 use Rattle.ww_loops.proofs.Ending.{event_at}
@@ -323,7 +323,7 @@ module _ {key : Start} (stage : ℕ → Stage key) (deed : ℕ → Deed) (phase 
 
   -- an event of the locks is a step of its desk
   pub deed_of : (k : ℕ) (e : Event) → steps_by key deed k ≡ performs e → deed k ≡ steps (actor e) (Some (performs e))
-  deed_of k e is = event_at stage deed h.endless k e (performed key (thread_move (deed k)) e is)
+  deed_of k e is = event_at stage deed (accounted_on stage deed h.endless) k e (performed key (thread_move (deed k)) e is)
 
   pub wants_deed : (k d n : ℕ) → Wants d n (steps_by key deed k) → (x : Step) × (deed k ≡ steps d (Some x)) × Wants d n x
   wants_deed k d n (inl is) = (performs (Fast d n), deed_of k (Fast d n) is, inl refl)

@@ -29,6 +29,7 @@ use Rattle.ww_callers.specs.Deeds.{Call, begin, end, HasDone, Deed, steps, answe
 use Rattle.ww_callers.specs.Drives.{thread_move}
 use Rattle.ww_loops.specs.Contexts.{as_scenes, steps_by, AllAreServed}
 use Rattle.ww_loops.specs.Loops.{lock_for, AnswersAt, LoopState, outside, ease, owes, told, first, is_owed, phase_after, MayCall, Goes, HoldsJust, FitsLoop, LoopsBy, IsRoundOver, LoopsNoMore, ProgramGoesOn, LoopEnds, AreLoops, LoopsEnd}
+use Rattle.ww_callers.proofs.Runs.{accounted_on}
 use Rattle.ww_loops.proofs.Ending.{along, contexts_are_over_in_drives}
 use Rattle.ww_loops.proofs.Desks.{desk_stays, idle_then, is_current, taken_by, owned_by}
 use Rattle.ww_loops.proofs.Looping.{HeldThen, held_then, look_held, answer_or_not, does_at, from, loop, fits, holds, in_call, phase_until, answer_of, wants_may, dies_told, backs_off_by, deed_of, loops_do_back_off}
@@ -141,11 +142,11 @@ later_then i j more e = let x = e.1 in (e.0, omega arith, e.2)
 
 module _ {key : Start} (stage : ℕ → Stage key) (deed : ℕ → Deed) (phase : ℕ → ℕ → LoopState) (asked : ℕ → ℕ → List ℕ)
     (h : AreLoops stage deed phase asked) where
-  abbrev stamp_at : ℕ → ℕ → ℕ
+  abbrev pub stamp_at : ℕ → ℕ → ℕ
   stamp_at k d = (core (stage k).moment).stamp d
 
-  abbrev run : RunsAlong (λ j. (stage j).moment) (λ j. thread_move (deed j))
-  run = along stage deed h.endless
+  abbrev pub run : RunsAlong (λ j. (stage j).moment) (λ j. thread_move (deed j))
+  run = along stage deed (accounted_on stage deed h.endless)
 
   -- a context stays until its desk ends it
   stamp_stays : (k d : ℕ) → 0 < stamp_at k d → steps_by key deed k ≢ performs (End d) → stamp_at (suc k) d ≡ stamp_at k d
@@ -157,7 +158,7 @@ module _ {key : Start} (stage : ℕ → Stage key) (deed : ℕ → Deed) (phase 
       ∙ ap (λ (c : State). c.stamp d) (a.shown k).core
 
   -- ... and doesn't come again
-  same_between : (i x k d : ℕ) → i ≤ x → x ≤ k → 0 < stamp_at i d → stamp_at k d ≡ stamp_at i d → stamp_at x d ≡ stamp_at i d
+  pub same_between : (i x k d : ℕ) → i ≤ x → x ≤ k → 0 < stamp_at i d → stamp_at k d ≡ stamp_at i d → stamp_at x d ≡ stamp_at i d
   same_between i x k d early late some same = let a = run in let st = steps_by key deed in
       let here : (y : ℕ) → (a.scene y).core.stamp d ≡ stamp_at y d = λ y. ap (λ (c : State). c.stamp d) (a.shown y).core in
       let drawn = (lawful_at a.scene st a.run i).base.stamps.below d in
@@ -171,7 +172,7 @@ module _ {key : Start} (stage : ℕ → Stage key) (deed : ℕ → Deed) (phase 
       subst (λ (c : State). Stands (c.queue m) d) (a.shown k).core may.possible.base.waits
 
   module _ (d : ℕ) (low : d < key.seats) (g : ProgramGoesOn stage deed phase asked d) where
-    abbrev Over : ℕ → Type 0
+    abbrev pub Over : ℕ → Type 0
     Over = IsRoundOver stage deed phase asked d
 
     -- ---- rounds are over
@@ -186,7 +187,7 @@ module _ {key : Start} (stage : ℕ → Stage key) (deed : ℕ → Deed) (phase 
         later_then i e.0 e.1 (asks_until left e.0 r.runs r.untold (omega arith)))
         (λ over. (e.0, e.1, over)) e.2
 
-    round_over : (i : ℕ) → phase i d ≢ outside → InTheEnd i Over
+    pub round_over : (i : ℕ) → phase i d ≢ outside → InTheEnd i Over
     round_over i runs = ⊎_elim
         (λ t. let e = g.backs_off i t.0 t.1 in later_then i e.0 e.1 (asks_until g.most e.0
         (λ is. let z = sym e.2 ∙ is in cc) (λ m is. let z = sym e.2 ∙ is in cc) (omega arith)))
@@ -314,7 +315,7 @@ module _ {key : Start} (stage : ℕ → Stage key) (deed : ℕ → Deed) (phase 
         (answer_or_not d (deed k))
 
     -- it ends, or runs on with the same context
-    runs_on : (j k : ℕ) → j ≤ k → phase j d ≢ outside →
+    pub runs_on : (j k : ℕ) → j ≤ k → phase j d ≢ outside →
         FoundAt (LoopEnds stage deed phase asked d) j k ⊎ ((phase k d ≢ outside) × (stamp_at k d ≡ stamp_at j d))
     runs_on j k later runs = unless (LoopEnds stage deed phase asked d) (λ x. (phase x d ≢ outside) × (stamp_at x d ≡ stamp_at j d))
         j k later (runs, refl)
@@ -394,18 +395,18 @@ module _ {key : Start} (stage : ℕ → Stage key) (deed : ℕ → Deed) (phase 
         (runs_on i j later runs)
 
   module _ (goes : (d : ℕ) → d < key.seats → ProgramGoesOn stage deed phase asked d) where
-    holders_release : HoldersRelease (as_scenes stage) (steps_by key deed)
+    pub holders_release : HoldersRelease (as_scenes stage) (steps_by key deed)
     holders_release i s n own = ⊎_elim (λ low. releases s low (goes s low) i n own)
-        (λ far. absurd (((stage i).moment.ruled.strangers s far).bare n own)) (cases_lt s key.seats)
+        (λ far. absurd (((stage i).moment.strangers s far).bare n own)) (cases_lt s key.seats)
 
     contexts_end : ContextsEndOrDie (as_scenes stage) (steps_by key deed)
     contexts_end i s some = ⊎_elim (λ low. ends s low (goes s low) i some)
-        (λ far. absurd (let none = ((stage i).moment.ruled.strangers s far).stamp in omega arith)) (cases_lt s key.seats)
+        (λ far. absurd (let none = ((stage i).moment.strangers s far).stamp in omega arith)) (cases_lt s key.seats)
 
 pub loops_end : LoopsEnd
 loops_end key stage deed phase asked h served goes i = λ d low kind runs.
     let back = loops_do_back_off stage deed phase asked h in
-    let over = contexts_are_over_in_drives key stage deed h.endless served (holders_release stage deed phase asked h goes)
+    let over = contexts_are_over_in_drives key stage deed (accounted_on stage deed h.endless) served (holders_release stage deed phase asked h goes)
     (contexts_end stage deed phase asked h goes) back.backs_off back.takes_first i d kind
     (context_at stage deed phase asked h d low (goes d low) i runs) in
     ends_when_over stage deed phase asked h d low (goes d low) i over.0 over.1 runs over.2

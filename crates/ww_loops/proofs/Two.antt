@@ -523,10 +523,10 @@ module _ (kind : Kind) where
 
   -- nor do others, who have no seat
   bare : (s : ℕ) → OwnsNone (core last) s
-  bare s = dite (dec_le 2 s) (λ far. (last.ruled.strangers s far).bare) (λ near. owns_none s (omega arith))
+  bare s = dite (dec_le 2 s) (λ far. (last.strangers s far).bare) (λ near. owns_none s (omega arith))
 
   away : (s : ℕ) → InNoQueue (core last) s
-  away s = dite (dec_le 2 s) (λ far. (last.ruled.strangers s far).waits) (λ near. in_no_queue s (omega arith))
+  away s = dite (dec_le 2 s) (λ far. (last.strangers s far).waits) (λ near. in_no_queue s (omega arith))
 
   rests : (s i : ℕ) → RestsOn (as_scenes stage) (steps_by (small kind) deed) s (late i)
   rests s i k later same = late_case (λ x. OwnsNone (core (moment x)) s × InNoQueue (core (moment x)) s)

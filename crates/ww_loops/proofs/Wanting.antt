@@ -22,7 +22,7 @@ use Rattle.ww_invariant.specs.Steps.{nobody, first_seat, without_first, with_sea
 use Rattle.ww_invariant.proofs.Fits.{place_low}
 use Rattle.ww_laws.specs.Scene.{Step, performs}
 use Rattle.ww_laws.specs.Premises.{Wants}
-use Rattle.ww_refines.specs.Moment.{Moment}
+use Rattle.ww_refines.specs.Tables.{TableMoment}
 use Rattle.ww_refines.specs.Plays as play
 use Rattle.ww_refines.specs.Plays.{Plays, IsFound}
 use Rattle.ww_refines.specs.Naps.{IsPlayOf, ArePlaysOf, no_more, one_more}
@@ -164,7 +164,7 @@ stopped_there (suc i) (suc h) n before at isnt = (h, ap (λ j. (j, h) ∷ before
 
 -- ---- each play
 
-module _ {key : Start} (m : Moment key) (id : ℕ) (me : Sat) (here : get_elem? m.table.views id ≡ some me.0) where
+module _ {key : Start} (m : TableMoment key) (id : ℕ) (me : Sat) (here : get_elem? m.table.views id ≡ some me.0) where
   abbrev v : View
   v = me.0.part.core
 

@@ -11,8 +11,8 @@ use Rattle.ww_laws.specs.Premises.{InTheEnd, HoldersRelease, IsOver, IsOldestAct
 use Rattle.ww_refines.specs.Moment.{core}
 use Rattle.ww_refines.specs.Endless.{step_of}
 use Rattle.ww_callers.specs.Stages.{Stage}
-use Rattle.ww_callers.specs.Deeds.{Deed, steps}
-use Rattle.ww_callers.specs.Drives.{thread_move, IsEndlessDrive, IsServed}
+use Rattle.ww_callers.specs.Deeds.{Deed, steps, Accounts}
+use Rattle.ww_callers.specs.Drives.{thread_move, IsEndlessDriveBy, IsServed}
 
 -- The locks at each stage, as the scene that ww_laws speaks of. Its premises of programs ask nothing of who sleeps, or has to wake
 -- whom.
@@ -39,7 +39,7 @@ AllAreServed {key = key} stage deed = (s : ℕ) → s < key.seats → IsServed s
 -- the end, unless it waits forever; each context is over in the end, unless it waits forever or gets EDEADLK; and each seat that
 -- gets EDEADLK releases all that it has and then takes the contended lock first.
 abbrev pub ContextsAreOverInDrives : Type 0
-ContextsAreOverInDrives = (key : Start) (stage : ℕ → Stage key) (deed : ℕ → Deed) → IsEndlessDrive stage deed →
+ContextsAreOverInDrives = (key : Start) (stage : ℕ → Stage key) (deed : ℕ → Deed) → IsEndlessDriveBy Accounts stage deed →
     AllAreServed stage deed → HoldersRelease (as_scenes stage) (steps_by key deed) →
     ContextsEndOrDie (as_scenes stage) (steps_by key deed) → BacksOff (as_scenes stage) (steps_by key deed) →
     TakesContendedFirst (as_scenes stage) (steps_by key deed) → (i s : ℕ) → (core (stage i).moment).kind ≡ WaitDie →
@@ -48,7 +48,7 @@ ContextsAreOverInDrives = (key : Start) (stage : ℕ → Stage key) (deed : ℕ 
 -- In Wound-Wait the oldest context of those that don't rest on, if it has no sign, and has a lock already, gets each lock that it
 -- waits for, unless it is cancelled: if each seat that has a lock releases it in the end, unless it waits forever.
 abbrev pub OldestIsServedInDrives : Type 0
-OldestIsServedInDrives = (key : Start) (stage : ℕ → Stage key) (deed : ℕ → Deed) → IsEndlessDrive stage deed →
+OldestIsServedInDrives = (key : Start) (stage : ℕ → Stage key) (deed : ℕ → Deed) → IsEndlessDriveBy Accounts stage deed →
     AllAreServed stage deed → HoldersRelease (as_scenes stage) (steps_by key deed) → (i s n : ℕ) →
     (core (stage i).moment).kind ≡ WoundWait → IsOldestActive (as_scenes stage) (steps_by key deed) s i →
     (core (stage i).moment).sign s ≡ 0 → OwnsSome (core (stage i).moment) s → Stands ((core (stage i).moment).queue n) s →

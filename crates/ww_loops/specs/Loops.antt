@@ -1,13 +1,14 @@
 -- Retry loops: what the driver of a desk does in ww_until_all_locked, in each of the states of c/lock/loop.c.
 use Rattle.std.specs.Prelude.{ℕ, suc, ◌≡◌, ◌≢◌, ◌<◌, ◌≤◌, ◌⊎◌, ◌==◌, ◌||◌, ◌++◌, ◌∷◌, [], Bool, true, false, List, length, Option, Some, None, if◌then◌else◌}
 use Rattle.ww_plain.specs.Numbers.{is_among}
-use Rattle.ww_queue.specs.declared.kind.Kind.TheVariants.{WaitDie}
-use Rattle.ww_model.specs.declared.event.Event.TheVariants.{Fast, Join, Take, Die, End}
+use Rattle.ww_queue.specs.declared.kind.Kind.TheVariants.{WoundWait, WaitDie}
+use Rattle.ww_model.specs.declared.event.Event.TheVariants.{Fast, Join, Take, Die, End, Leave}
 use Rattle.ww_model.specs.declared.state.Holder.TheVariants.{Taken}
+use Rattle.ww_model.specs.State.{OwnsNone}
 use Rattle.ww_view.specs.View.{owns}
 use Rattle.ww_invariant.specs.declared.cells.Start.{Start}
 use Rattle.ww_laws.specs.Scene.{Step, performs}
-use Rattle.ww_laws.specs.Premises.{InTheEnd, Wants, WaitsForEver, IsOver, BacksOff, TakesContendedFirst}
+use Rattle.ww_laws.specs.Premises.{InTheEnd, Wants, WaitsForEver, IsOldestActive, IsOver, BacksOff, TakesContendedFirst}
 use Rattle.ww_refines.specs.Moment.{core, view}
 use Rattle.ww_steps.specs.declared.turn.Turn.{Turn}
 use Rattle.ww_steps.specs.declared.turn.Turn.TheVariants as at
@@ -226,3 +227,19 @@ LoopsEnd = (key : Start) (stage : ℕ → Stage key) (deed : ℕ → Deed) (phas
     AreLoops stage deed phase asked → AllAreServed stage deed →
     ((d : ℕ) → d < key.seats → ProgramGoesOn stage deed phase asked d) → (i d : ℕ) → d < key.seats →
     (core (stage i).moment).kind ≡ WaitDie → phase i d ≢ outside → InTheEnd i (LoopEnds stage deed phase asked d)
+
+-- From j on the context waits for a lock, and has none: it waits for its first one, forever.
+abbrev pub WaitsForItsFirst : {key : Start} → (ℕ → Stage key) → (ℕ → Deed) → ℕ → ℕ → Type 0
+WaitsForItsFirst {key = key} stage deed d j =
+    OwnsNone (core (stage j).moment) d × WaitsForEver (as_scenes stage) (steps_by key deed) d j
+
+-- In Wound-Wait the loop of the oldest context of those that don't rest on ends, if that has no sign, unless it waits forever for its
+-- first lock, or is cancelled.
+abbrev pub OldestLoopEnds : Type 0
+OldestLoopEnds = (key : Start) (stage : ℕ → Stage key) (deed : ℕ → Deed) (phase : ℕ → ℕ → LoopState) (asked : ℕ → ℕ → List ℕ) →
+    AreLoops stage deed phase asked → AllAreServed stage deed →
+    ((d : ℕ) → d < key.seats → ProgramGoesOn stage deed phase asked d) → (i d : ℕ) → d < key.seats →
+    (core (stage i).moment).kind ≡ WoundWait → IsOldestActive (as_scenes stage) (steps_by key deed) d i →
+    (core (stage i).moment).sign d ≡ 0 → phase i d ≢ outside →
+    InTheEnd i (λ j. LoopEnds stage deed phase asked d j ⊎ (WaitsForItsFirst stage deed d j
+    ⊎ ((n : ℕ) × (deed j ≡ steps d (Some (performs (Leave d n)))))))

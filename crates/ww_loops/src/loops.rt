@@ -1,5 +1,5 @@
 //! Retry loops end.
-ghost use Rattle.ww_loops.specs.Loops.{LoopsBackOff, LoopsEnd};
+ghost use Rattle.ww_loops.specs.Loops.{LoopsBackOff, LoopsEnd, OldestLoopEnds};
 
 /// Desks whose drivers lock in loops release all that they have after EDEADLK, and take the contended lock first.
 pub fn loops_back_off()
@@ -10,4 +10,10 @@ pub fn loops_back_off()
 /// scheduled, programs go on, and no round asks for endlessly many locks.
 pub fn loops_end()
     ensures { LoopsEnd }
+{}
+
+/// In Wound-Wait the loop of the oldest context of those that don't rest on ends, if that has no sign, unless it waits forever for
+/// its first lock, or is cancelled.
+pub fn oldest_loop_ends()
+    ensures { OldestLoopEnds }
 {}

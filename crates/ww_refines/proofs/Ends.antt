@@ -14,7 +14,7 @@ use Rattle.ww_refines.specs.Moves.{Follows}
 use Rattle.ww_refines.specs.Runs.{IsPhase, IsSceneOf, ShowsScene, GoesAlong, HasToWaitThere}
 use Rattle.ww_refines.specs.Endless.{IsEndless, step_of, RunsAlong, EndlessRunsShowScenes, WakesArriveThere, NobodySleepsInVainInRuns, SleepForEverIsAWaitInRuns}
 use Rattle.ww_refines.proofs.Following.{moves_are_steps, others_are_none, is_asleep, wakes_not}
-use Rattle.ww_refines.proofs.Wholes.{run_shows}
+use Rattle.ww_refines.proofs.Wholes.{run_shows, has_to_wait_there}
 
 -- a number that no seat has may find no sign at any time, and that changes nothing that a moment shows
 idly : {key : Start} (m m' : Moment key) (w : Scene) → IsSceneOf m w → Follows m m' None →
@@ -25,8 +25,8 @@ idly {key = key} m m' w shown follows = let h = others_are_none key m m' w shown
         shown.strangers key.seats same,
         ap (λ (c : State). c.sign key.seats) shown.core
             ∙ dite (ℕ_discrete (c.sign key.seats) 0) (λ is. is)
-            (λ isnt. let a = (reached_is_lawful c m.ruled.reached).signs.older_signs key.seats (omega arith) in
-            let b = (m.ruled.strangers key.seats same).stamp in absurd (omega arith)),
+            (λ isnt. let a = (reached_is_lawful c m.reached).signs.older_signs key.seats (omega arith) in
+            let b = (m.strangers key.seats same).stamp in absurd (omega arith)),
       );
       shown = record {
         core = h.core;
@@ -102,16 +102,8 @@ module _ {key : Start} (moment : ℕ → Moment key) (move : ℕ → Option Step
         ∙ token) c.1 in (b.0, b.1, ap (step_of key) b.2);
   }
 
-  reached_along : (i : ℕ) → IsReached (a.scene i)
-  reached_along zero = a.run.begins
-  reached_along (suc i) = subst IsReached (sym (a.run.goes_on i))
-      (goes_on (a.scene i) (step_of key (move i)) (reached_along i) (a.run.may i))
-
   has_to_wait : (i s : ℕ) → HasToWait (a.scene i) s → HasToWaitThere (moment i) s
-  has_to_wait i s waits = record {
-    shows = record { scene = a.scene i; reached = reached_along i; shown = a.shown i };
-    waits = waits;
-  }
+  has_to_wait i s waits = has_to_wait_there (moment i) (a.scene i) s (a.shown i) waits
 
 pub nobody_sleeps_in_vain_in_runs : NobodySleepsInVainInRuns
 nobody_sleeps_in_vain_in_runs key moment move endless arrive i s low sleeps vain = let a =

@@ -67,14 +67,12 @@ wakes_not asleep a k n other h = absurd (other refl)
 far_off : {n : ℕ} (t s : ℕ) → n ≤ t → s < n → t ≢ s
 far_off t s far near is = omega arith
 
--- ---- what the table tells
+-- ---- what is known of a seat
 
 module _ {key : Start} (m : Moment key) where
-  -- a seat knows the locks by what the table tells of it
+  -- a seat knows the locks by its part
   pub knows_there : (t : ℕ) → t < key.seats → Knows (core m) (view m t)
-  knows_there t seat = let h = m.told t seat in let sits = m.ruled.seats h.place h.view h.stands h.seated in
-      ⊎_elim (λ is. subst (λ (p : Part). Knows (core m) p.core) is sits.part.knows)
-      (λ idle. (sits.idle idle.0 (m.part t) idle.1).0.knows) h.tells
+  knows_there t seat = (m.told t seat).knows
 
   pub who_there : (t : ℕ) → t < key.seats → (view m t).who ≡ t
   who_there t seat = (m.told t seat).who
@@ -138,7 +136,7 @@ module _ {key : Start} (m m' : Moment key) (e : Event) (makes : MakesEvent m m' 
     newly u is there = record {
       waker = seat;
       sleeper = there;
-      other = woken_other (core m) e u (reached_is_lawful (core m) m.ruled.reached) makes.can is;
+      other = woken_other (core m) e u (reached_is_lawful (core m) m.reached) makes.can is;
       owed = let a = newly_owed (core m) (view m (actor e)) knows (m.part (actor e)).counts.cancelled u (m.rung (actor e) u)
           (shown.even (actor e) u seat) e makes.can own (had u) is in
           let b = owed_then u in let c = rung_is (actor e) u in omega arith;
@@ -185,7 +183,7 @@ module _ {key : Start} (m m' : Moment key) (e : Event) (makes : MakesEvent m m' 
     possible : Possible w.core e
     possible = subst (λ c. Possible c e) (sym shown.core) makes.can
 
-    core_then : after w.core e ≡ m'.ruled.core
+    core_then : after w.core e ≡ m'.core
     core_then = ap (λ c. after c e) shown.core ∙ sym makes.core
 
 performs_on : {key : Start} (m m' : Moment key) (w : Scene) (e : Event) → IsSceneOf m w → Performs m m' e →
@@ -278,7 +276,7 @@ module _ {key : Start} (m m' : Moment key) (w : Scene) where
 -- ---- a step at the table that is no event
 
 module _ {key : Start} (m m' : Moment key) (w : Scene) (t : ℕ) (shown : IsSceneOf m w)
-    (sits : t < key.seats) (there : OthersStay m m' t) (same_core : m'.ruled.core ≡ m.ruled.core)
+    (sits : t < key.seats) (there : OthersStay m m' t) (same_core : m'.core ≡ m.core)
     (cancelled : (m'.part t).counts.cancelled ≡ (m.part t).counts.cancelled) (same_heeds : m'.heeds ≡ m.heeds)
     (inside : (view m' t).inside ≡ (view m t).inside) (condemned : (view m' t).condemned ≡ (view m t).condemned)
     (debts : (view m' t).debts ≡ (view m t).debts) (naps : (view m' t).naps ≡ (view m t).naps)

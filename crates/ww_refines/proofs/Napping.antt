@@ -12,7 +12,7 @@ use Rattle.ww_invariant.specs.Rule.{St, Sat}
 use Rattle.ww_invariant.specs.Steps.{nobody, first_seat, without_first, with_seat}
 use Rattle.ww_invariant.proofs.Fits.{place_low}
 use Rattle.ww_laws.specs.Scene.{Step, leaves_to_sleep}
-use Rattle.ww_refines.specs.Moment.{Moment}
+use Rattle.ww_refines.specs.Tables.{TableMoment}
 use Rattle.ww_refines.specs.Plays as play
 use Rattle.ww_refines.specs.Plays.{Plays, IsFound}
 use Rattle.ww_refines.specs.Naps.{IsPlayOf, ArePlaysOf, no_more, one_more, is_to_sleep, is_event, HaveNone, SleepsLast, WaitsOutside, NapsAreLast}
@@ -34,7 +34,7 @@ in_guard inside waits n is out = let none = out.0 in absurd (omega arith)
 waits_not : (inside waits : ℕ) → waits ≡ 0 → ¬ ((inside ≡ 0) × (waits ≢ 0))
 waits_not inside waits none out = absurd (out.1 none)
 
-module _ {key : Start} (m : Moment key) (id : ℕ) (me : Sat) (here : get_elem? m.table.views id ≡ some me.0) where
+module _ {key : Start} (m : TableMoment key) (id : ℕ) (me : Sat) (here : get_elem? m.table.views id ≡ some me.0) where
   abbrev v : View
   v = me.0.part.core
 

@@ -31,6 +31,7 @@ use Rattle.ww_invariant.specs.Waiting.{joining, dying}
 use Rattle.ww_invariant.proofs.Fits.{place_low}
 use Rattle.ww_laws.specs.Scene.{Step, performs, leaves_to_sleep, finds_no_sign, finds_no_cancel, wakes, falls_asleep}
 use Rattle.ww_refines.specs.Moment.{Moment, core, HasToWake, Acts}
+use Rattle.ww_refines.specs.Tables.{NotesWhatStands, TableMoment, moment_of}
 use Rattle.ww_refines.specs.Moves.{StepsThere, Follows}
 use Rattle.ww_refines.specs.Runs.{IsOfRun}
 use Rattle.ww_refines.specs.Runs as runs
@@ -50,10 +51,12 @@ pub record Picture : Type 0 where
 
 -- a moment of a run that the picture is of
 pub record At (key : Start) (p : Picture) : Type 0 where
+  pub base : TableMoment key
   pub moment : Moment key
+  pub is_moment : moment_of base ≡ moment
   pub run : IsOfRun moment
-  pub is_table : moment.table ≡ p.table
-  pub is_core : moment.ruled.core ≡ p.core
+  pub is_table : base.table ≡ p.table
+  pub is_core : moment.core ≡ p.core
   pub rung : moment.rung ≡ p.rung
   pub risen : moment.risen ≡ (λ _. 0)
   pub token : moment.token ≡ p.token
@@ -65,6 +68,7 @@ pub record Next {key : Start} {p : Picture} (a : At key p) (d : ℕ) (x : Option
   pub at : At key p'
   pub there : StepsThere a.moment at.moment d
   pub by : IsBy d x
+  pub notes : NotesWhatStands key a.moment.core (a.moment.part d).core (at.moment.part d).core
   pub follows : Follows a.moment at.moment x
 
 -- ... or by this move beside the table, after which the moment is m
@@ -170,22 +174,22 @@ acting here is_seated who low awake rested = record {
 }
 
 -- a play in this table, by which the table is `then`
-pub record IsPlay {key : Start} (m : Moment key) (id : ℕ) (me : Sat) (x : Option Step) (then : St) : Type 0 where
+pub record IsPlay {key : Start} (m : TableMoment key) (id : ℕ) (me : Sat) (x : Option Step) (then : St) : Type 0 where
   pub found : St
   pub is : found ≡ then
   pub plays : Plays m id me x found
 
 module _ {key : Start} {p : Picture} (a : At key p) where
   -- what a word is
-  pub word_there : (i k : ℕ) → slice_index p.table.words i ≡ k → slice_index a.moment.table.words i ≡ k
+  pub word_there : (i k : ℕ) → slice_index p.table.words i ≡ k → slice_index a.base.table.words i ≡ k
   word_there i k is = ap (λ (t : St). slice_index t.words i) a.is_table ∙ is
 
-  here_there : (id : ℕ) (v : Sight) → get_elem? p.table.views id ≡ some v → get_elem? a.moment.table.views id ≡ some v
+  here_there : (id : ℕ) (v : Sight) → get_elem? p.table.views id ≡ some v → get_elem? a.base.table.views id ≡ some v
   here_there id v here = ap (λ (t : St). get_elem? t.views id) a.is_table ∙ here
 
   pub part_is : (id d : ℕ) (v : Sight) → IsSeated key p.table id d v → v.part ≡ a.moment.part d
-  part_is id d v i = told_there a.moment id v (here_there id v i.here) i.seated
-      (subst (λ t. t < key.seats) (sym i.who) i.low) ∙ ap a.moment.part i.who
+  part_is id d v i = told_there a.base id v (here_there id v i.here) i.seated
+      (subst (λ t. t < key.seats) (sym i.who) i.low) ∙ ap a.base.part i.who ∙ ap (λ (m : Moment key). m.part d) a.is_moment
 
   acts_there : (id d : ℕ) (v : Sight) → IsActing key p id d v → Acts a.moment d
   acts_there id d v i = record {
@@ -195,26 +199,33 @@ module _ {key : Start} {p : Picture} (a : At key p) where
   }
 
   pub plays_then : (id d : ℕ) (me : Sat) → IsActing key p id d me.0 → (x : Option Step) (then : St) →
-      IsPlay a.moment id me x then → Next a d x (played p then x)
+      IsPlay a.base id me x then → Next a d x (played p then x)
   plays_then id d me i x then play =
-      let moved : Moved a.moment d x play.found = subst (λ t. Moved a.moment t x play.found) i.seated.who
-      (plays_are_moves key a.moment id me x play.found (here_there id me.0 i.seated.here) i.seated.seated
-      (subst (λ t. Acts a.moment t) (sym i.seated.who) (acts_there id d me.0 i)) play.plays) in
-      let stay = moved.there.stay in record {
+      let moved : Moved a.base d x play.found = subst (λ t. Moved a.base t x play.found) i.seated.who
+      (plays_are_moves key a.base id me x play.found (here_there id me.0 i.seated.here) i.seated.seated
+      (subst (λ t. Acts (moment_of a.base) t) (sym i.seated.who)
+      (subst (λ (m : Moment key). Acts m d) (sym a.is_moment) (acts_there id d me.0 i))) play.plays) in
+      let then = moment_of moved.moment in
+      let there : StepsThere a.moment then d = subst (λ (m : Moment key). StepsThere m then d) a.is_moment moved.there in
+      let follows : Follows a.moment then x = subst (λ (m : Moment key). Follows m then x) a.is_moment moved.follows in
+      let stay = there.stay in record {
         at = record {
-          moment = moved.moment;
-          run = runs.goes_on a.moment moved.moment x a.run moved.follows;
+          base = moved.moment;
+          moment = then;
+          is_moment = refl;
+          run = runs.goes_on a.moment then x a.run follows;
           is_table = moved.table ∙ play.is;
-          is_core = core_follows a.moment moved.moment d x moved.by moved.follows ∙ ap (core_after x) a.is_core;
+          is_core = core_follows a.moment then d x moved.by follows ∙ ap (core_after x) a.is_core;
           rung = stay.rung ∙ a.rung;
           risen = stay.risen ∙ a.risen;
           token = stay.token ∙ a.token;
           asleep = stay.asleep ∙ a.asleep;
-          heeding = heeds_follow a.moment moved.moment d x moved.by moved.follows ∙ ap (heeds_after x) a.heeding;
+          heeding = heeds_follow a.moment then d x moved.by follows ∙ ap (heeds_after x) a.heeding;
         };
-        there = moved.there;
+        there = there;
         by = moved.by;
-        follows = moved.follows;
+        notes = subst (λ (m : Moment key). NotesWhatStands key m.core (m.part d).core (then.part d).core) a.is_moment moved.notes;
+        follows = follows;
       }
 
   -- ---- beside the table
@@ -237,7 +248,12 @@ module _ {key : Start} {p : Picture} (a : At key p) where
         asleep = refl;
       } in record {
         at = record {
+          base = let b = a.base in record b {
+            rung = put b.rung d (put (b.rung d) u (b.rung d u + (wakes_owed (b.part d) u - b.rung d u)));
+            token = put b.token u true;
+          };
           moment = rung_by m d u;
+          is_moment = ap (λ (n : Moment key). rung_by n d u) a.is_moment;
           run = runs.goes_on m (rung_by m d u) (Some (wakes d u)) a.run follows;
           is_table = a.is_table;
           is_core = a.is_core;
@@ -269,7 +285,9 @@ module _ {key : Start} {p : Picture} (a : At key p) where
         token = refl;
       } in record {
         at = record {
+          base = let b = a.base in record b { asleep = put b.asleep d true };
           moment = asleep_by m d;
+          is_moment = ap (λ (n : Moment key). asleep_by n d) a.is_moment;
           run = runs.goes_on m (asleep_by m d) (Some (falls_asleep d)) a.run follows;
           is_table = a.is_table;
           is_core = a.is_core;
@@ -368,7 +386,7 @@ module _ {key : Start} {p : Picture} (a : At key p) (id d : ℕ) (v : Sight) (ac
     plays = play.gives_bare n bare low away own (word_there a (owner_at key.locks n) _ plain);
   })
 
-  reads_then : (n : ℕ) (after : View) → play.IsFound a.moment id (v, []) (owner_at key.locks n) after →
+  reads_then : (n : ℕ) (after : View) → play.IsFound a.base id (v, []) (owner_at key.locks n) after →
       Next a d None (reads_as key p id n v after)
   reads_then n after found = let i = owner_at key.locks n in plays_then a id d (v, []) acts None _ (record {
     found = _;
@@ -381,13 +399,13 @@ module _ {key : Start} {p : Picture} (a : At key p) (id d : ℕ) (v : Sight) (ac
 
   pub sees_then : (n : ℕ) → n < key.locks → Next a d None (sees_as key p id n v)
   sees_then n low = let i = owner_at key.locks n in reads_then n (has_seen_word v.part.core n (word_of_lock key p n))
-      (subst (λ (k : ℕ). play.IsFound a.moment id (v, []) i (has_seen_word v.part.core n k)) (word_there a i _ refl) (play.sees n low))
+      (subst (λ (k : ℕ). play.IsFound a.base id (v, []) i (has_seen_word v.part.core n k)) (word_there a i _ refl) (play.sees n low))
 
   pub enters_then : (n : ℕ) → n < key.locks → MayEnter v.part.core n → slice_index p.table.words (guard_at key.locks n) ≡ 0 →
       Next a d (Some (performs (Guard v.part.core.who n))) (enters_as key p id n v)
   enters_then n low enter free = plays_then a id d (v, []) acts (Some (performs (Guard v.part.core.who n))) _ (record {
     found = _;
-    is = λ j. let q = (a.is_core j).queue n in
+    is = λ j. let q = ((ap (λ (m : Moment key). m.core) a.is_moment ∙ a.is_core) j).queue n in
         stepped (a.is_table j) (guard_at key.locks n) (suc v.part.core.who) id [] (entering v n q) (takes (list_at n) (Line q));
     plays = play.enters n low enter (word_there a (guard_at key.locks n) 0 free);
   })
@@ -409,8 +427,8 @@ module _ {key : Start} {p : Picture} (a : At key p) (id d : ℕ) (v : Sight) (ac
     plays = play.dies n o k die valid (word_there a (owner_at key.locks n) (packed o) is);
   })
 
-  exits_by : (n : ℕ) (step : Step) → Plays a.moment id (v, list_out n v) (Some step)
-      (stepped a.moment.table (guard_at key.locks n) 0 id (list_out n v) (exiting v) gives) →
+  exits_by : (n : ℕ) (step : Step) → Plays a.base id (v, list_out n v) (Some step)
+      (stepped a.base.table (guard_at key.locks n) 0 id (list_out n v) (exiting v) gives) →
       Next a d (Some step) (exits_as key p id n v step)
   exits_by n step plays = plays_then a id d (v, list_out n v) acts (Some step) _ (record {
     found = _;

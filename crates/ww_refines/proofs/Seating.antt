@@ -1,19 +1,30 @@
 -- What a table tells of its seats as it is made, and as seats are cut off and taken in.
-use Rattle.std.proofs.Common.{◌≡◌, ◌≢◌, ⊎_elim, inl, inr, ℕ, zero, suc, ◌+◌, ◌-◌, ◌<◌, true, false, List, [], ◌∷◌, ◌++◌, length, length-set, set, refl, sym, ap, ◌∙◌, arith}
+use Rattle.std.proofs.Common.{◌≡◌, ◌≢◌, ⊎_elim, inl, inr, ℕ, zero, suc, ◌+◌, ◌-◌, ◌<◌, true, false, List, [], ◌∷◌, ◌++◌, length, length-set, set, refl, sym, ap, ◌∙◌, subst, arith}
 use mathlib.Core.Logic.{dite}
 use mathlib.Core.Option.{some, some-injective}
 use native.Mathlib.Decide.{ℕ_discrete}
 use lib.ListN.{get_elem?}
 use Rattle.atomic_table.proofs.Lists.{set_here, set_else, at_longer, at_last}
 use Rattle.ww_queue.specs.declared.kind.Kind.{Kind}
+use Rattle.ww_view.specs.View.{Knows}
 use Rattle.ww_invariant.specs.declared.cells.Part.{Part}
 use Rattle.ww_invariant.specs.declared.cells.Sight.{Sight}
 use Rattle.ww_invariant.specs.declared.cells.Start.{Start}
-use Rattle.ww_invariant.specs.Rule.{St, first_part, first_parts, first_sight}
+use Rattle.ww_invariant.specs.Rule.{St, Ruled, first_part, first_parts, first_sight}
 use Rattle.ww_invariant.specs.Steps.{nobody, sight_of, rest_of, first_seat, without_first, with_seat}
 use Rattle.ww_invariant.proofs.Fits.{place_low}
-use Rattle.ww_refines.specs.Moment.{IsToldOf}
+use Rattle.ww_refines.specs.Moment.{IsPartOf}
+use Rattle.ww_refines.specs.Tables.{IsToldOf}
 use Rattle.ww_refines.specs.Runs.{NewTablesBegin}
+
+-- ---- what is known by the table
+
+pub known_by : {key : Start} (s : St) (r : Ruled key s) (t : ℕ) (p : Part) → IsToldOf s t p → IsPartOf r.core t p
+known_by s r t p h = let sits = r.seats h.place h.view h.stands h.seated in record {
+  who = h.who;
+  knows = ⊎_elim (λ is. subst (λ (q : Part). Knows r.core q.core) is sits.part.knows)
+      (λ idle. (sits.idle idle.0 p idle.1).0.knows) h.tells;
+}
 
 -- ---- a table made just now
 
@@ -45,6 +56,7 @@ new_tables_begin key s r views is = record {
     ruled = r;
     part = first_part key.kind key.locks key.places;
     told = told_first key s views;
+    known = λ t low. known_by s r t (first_part key.kind key.locks key.places t) (told_first key s views t low);
     rung = λ _ _. 0;
     risen = λ _. 0;
     token = λ _. false;

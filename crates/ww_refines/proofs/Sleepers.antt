@@ -163,8 +163,7 @@ module _ (kind : Kind) where
     arrive = record { made = made; heard = λ i s low token sleeps. heard i s token };
     holds = record {
       sleeps = sleeping;
-      needs_not = λ waits. waits.waits.not_due 0
-          (subst (λ (c : State). IsDue c 1 0) (sym (waits.shows.shown.core ∙ (first_exits kind).is_core)) due);
+      needs_not = λ waits. waits.not_due 0 (subst (λ (c : State). IsDue c 1 0) (sym (first_exits kind).is_core) due);
     };
   }
 

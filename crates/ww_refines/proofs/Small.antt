@@ -33,6 +33,7 @@ use Rattle.ww_invariant.specs.Waiting.{joining}
 use Rattle.ww_invariant.proofs.Seats.{opens, opens_start}
 use Rattle.ww_laws.specs.Scene.{performs, leaves_to_sleep, finds_no_cancel}
 use Rattle.ww_refines.specs.Moment.{HasToWake}
+use Rattle.ww_refines.specs.Tables.{moment_of}
 use Rattle.ww_refines.specs.Runs as runs
 use Rattle.ww_refines.specs.Plays as play
 use Rattle.ww_refines.proofs.Seating.{new_tables_begin}
@@ -77,8 +78,10 @@ ruled_0 kind = let none : AreNodes [] = record { few = omega arith; closed = tt 
 
 pub at_0 : (kind : Kind) → At (small kind) (first_picture (small kind) (table_0 kind))
 at_0 kind = let r = ruled_0 kind in let b = new_tables_begin (small kind) (table_0 kind) r.0 refl r.1 in record {
-  moment = b.moment;
-  run = runs.begins b.moment b.first;
+  base = b.moment;
+  moment = moment_of b.moment;
+  is_moment = refl;
+  run = runs.begins (moment_of b.moment) b.first;
   is_table = b.table;
   is_core = b.first.core;
   rung = b.first.rung;

@@ -48,24 +48,24 @@ use Rattle.ww_invariant.proofs.Fits.{place_low}
 use Rattle.ww_invariant.proofs.Moves as moves
 use Rattle.ww_invariant.proofs.InsideMoves as inside
 use Rattle.ww_laws.specs.Scene.{Step, performs, finds_no_sign, finds_no_cancel}
-use Rattle.ww_refines.specs.Moment.{Moment, core}
+use Rattle.ww_refines.specs.Tables.{TableMoment}
 use Rattle.ww_refines.specs.Plays as play
 use Rattle.ww_refines.specs.Plays.{Plays, IsFound, word, node_there}
 use Rattle.ww_refines.specs.Told.{AreOut, StandsThere, IsPlay, Exchanges, Loads, Stores, Swaps, Adds, where_0, where_left, way_out, OutsideSteps, GuardSteps, WordSteps, StepsArePlays}
 use Rattle.ww_refines.proofs.Outs.{same_homes, first_came, second_came}
 
-module _ {key : Start} (m : Moment key) (id : ℕ) (me : Sat) (h : StandsThere m id me) where
+module _ {key : Start} (m : TableMoment key) (id : ℕ) (me : Sat) (h : StandsThere m id me) where
   abbrev v : View
   v = me.0.part.core
 
   abbrev homes : List (maybe.Option Cell)
   homes = m.table.homes
 
-  mine : Sits key (core m) m.ruled.log m.ruled.at m.ruled.counts id me.0
+  mine : Sits key m.ruled.core m.ruled.log m.ruled.at m.ruled.counts id me.0
   mine = m.ruled.seats id me.0 h.here h.seated
 
-  law : IsLawful (core m)
-  law = reached_is_lawful (core m) m.ruled.reached
+  law : IsLawful m.ruled.core
+  law = reached_is_lawful m.ruled.core m.ruled.reached
 
   same_room : (v.room ≡ key.locks) × (v.seats ≡ key.places)
   same_room = moves.room_is key m.table m.ruled id me h.here h.seated
@@ -132,7 +132,7 @@ module _ {key : Start} (m : Moment key) (id : ℕ) (me : Sat) (h : StandsThere m
       (played stamp_at (x + 1) a (drawing me.0 (x + 1)) keeps (valid, tt) (t.1 (omega arith)) (play.draws may low)))
 
   -- the node of a lock that nobody has taken is at home
-  node_home : (n : ℕ) → n < length (first_graph key) → ((t : ℕ) → (core m).owner n ≢ Taken t)
+  node_home : (n : ℕ) → n < length (first_graph key) → ((t : ℕ) → m.ruled.core.owner n ≢ Taken t)
       → get_elem? homes n ≡ some (some (Content (node_there m id me n)))
   node_home n small clear = m.ruled.homes.nodes n (let z = m.ruled.counted.size in omega arith) clear
 
@@ -223,7 +223,7 @@ module _ {key : Start} (m : Moment key) (id : ℕ) (me : Sat) (h : StandsThere m
   enter_plays : (n : ℕ) → n < key.locks → MayEnter v n
       → Exchanges m id me (guard_at key.locks n) 0 (suc v.who) (performs (Guard v.who n)) enters_to
   enter_plays n low may = exchange (guard_at key.locks n) 0 (suc v.who) (performs (Guard v.who n)) enters_to
-      (λ slots free w a valid told. let t = (told n (guard_there n)).0 free in let q : List Entry = (core m).queue n in
+      (λ slots free w a valid told. let t = (told n (guard_there n)).0 free in let q : List Entry = m.ruled.core.queue n in
       let home = m.ruled.homes.lists n low (sym (m.ruled.words.guards n low) ∙ free) in
       let lines : Line t.0 ≡ Line q = first_came homes me.1 a h.out valid me.1 (list_at n) (Line t.0) (Line q)
       (ap (λ (z : Sat). z.1) t.3) home in
@@ -272,7 +272,7 @@ module _ {key : Start} (m : Moment key) (id : ℕ) (me : Sat) (h : StandsThere m
   ]
     where
       low : (n : ℕ) → owns v n ≡ true → n < length v.owned
-      low n own = dite (dec_le (core m).locks n)
+      low n own = dite (dec_le m.ruled.core.locks n)
           (λ far. absurd (let z = sym (law.base.owners.beyond n far) ∙ mine.part.knows.owned.has n own in cc))
           (λ near. let same = mine.part.knows.owned.room in omega arith)
 

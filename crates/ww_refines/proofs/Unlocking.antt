@@ -245,7 +245,7 @@ module _ {key : Start} (moment : ℕ → Moment key) (move : ℕ → Option Step
   holders_go_on : HoldersGoOnThere moment → HoldersGoOn a.scene (λ i. step_of key (move i))
   holders_go_on there i s n taken none = let m = moment i in
       let owner = sym (ap (λ (c : State). c.owner n) (a.shown i).core) ∙ taken in
-      let low = is_seat m s (λ far. (m.ruled.strangers s far).bare n owner) in
+      let low = is_seat m s (λ far. (m.strangers s far).bare n owner) in
       let who : (j : ℕ) → (view (moment j) s).who ≡ s = (λ j. who_there (moment j) s low) in
       let waits : (view m s).waits ≡ 0 = dite (ℕ_discrete (view m s).waits 0) (λ is. is)
       (λ isnt. let l : ℕ = (view m s).waits - 1 in let h = stands_there m s low l (omega arith) in

@@ -1,13 +1,15 @@
 -- Whole runs.
-use Rattle.std.proofs.Common.{⊎_elim, inl, inr, ℕ, Bool, true≢false, Option, Some, None, refl, sym, ap, ◌∙◌, subst, arith}
+use Rattle.std.proofs.Common.{⊎_elim, inl, inr, ℕ, Bool, false, true≢false, Option, Some, None, refl, sym, ap, ◌∙◌, subst, arith}
+use Rattle.ww_model.specs.State.{State}
 use Rattle.ww_invariant.specs.declared.cells.Part.{Part}
 use Rattle.ww_invariant.specs.declared.cells.Start.{Start}
-use Rattle.ww_laws.specs.Scene.{Step, first_scene, next, begins, goes_on}
+use Rattle.ww_laws.specs.Scene.{acting, Scene, Step, first_scene, next, begins, goes_on}
+use Rattle.ww_laws.specs.Sleepers.{HasToWait}
 use Rattle.ww_laws.proofs.Keeping.{no_wake_is_lost}
 use Rattle.ww_refines.specs.Moment.{Moment, view}
 use Rattle.ww_refines.specs.Moves.{Follows}
 use Rattle.ww_refines.specs.Runs as runs
-use Rattle.ww_refines.specs.Runs.{IsPhase, IsSceneOf, ShowsScene, IsOfRun, StartIsStart, RunsShowScenes, NoWakeIsLostInRuns, GuardsAreHeldAwakeInRuns}
+use Rattle.ww_refines.specs.Runs.{IsPhase, IsSceneOf, ShowsScene, IsOfRun, StartIsStart, RunsShowScenes, HasToWaitThere, NoWakeIsLostInRuns, GuardsAreHeldAwakeInRuns}
 use Rattle.ww_refines.proofs.Following.{moves_are_steps, others_are_none, is_asleep, wakes_not, inside_acts}
 
 pub start_is_start : StartIsStart
@@ -52,6 +54,27 @@ run_shows _ (runs.goes_on n o x run follows) = shows_on n o x (run_shows n run) 
 pub runs_show_scenes : RunsShowScenes
 runs_show_scenes key m run = run_shows m run
 
+-- the seat has to wait by the moment, where it has to in a scene that the moment shows
+pub has_to_wait_there : {key : Start} (m : Moment key) (w : Scene) (s : ℕ) → IsSceneOf m w → HasToWait w s → HasToWaitThere m s
+has_to_wait_there m w s shown h = let by : State × (ℕ → Bool) → Type 0 = λ x. HasToWait (record {
+  core = x.0;
+  phase = λ _. acting;
+  token = λ _. false;
+  owes = λ _ _. false;
+  found_no_sign = λ _. false;
+  found_no_cancel = λ _. false;
+  heeds = x.1;
+}) s in subst by (λ i. (shown.core i, shown.heeds i)) (record {
+  lock = h.lock;
+  stands = h.stands;
+  outside = h.outside;
+  not_due = h.not_due;
+  unsigned = h.unsigned;
+  not_condemned = h.not_condemned;
+  needs_not_die = h.needs_not_die;
+  uncancelled = h.uncancelled;
+})
+
 pub no_wake_is_lost_in_runs : NoWakeIsLostInRuns
 no_wake_is_lost_in_runs key m run s low sleeps = let a = run_shows m run in let w = a.scene in let shown = a.shown in
     let asleep = is_asleep (w.phase s) (m.risen s) (view m s).naps
@@ -64,7 +87,7 @@ no_wake_is_lost_in_runs key m run s low sleeps = let a = run_shows m run in let 
       wakes_not (w.phase owed.0) (m.asleep owed.0) (m.risen owed.0) (view m owed.0).naps owed.2
           (shown.phase owed.0 h.waker),
     )) alerted))
-    (λ waits. inr (record { shows = a; waits = waits })) (no_wake_is_lost w a.reached s asleep)
+    (λ waits. inr (has_to_wait_there m w s shown waits)) (no_wake_is_lost w a.reached s asleep)
 
 pub guards_are_held_awake_in_runs : GuardsAreHeldAwakeInRuns
 guards_are_held_awake_in_runs key m run s low inside = let a = run_shows m run in

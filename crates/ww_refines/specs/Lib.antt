@@ -1,4 +1,5 @@
 pub mod Moment
+pub mod Tables
 pub mod Moves
 pub mod Runs
 pub mod Plays

@@ -1,35 +1,28 @@
--- Threads at a table, at one moment.
-use Rattle.std.specs.Prelude.{ℕ, ◌≡◌, ◌≢◌, ◌<◌, ◌+◌, ◌⊎◌, Bool, true, false}
-use mathlib.Core.Option.{some}
-use lib.ListN.{get_elem?}
+-- Threads and the locks that they share, at one moment.
+use Rattle.std.specs.Prelude.{ℕ, ◌≡◌, ◌≢◌, ◌<◌, ◌≤◌, ◌+◌, Bool, false}
 use Rattle.ww_model.specs.State.{State, start}
+use Rattle.ww_model.specs.Run.{Reached}
 use Rattle.ww_view.specs.declared.view.View.{View}
+use Rattle.ww_view.specs.View.{Knows}
 use Rattle.ww_invariant.specs.declared.cells.Part.{Part}
-use Rattle.ww_invariant.specs.declared.cells.Sight.{Sight}
 use Rattle.ww_invariant.specs.declared.cells.Start.{Start}
-use Rattle.ww_invariant.specs.Rule.{St, Ruled, first_part, wakes_owed}
+use Rattle.ww_invariant.specs.Rule.{IsStranger, first_part, wakes_owed}
 
--- a view of the table tells this: of the seat that steps by it, or of one that lies idle in it
-abbrev pub TellsPart : Sight → Part → Type 0
-TellsPart v p = (v.part ≡ p) ⊎ ((k : ℕ) × (get_elem? v.idle k ≡ some p))
-
--- some view of the table tells this of seat t
-pub record IsToldOf (s : St) (t : ℕ) (p : Part) : Type 0 where
-  pub place : ℕ
-  pub view : Sight
-  pub stands : get_elem? s.views place ≡ some view
-  pub seated : view.seated ≡ true
-  pub tells : TellsPart view p
+-- this part is that of seat t, which knows the locks by it
+pub record IsPartOf (c : State) (t : ℕ) (p : Part) : Type 0 where
   pub who : p.core.who ≡ t
+  pub knows : Knows c p.core
 
--- The table, by its rule, and what it tells of each seat. Beside it: for how many of the wakes that a seat owed each other
--- one it gave tokens; how often a seat rose from its sleep; whether it has a token, which ends its sleep; whether it
--- sleeps; and whether the call in which it last went to sleep heeds cancels.
+-- The locks, in a state to which events lead, and in which a number that no seat has does nothing; and what is known of each
+-- seat. Beside it: for how many of the wakes that a seat owed each other one it gave tokens; how often a seat rose from its
+-- sleep; whether it has a token, which ends its sleep; whether it sleeps; and whether the call in which it last went to sleep
+-- heeds cancels.
 pub record Moment (key : Start) : Type 0 where
-  pub table : St
-  pub ruled : Ruled key table
+  pub core : State
+  pub reached : Reached core
+  pub strangers : (t : ℕ) → key.seats ≤ t → IsStranger core t
   pub part : ℕ → Part
-  pub told : (t : ℕ) → t < key.seats → IsToldOf table t (part t)
+  pub told : (t : ℕ) → t < key.seats → IsPartOf core t (part t)
   pub rung : ℕ → ℕ → ℕ
   pub risen : ℕ → ℕ
   pub token : ℕ → Bool
@@ -37,9 +30,9 @@ pub record Moment (key : Start) : Type 0 where
   pub heeds : ℕ → Bool
 
 module _ {key : Start} (m : Moment key) where
-  -- the locks, as the table shows them
+  -- the locks
   abbrev pub core : State
-  core = m.ruled.core
+  core = m.core
 
   -- what seat t knows of them
   abbrev pub view : ℕ → View
@@ -66,7 +59,7 @@ module _ {key : Start} (m : Moment key) where
 
   -- nothing was done yet
   pub record IsFirstMoment : Type 0 where
-    pub core : m.ruled.core ≡ start key.kind key.locks key.places
+    pub core : m.core ≡ start key.kind key.locks key.places
     pub parts : (t : ℕ) → t < key.seats → m.part t ≡ first_part key.kind key.locks key.places t
     pub rung : m.rung ≡ (λ _ _. 0)
     pub risen : m.risen ≡ (λ _. 0)

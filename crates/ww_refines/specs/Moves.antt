@@ -1,5 +1,5 @@
 -- How one moment follows another.
-use Rattle.std.specs.Prelude.{ℕ, suc, ◌≡◌, ◌≢◌, ◌<◌, ◌≤◌, ◌+◌, ◌⊎◌, Bool, true, false, List, ◌∷◌, slice_index, Option, Some, None}
+use Rattle.std.specs.Prelude.{ℕ, suc, ◌≡◌, ◌≢◌, ◌<◌, ◌≤◌, ◌+◌, ◌⊎◌, Bool, true, false, List, ◌∷◌, Option, Some, None}
 use Rattle.ww_model.specs.declared.event.Event.{Event}
 use Rattle.ww_model.specs.declared.event.Event.TheVariants.{Unguard, Cancel}
 use Rattle.ww_model.specs.State.{put}
@@ -9,8 +9,7 @@ use Rattle.ww_view.specs.May.{MayLeave}
 use Rattle.ww_view.specs.Made.{view_after, found_none, has_read, found_uncancelled}
 use Rattle.ww_invariant.specs.declared.cells.Start.{Start}
 use Rattle.ww_laws.specs.Scene.{Step, performs, leaves_to_sleep, finds_no_sign, finds_no_cancel, wakes, falls_asleep, rises, woken_by}
-use Rattle.ww_invariant.specs.Layout.{owner_at}
-use Rattle.ww_invariant.specs.Rule.{St, wakes_owed}
+use Rattle.ww_invariant.specs.Rule.{wakes_owed}
 use Rattle.ww_refines.specs.Moment.{Moment, core, view, HasToWake, Acts, HasLeftToWait}
 
 -- the seats whose cancel a seat has set, after its event
@@ -26,9 +25,8 @@ pub record IsRead (v v' : View) : Type 0 where
   pub debts : v'.debts ≡ v.debts
   pub naps : v'.naps ≡ v.naps
 
--- A step that is no event: it changes what is noted in the view, but not where the seat is, whether it looks again,
--- whom it condemned or has to wake, or how often it left a guard as a waiter; nor has it found no sign, or no cancel,
--- by it.
+-- A step that is no event: it changes what is noted in the view, but not where the seat is, whether it looks again, whom it
+-- condemned or has to wake, or how often it left a guard as a waiter; nor has it found no sign, or no cancel, by it.
 pub record IsNoted (v v' : View) : Type 0 where
   pub inside : v'.inside ≡ v.inside
   pub later : v'.later ≡ v.later
@@ -37,12 +35,6 @@ pub record IsNoted (v v' : View) : Type 0 where
   pub naps : v'.naps ≡ v.naps
   pub fresh : v'.fresh ≡ true → v.fresh ≡ true
   pub uncancelled : v'.uncancelled ≡ true → v.uncancelled ≡ true
-
--- Of the locks' words a view notes nothing by a step at this table, or that of one lock, as it stands there.
-pub data NotesWhatStands (key : Start) (s : St) (v v' : View) : Type 0 where
-  nothing : v'.words_seen ≡ v.words_seen → NotesWhatStands key s v v'
-  word : (n : ℕ) → n < key.locks → v'.words_seen ≡ (n, slice_index s.words (owner_at key.locks n)) ∷ v.words_seen →
-      NotesWhatStands key s v v'
 
 module _ {key : Start} (m m' : Moment key) where
   -- ---- at the table
@@ -59,18 +51,16 @@ module _ {key : Start} (m m' : Moment key) where
   pub record StepsThere (t : ℕ) : Type 0 where
     pub acts : Acts m t
     pub stay : OthersStay t
-    pub notes : NotesWhatStands key m.table (view m t) (view m' t)
 
   -- the step is this event of the locks, and the seat knows of it what its view says then
   pub record MakesEvent (e : Event) : Type 0 where
     pub there : StepsThere (actor e)
     pub can : Possible (core m) e
-    pub core : m'.ruled.core ≡ after m.ruled.core e
-    pub view : (m'.part (actor e)).core ≡ view_after m.ruled.core e (m.part (actor e)).core
+    pub core : m'.core ≡ after m.core e
+    pub view : (m'.part (actor e)).core ≡ view_after m.core e (m.part (actor e)).core
     pub cancelled : (m'.part (actor e)).counts.cancelled ≡ cancelled_after e (m.part (actor e)).counts.cancelled
 
-  -- it isn't one by which a seat leaves a guard as a waiter, and whom the seat has to wake for it is a seat of the
-  -- table
+  -- it isn't one by which a seat leaves a guard as a waiter, and whom the seat has to wake for it is one of the seats
   pub record Performs (e : Event) : Type 0 where
     pub makes : MakesEvent e
     pub stays_up : (view m' (actor e)).naps ≡ (view m (actor e)).naps
@@ -88,7 +78,7 @@ module _ {key : Start} (m m' : Moment key) where
   -- the step is no event
   pub record Looks (t : ℕ) : Type 0 where
     pub there : StepsThere t
-    pub core : m'.ruled.core ≡ m.ruled.core
+    pub core : m'.core ≡ m.core
     pub cancelled : (m'.part t).counts.cancelled ≡ (m.part t).counts.cancelled
     pub heeds : m'.heeds ≡ m.heeds
 
@@ -115,8 +105,7 @@ module _ {key : Start} (m m' : Moment key) where
     pub rests : HasLeftToWait m t false
     pub outside : (view m t).inside ≡ 0
     pub stay : OthersStay t
-    pub notes : NotesWhatStands key m.table (view m t) (view m' t)
-    pub core : m'.ruled.core ≡ m.ruled.core
+    pub core : m'.core ≡ m.core
     pub cancelled : (m'.part t).counts.cancelled ≡ (m.part t).counts.cancelled
     pub heeds : m'.heeds ≡ m.heeds
     pub view : IsRead (view m t) (view m' t)
@@ -125,7 +114,7 @@ module _ {key : Start} (m m' : Moment key) where
 
   -- the table tells the same
   pub record StaysThere : Type 0 where
-    pub core : m'.ruled.core ≡ m.ruled.core
+    pub core : m'.core ≡ m.core
     pub parts : (u : ℕ) → u < key.seats → m'.part u ≡ m.part u
     pub heeds : m'.heeds ≡ m.heeds
 

@@ -7,13 +7,14 @@ use Rattle.ww_invariant.specs.declared.cells.Sight.{Sight}
 use Rattle.ww_invariant.specs.declared.cells.Start.{Start}
 use Rattle.ww_invariant.specs.Rule.{St, Sat}
 use Rattle.ww_laws.specs.Scene.{Step, performs, leaves_to_sleep}
-use Rattle.ww_refines.specs.Moment.{Moment, HasLeftToWait}
+use Rattle.ww_refines.specs.Moment.{HasLeftToWait}
+use Rattle.ww_refines.specs.Tables.{NotesWhatStands, TableMoment, moment_of}
 use Rattle.ww_refines.specs.Moves.{Reads}
 use Rattle.ww_refines.specs.Plays.{Plays}
 
 -- a play of a seat, of which the view was v and is v' then
 pub record IsPlayOf (key : Start) (v : View) (x : Option Step) (v' : View) : Type 0 where
-  pub moment : Moment key
+  pub moment : TableMoment key
   pub id : ℕ
   pub me : Sat
   pub here : get_elem? moment.table.views id ≡ some me.0
@@ -71,18 +72,19 @@ pub record NapsAreLast : Type 0 where
 -- ---- what it reads then
 
 -- the seat of this view left a guard as a waiter, is about to fall asleep, and outside the guards
-pub record IsDueOutside {key : Start} (m : Moment key) (v : View) : Type 0 where
-  pub rests : HasLeftToWait m v.who false
+pub record IsDueOutside {key : Start} (m : TableMoment key) (v : View) : Type 0 where
+  pub rests : HasLeftToWait (moment_of m) v.who false
   pub outside : v.inside ≡ 0
 
 -- a moment follows by a read of seat t, in which the table is this
-pub record ReadsOn {key : Start} (m : Moment key) (t : ℕ) (s : St) : Type 0 where
-  pub moment : Moment key
+pub record ReadsOn {key : Start} (m : TableMoment key) (t : ℕ) (s : St) : Type 0 where
+  pub moment : TableMoment key
   pub table : moment.table ≡ s
-  pub reads : Reads m moment t
+  pub reads : Reads (moment_of m) (moment_of moment) t
+  pub notes : NotesWhatStands key m.ruled.core (m.part t).core (moment.part t).core
 
 -- each play of such a seat that is no event is a read
 abbrev pub ReadsAreMoves : Type 0
-ReadsAreMoves = (key : Start) (m : Moment key) (id : ℕ) (me : Sat) (x : Option Step) (s : St) →
+ReadsAreMoves = (key : Start) (m : TableMoment key) (id : ℕ) (me : Sat) (x : Option Step) (s : St) →
     get_elem? m.table.views id ≡ some me.0 → me.0.seated ≡ true → IsDueOutside m me.0.part.core → is_event x ≡ false →
     Plays m id me x s → ReadsOn m me.0.part.core.who s

@@ -31,10 +31,11 @@ use Rattle.ww_invariant.specs.Waiting.{joining, taking_inside, giving_inside, as
 use Rattle.ww_invariant.specs.Signs.{condemning, clearing}
 use Rattle.ww_invariant.specs.Cancels.{cancelling, heeding, stopping}
 use Rattle.ww_laws.specs.Scene.{Step, performs, leaves_to_sleep, finds_no_sign, finds_no_cancel, wakes, falls_asleep, rises}
-use Rattle.ww_refines.specs.Moment.{Moment, core, Acts}
+use Rattle.ww_refines.specs.Moment.{Acts}
+use Rattle.ww_refines.specs.Tables.{NotesWhatStands, TableMoment, moment_of}
 use Rattle.ww_refines.specs.Moves.{StepsThere, Follows}
 
-module _ {key : Start} (m : Moment key) (id : ℕ) (me : Sat) where
+module _ {key : Start} (m : TableMoment key) (id : ℕ) (me : Sat) where
   abbrev pub own : View
   own = me.0.part.core
 
@@ -101,8 +102,8 @@ module _ {key : Start} (m : Moment key) (id : ℕ) (me : Sat) where
     -- into a guard, and out of it
     enters : (n : ℕ) → n < key.locks → MayEnter own n → word (guard_at key.locks n) ≡ 0 →
         Plays (Some (performs (Guard own.who n)))
-        (changed (guard_at key.locks n) (suc own.who) (entering me.0 n ((core m).queue n))
-        (takes (list_at n) (Line ((core m).queue n))))
+        (changed (guard_at key.locks n) (suc own.who) (entering me.0 n (m.ruled.core.queue n))
+        (takes (list_at n) (Line (m.ruled.core.queue n))))
     exits : (n : ℕ) → MayExit own n → own.waits ≡ 0 → me.1 ≡ (list_at n, Line own.list) ∷ rest me.1 →
         Plays (Some (performs (Unguard own.who n))) (changed (guard_at key.locks n) 0 (exiting me.0) gives)
     exits_to_sleep : (n : ℕ) (heeds : Bool) → MayLeave own n → own.waits ≡ suc n →
@@ -186,15 +187,16 @@ IsBy d (Some (rises s)) = ⊥
 IsBy d None = Unit {0}
 
 -- a moment follows by that step of seat d, in which the table is this
-pub record Moved {key : Start} (m : Moment key) (d : ℕ) (x : Option Step) (s : St) : Type 0 where
-  pub moment : Moment key
+pub record Moved {key : Start} (m : TableMoment key) (d : ℕ) (x : Option Step) (s : St) : Type 0 where
+  pub moment : TableMoment key
   pub table : moment.table ≡ s
-  pub there : StepsThere m moment d
+  pub there : StepsThere (moment_of m) (moment_of moment) d
   pub by : IsBy d x
-  pub follows : Follows m moment x
+  pub notes : NotesWhatStands key m.ruled.core (m.part d).core (moment.part d).core
+  pub follows : Follows (moment_of m) (moment_of moment) x
 
 -- each play of a seat that acts is a move of that seat
 abbrev pub PlaysAreMoves : Type 0
-PlaysAreMoves = (key : Start) (m : Moment key) (id : ℕ) (me : Sat) (x : Option Step) (s : St) →
-    get_elem? m.table.views id ≡ some me.0 → me.0.seated ≡ true → Acts m me.0.part.core.who →
+PlaysAreMoves = (key : Start) (m : TableMoment key) (id : ℕ) (me : Sat) (x : Option Step) (s : St) →
+    get_elem? m.table.views id ≡ some me.0 → me.0.seated ≡ true → Acts (moment_of m) me.0.part.core.who →
     Plays m id me x s → Moved m me.0.part.core.who x s

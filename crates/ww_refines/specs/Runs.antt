@@ -7,6 +7,7 @@ use Rattle.ww_invariant.specs.Rule.{St, Ruled, first_sight, wakes_owed}
 use Rattle.ww_laws.specs.Scene.{Phase, acting, going_to_sleep, asleep, Scene, Step, first_scene, May, next, IsReached}
 use Rattle.ww_laws.specs.Sleepers.{HasToWait}
 use Rattle.ww_refines.specs.Moment.{Moment, view, HasToWake, Acts, IsFirstMoment}
+use Rattle.ww_refines.specs.Tables.{TableMoment, moment_of}
 use Rattle.ww_refines.specs.Moves.{Follows}
 
 -- ---- the scene that a moment shows
@@ -22,7 +23,7 @@ IsPhase asleep sleeps risen naps = (sleeps ≡ true) × (risen + 1 ≡ naps)
 -- or that it has found no cancel, it has. No seat gave more tokens than it owes wakes; and inside a guard it has yet
 -- to wake those whom it condemned there.
 pub record IsSceneOf {key : Start} (m : Moment key) (w : Scene) : Type 0 where
-  pub core : w.core ≡ m.ruled.core
+  pub core : w.core ≡ m.core
   pub token : w.token ≡ m.token
   pub heeds : w.heeds ≡ m.heeds
   pub phase : (t : ℕ) → t < key.seats → IsPhase (w.phase t) (m.asleep t) (m.risen t) (view m t).naps
@@ -45,9 +46,9 @@ pub record ShowsScene {key : Start} (m : Moment key) : Type 0 where
 
 -- the table is that of a moment at which nothing was done yet
 pub record Begins (key : Start) (s : St) : Type 0 where
-  pub moment : Moment key
+  pub moment : TableMoment key
   pub table : moment.table ≡ s
-  pub first : IsFirstMoment moment
+  pub first : IsFirstMoment (moment_of moment)
 
 -- and a table made just now is
 abbrev pub NewTablesBegin : Type 0
@@ -89,10 +90,17 @@ RunsShowScenes = (key : Start) (m : Moment key) → IsOfRun m → ShowsScene m
 abbrev pub IsAlertedThere : {key : Start} → Moment key → ℕ → Type 0
 IsAlertedThere m s = (m.token s ≡ true) ⊎ ((t : ℕ) × HasToWake m t s × (m.asleep t ≡ false))
 
--- the seat has to wait, in a scene that the moment shows
-pub record HasToWaitThere {key : Start} (m : Moment key) (s : ℕ) : Type 0 where
-  pub shows : ShowsScene m
-  pub waits : HasToWait shows.scene s
+-- The seat has to wait, by the locks and by whether its call heeds cancels: that asks nothing else of a scene.
+abbrev pub HasToWaitThere : {key : Start} → Moment key → ℕ → Type 0
+HasToWaitThere m s = HasToWait (record {
+  core = m.core;
+  phase = λ _. acting;
+  token = λ _. false;
+  owes = λ _ _. false;
+  found_no_sign = λ _. false;
+  found_no_cancel = λ _. false;
+  heeds = m.heeds;
+}) s
 
 -- each seat that sleeps in a run, and neither was woken nor is about to be, has to wait
 abbrev pub NoWakeIsLostInRuns : Type 0

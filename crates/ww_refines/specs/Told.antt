@@ -31,7 +31,7 @@ use Rattle.ww_invariant.specs.Waiting.{tries_to, joins, takes_inside, takes_bare
 use Rattle.ww_invariant.specs.Signs.{signs_to, reads_to, clears_to}
 use Rattle.ww_invariant.specs.Cancels.{cancels_to, heeds_to, leaves_to}
 use Rattle.ww_laws.specs.Scene.{Step, performs, leaves_to_sleep, finds_no_sign, finds_no_cancel}
-use Rattle.ww_refines.specs.Moment.{Moment}
+use Rattle.ww_refines.specs.Tables.{TableMoment}
 use Rattle.ww_refines.specs.Plays.{Plays, word}
 
 -- no slot of these has this number
@@ -44,7 +44,7 @@ abbrev pub AreOut : List (maybe.Option Cell) → List (ℕ × Cell) → Type 0
 AreOut homes [] = Unit {0}
 AreOut homes (x ∷ xs) = (get_elem? homes x.0 ≡ some none) × IsNoneOf x.0 xs × AreOut homes xs
 
-module _ {key : Start} (m : Moment key) (id : ℕ) (me : Sat) where
+module _ {key : Start} (m : TableMoment key) (id : ℕ) (me : Sat) where
   -- what the seat knows
   abbrev pub mine : View
   mine = me.0.part.core
@@ -170,11 +170,11 @@ module _ {key : Start} (m : Moment key) (id : ℕ) (me : Sat) where
         (performs (Leave mine.who n)) leaves_to
 
 -- each step of a seat
-pub record AllSteps {key : Start} (m : Moment key) (id : ℕ) (me : Sat) : Type 0 where
+pub record AllSteps {key : Start} (m : TableMoment key) (id : ℕ) (me : Sat) : Type 0 where
   pub outside : OutsideSteps m id me
   pub guards : GuardSteps m id me
   pub words : (n : ℕ) (o : Owner) → IsValid o → WordSteps m id me n o
 
 -- ... is a play
 abbrev pub StepsArePlays : Type 0
-StepsArePlays = (key : Start) (m : Moment key) (id : ℕ) (me : Sat) → StandsThere m id me → AllSteps m id me
+StepsArePlays = (key : Start) (m : TableMoment key) (id : ℕ) (me : Sat) → StandsThere m id me → AllSteps m id me
