@@ -176,10 +176,24 @@ bool ww_is_gone(const struct ww_pool *p, const struct ww_mutex *m, uint32_t puts
 static bool has_gone(const struct ww_acquire_ctx *x, const struct ww_mutex *m) { return ww_is_gone(x->own->pool, m, x->puts); }
 
 /*
+ * Takes note that the context has waited for the mutex, and has it, or only visits it. A mutex for which the body of the loop can't ask
+ * is released at once: a reader slot (shared.c), or a mutex whose number was put back during the wait.
+ */
+static void note_waited(struct ww_acquire_ctx *x, struct ww_mutex *m, bool visits)
+{
+	if (!visits && !has_gone(x, m)) {
+		x->prelocked = m;
+		ww_become(x, TRIES, IS_PRELOCKED);
+	} else {
+		(void)(visits ? unlock_by(m, x->own) : release_newest(x));
+		ww_become(x, TRIES | IS_PRELOCKED, 0);
+	}
+}
+
+/*
  * Waits for the mutex at which the context got -EDEADLK, before the loop's lock call does anything else, unless the mutex's number
  * was put back, and so may be another mutex's by now. The context counts as a waiter before it asks that, so from then on the number
- * stays with its mutex. A mutex for which the body of the loop can't ask is released at once: a reader slot (shared.c), or a mutex
- * whose number was put back during the wait.
+ * stays with its mutex.
  */
 static int wait_first(struct ww_acquire_ctx *x, struct ww_how how)
 {
@@ -192,16 +206,8 @@ static int wait_first(struct ww_acquire_ctx *x, struct ww_how how)
 		__atomic_fetch_add(&m->waiters, 1, __ATOMIC_SEQ_CST);
 	if (has_gone(x, m))
 		ww_become(x, TRIES, 0);
-	else if (!(r = ww_lock_by(m, x, &how))) {
-		bool was_put_back = has_gone(x, m);
-
-		x->prelocked = m;
-		ww_become(x, TRIES, how.visits || was_put_back ? 0 : IS_PRELOCKED);
-		if (how.visits)
-			(void)unlock_by(m, x->own);
-		else if (was_put_back)
-			(void)ww_unlock_of(m, x);
-	}
+	else if (!(r = ww_lock_by(m, x, &how)))
+		note_waited(x, m, how.visits);
 	if (counts)
 		__atomic_fetch_sub(&m->waiters, 1, __ATOMIC_SEQ_CST);
 	return r;

@@ -2,8 +2,10 @@
  * loop.h - contexts in loops: the list of what they acquired, and what releases all of it.
  *
  * source: lock/loop.c
- * proves: ww_become unlist release_newest release_newest_first unlocks_no_more ww_acquire_unlock_all ww_back_off_ ww_accept_held ww_result_in_loop
+ * proves: ww_become unlist release_newest release_newest_first unlocks_no_more ww_acquire_unlock_all ww_back_off_ ww_accept_held
+ *	ww_result_in_loop ww_is_gone note_waited wait_first
  * inlines: is_orphaned_by_fork is_loop owes_it enlist unlock_unlisted ww_is_contended is_polled holds_slot holder_of note_used
+ *	is_slot is_of_number puts_of
  */
 #include "mutex.h"
 
@@ -48,11 +50,12 @@
 	ensures others: GONE(x) || core_has == 0 || \old(core_has) == core_has; \
 	ensures seat: x->own == \old(x->own) && x->own->pool == \old(x->own->pool)
 /* Of the newest, whichever that is. */
-/*@ requires is_user_of(x) && has_members(x) && x->newest != \null;
+/*@ requires is_user_of(x) && x->newest != \null && apart(x->newest, x, x->own);
     assigns x->newest, x->acquired, x->newest->ctx, OF_SEAT(x->own), CORE;
     ensures newest: x->newest == \old(x->newest->older);
     ensures says: \old(x->newest)->ctx == \null;
-    ensures older: older_stays{Old, Here};
+    ensures older: \old(has_members(x)) ==> older_stays{Old, Here};
+    ensures user: is_user_of(x);
     ensures counts: x->acquired == (unsigned)(\old(x->acquired) - 1);
     ensures released: \result == 0 ==> GONE(x) || (less_held{Old, Here}(\old(x->newest->number)) && rests);
     ensures kept: \result != 0 ==> same{Old, Here};
@@ -108,3 +111,34 @@ void ww_acquire_unlock_all(struct ww_acquire_ctx *x);
     ensures state: becomes{Old, Here}(x, (unsigned)~(HAS_TO_BACK_OFF | IS_PRELOCKED), WAITS_FIRST);
     ensures owes: (x->state & IS_PRELOCKED) == 0; */
 void ww_back_off_(struct ww_acquire_ctx *x);
+
+/* ---- the wait with which a lock call in a loop may begin: by a context that holds nothing, for the mutex that has the_lock ---- */
+
+/*@ requires \valid_read(p) && \valid_read(m); assigns \nothing; */
+bool ww_is_gone(const struct ww_pool *p, const struct ww_mutex *m, uint32_t puts);
+/* The context doesn't wait for it any more, and either owes, has and lists it, or doesn't have it. */
+#define HAS_FIRST(came, x, m) \
+	ensures owes: came && (x->state & IS_PRELOCKED) != 0 ==> x->prelocked == m; \
+	ensures lists: came && (x->state & IS_PRELOCKED) != 0 ==> x->newest == m && m->older == \null; \
+	ensures has: came && (x->state & IS_PRELOCKED) != 0 ==> core_has == 1; \
+	ensures released: came && (x->state & IS_PRELOCKED) == 0 ==> core_has == 0 || GONE(x); \
+	ensures eased: came ==> (x->state & WAITS_FIRST) == 0 && (x->state & HAS_TO_BACK_OFF) == 0
+/*@ requires user: is_user_of(x);
+    requires loops: loops(x);
+    requires rests: rests || GONE(x);
+    requires mutex: is_mutex(m) && m != \null;
+    requires apart: apart(m, x, x->own);
+    requires has: core_has == 1;
+    requires listed: !visits ==> x->newest == m && m->older == \null;
+    assigns x->state, x->pool, x->prelocked, x->newest, x->acquired, m->ctx, OF_SEAT(x->own), CORE;
+    HAS_FIRST(\true, x, m);
+    ensures empty: !visits && (x->state & IS_PRELOCKED) == 0 ==> x->newest == \null; */
+static void note_waited(struct ww_acquire_ctx *x, struct ww_mutex *m, bool visits);
+/*@ predicate waits_for(struct ww_acquire_ctx *x, struct ww_mutex *c) = x->newest == \null && core_holds == 0 && core_has == 0 && is_mutex(c) &&
+	c != \null && apart(c, x, x->own) && (x->state & IS_PRELOCKED) == 0; */
+/*@ requires is_user_of(x) && loops(x) && rests && waits_for(x, x->contending_lock) && how.asks == \null;
+    assigns OF_LOCK(x->contending_lock, x, x->own), x->pool, x->prelocked;
+    HAS_FIRST(\result == 0, x, \old(x->contending_lock));
+    ensures fails: \result != 0 ==> same_held{Old, Here} && x->newest == \null;
+    ensures never_told: \result != -EDEADLK; */
+static int wait_first(struct ww_acquire_ctx *x, struct ww_how how);

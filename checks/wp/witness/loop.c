@@ -53,3 +53,29 @@ void witness_release(void) { w_loops(0); /*@ check never: \false; */ release_new
 void witness_unlock_all(void) { w_loops(0); w_context.acquired = 1; /*@ assert has_is_whole: is_whole(&w_context); */ /*@ assert has_has_slot: has_slot(&w_seat, &w_context); */ /*@ check never: \false; */ ww_acquire_unlock_all(&w_context); }
 /*@ requires ONE_MEMBER; */
 void witness_back_off(void) { w_loops(HAS_TO_BACK_OFF); /*@ assert bit: (w_context.state & HAS_TO_BACK_OFF) != 0; */ /*@ check never: \false; */ ww_back_off_(&w_context); }
+/* A context that holds nothing, and waits for the mutex first; and one that has just waited. */
+static void w_waits_for(unsigned state, struct ww_mutex *newest, int has)
+{
+	w_loops(0);
+	w_how_is();
+	w_context.state = state;
+	w_context.newest = newest;
+	w_context.contending_lock = &w_mutex;
+	w_core(NO_CALL, has, has, 0);
+}
+/*@ requires (state & WAITS_FIRST) != 0 && (state & IS_PRELOCKED) == 0; */
+void witness_wait_first(unsigned state)
+{
+	w_waits_for(state, NULL, 0);
+	/*@ assert has_waits_for: waits_for(&w_context, &w_mutex); */
+	/*@ check never: \false; */
+	wait_first(&w_context, w_how);
+}
+/*@ requires (state & WAITS_FIRST) != 0 && (state & IS_PRELOCKED) == 0; */
+void witness_note_waited(unsigned state)
+{
+	w_waits_for(state, &w_mutex, 1);
+	/*@ check never: \false; */
+	note_waited(&w_context, &w_mutex, false);
+}
+void witness_is_gone(void) { w_loops(0); /*@ check never: \false; */ ww_is_gone(&w_pool, &w_mutex, 0); }
