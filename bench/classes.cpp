@@ -291,8 +291,6 @@ int main(int count, char **words)
 		ww_shared_mutex_init(&shared[k], &objects);
 		must(!ww_number_take(&numbers[k], &objects));
 	}
-	must(!ww_table_open(&keys, &objects, 0));
-	fill_table(unsigned(std::atoi(words[1])) / 4);
 	for (int times = std::atoi(words[2]); times--;) {
 		all_ways<locked, locked_until, tried, polled, numbered, numbered_tried, read, read_tried, read_polled, written, written_tried,
 			 written_polled>();
@@ -311,6 +309,9 @@ int main(int count, char **words)
 		call_poll_and_end();
 		call_suspend();
 		call_why();
-		call_table();
 	}
+	must(!ww_table_open(&keys, &objects, 0));
+	fill_table(unsigned(std::atoi(words[1])) / 4);
+	for (int times = std::atoi(words[2]); times--;)
+		call_table();
 }
