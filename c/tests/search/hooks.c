@@ -24,7 +24,8 @@ static struct cell {
 	uint8_t by, how; /* which threads did, and how, in any run */
 	uint16_t last[ACCESSES][WIDE];
 } cells[sizeof il.memory + DATA];
-static uint64_t gone[sizeof cells / sizeof *cells / 64]; /* of each byte whether it is gone */
+/* Sets of bytes: those that are gone, and those that somebody accessed in any run. */
+static uint64_t gone[sizeof cells / sizeof *cells / 64], touched[sizeof gone / sizeof *gone];
 
 /* ---- what depends on what: hashes for runs that are alike, clocks for races ---- */
 
@@ -137,6 +138,7 @@ static void is_met(struct cell *c, enum access access)
 		return;
 	c->by |= (uint8_t)(1u << il.current);
 	c->how |= (uint8_t)(1u << access);
+	touched[(size_t)(c - cells) / 64] |= (uint64_t)1 << (c - cells) % 64;
 	if (may_race(c))
 		il_grows();
 }
@@ -213,7 +215,11 @@ static struct ranks {
 } ranks[ALL];
 static uint16_t least[WIDE]; /* of which all others have heard */
 
-void il_forget_cells(void) { memset(cells, 0, sizeof cells); }
+void il_forget_cells(void)
+{
+	memset(cells, 0, sizeof cells);
+	memset(touched, 0, sizeof touched);
+}
 
 bool il_begin_clocks(void)
 {
@@ -319,15 +325,19 @@ void il_forget_gone(void)
 /* Whoever touches a byte later finds that it is gone; so a byte that nobody touched in any run needs no look. */
 void il_gone(void *at, size_t size)
 {
-	size_t from = (size_t)(cell_at((uintptr_t)at) - cells);
+	size_t from = (size_t)(cell_at((uintptr_t)at) - cells), to = from + size;
 
 	il_commit(me());
-	for (size_t k = from; k < from + size && il.running; k++) {
-		if (cells[k].by || is_gone(&cells[k]))
-			check_one(cell_of((uintptr_t)at + k - from), WRITES, PC);
-		if (k == from || k % 64 == 0)
-			il_keep(&gone[k / 64]);
-		gone[k / 64] |= (uint64_t)1 << k % 64;
+	for (size_t k = from, next; k < to && il.running; k = next) {
+		uint64_t *word = &gone[k / 64], these = UINT64_MAX << k % 64;
+
+		next = k / 64 * 64 + 64;
+		if (next > to)
+			these &= UINT64_MAX >> (next - to);
+		for (uint64_t met = these & (*word | touched[k / 64]); met; met &= met - 1)
+			check_one(cell_of((uintptr_t)at + next - 64 + (unsigned)__builtin_ctzll(met) - from), WRITES, PC);
+		il_keep(word);
+		*word |= these;
 	}
 	if (il.running)
 		il.gone += mix(mix((uintptr_t)at, size), 13);

@@ -160,13 +160,16 @@ void il_let_time_pass(long long to)
 }
 
 /*
- * Goes on where a thread stopped: what a call has to keep is on the stacks.  swapcontext would ask the system each time which
- * signals are blocked.
+ * Goes on where a thread stopped: what a call has to keep is on the stacks, and all other registers are 0, since what the last
+ * thread or the explorer left in them would be part of a state.  swapcontext would ask the system each time which signals are blocked.
  */
 __asm__(".text\n.globl il_switch\nil_switch:\n"
 	"	push %rbp\n	push %rbx\n	push %r12\n	push %r13\n	push %r14\n	push %r15\n"
 	"	movq %rsp, (%rdi)\n	movq %rsi, %rsp\n"
-	"	pop %r15\n	pop %r14\n	pop %r13\n	pop %r12\n	pop %rbx\n	pop %rbp\n	ret\n");
+	"	pop %r15\n	pop %r14\n	pop %r13\n	pop %r12\n	pop %rbx\n	pop %rbp\n"
+	"	xorl %ecx, %ecx\n	xorl %edx, %edx\n	xorl %esi, %esi\n	xorl %edi, %edi\n"
+	"	xorl %r8d, %r8d\n	xorl %r9d, %r9d\n	xorl %r10d, %r10d\n	xorl %r11d, %r11d\n"
+	"	pxor %xmm0, %xmm0\n	pxor %xmm1, %xmm1\n	pxor %xmm2, %xmm2\n	ret\n");
 
 /* A stack on which a thread stopped before it began: above what il_switch pops stands where it returns to. */
 static void *new_stack(unsigned thread, void (*begins)(void))
@@ -360,12 +363,7 @@ bool il_is_shared(const struct object *o)
 	return false;
 }
 
-void il_grows(void)
-{
-	il.grown |= il.whole;
-	if (il.whole && !il.replay && !il.drawing)
-		leave();
-}
+void il_grows(void) { il.grown |= il.whole; }
 
 void il_note(struct object *o, bool writes)
 {

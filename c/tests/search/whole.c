@@ -3,8 +3,9 @@
  *
  * At each choice the whole state is hashed.  A state that was met before isn't gone on from, since all that can follow
  * it was tried, or will be.  Of a new one each option is tried in turn, the first one at once, and each further one
- * from a copy of the state.  (Copies stand in place of replays from the beginning: a state has some 40 KB, at addresses
- * that stay, so to copy one back takes 1 us, and a replay 50.)
+ * from a copy of the state.  (Copies stand in place of replays from the beginning, which take 50 us.  A state has some 40 KB, at
+ * addresses that stay; a copy has only threads and their stacks, since the rest is kept as it was hashed last, and each block
+ * that changes is noted as it was.)
  *
  * Two equal states are two equal futures, since what comes next depends on nothing but what is hashed:
  *
@@ -52,7 +53,7 @@
 #include <sys/mman.h>
 #include <sys/time.h>
 
-enum { FEW_STATES = 1 << 16, MOST_STATES = 1 << 24, MOST_EDGES = 1 << 27, MOST_LOGGED = 1 << 24 };
+enum { FEW_STATES = 1 << 16, MOST_STATES = 1 << 24, MOST_EDGES = 1 << 27, MOST_LOGGED = 1 << 24, MOST_CHANGES = 1 << 22 };
 enum { DRAWN = 1000, MOST_DRAWN = 20000 }; /* until so many show nothing new */
 static const size_t MOST_COPIED = (size_t)2 << 30;
 
@@ -109,26 +110,42 @@ static void add_all(struct key *key, const void *from, size_t size)
 	add(key, second.half[0], second.half[1]);
 }
 
-/* What is alike in most states that follow one another: only a block that has changed is hashed anew. */
+/* What is alike in most states that follow one another: only a block that has changed is hashed anew, and is noted as it was. */
 enum { BLOCK = 512, REGIONS = 3 };
 static struct region {
 	char *last;
 	struct key *blocks, sum;
 } regions[REGIONS];
+static struct change {
+	struct region *in;
+	size_t block;
+	struct key key;
+	char was[BLOCK];
+} *changes;
+static size_t change_count;
+
+static void set_block(struct region *r, size_t block, struct key key, const char *is, size_t size)
+{
+	for (unsigned k = 0; k < 2; k++)
+		r->sum.half[k] += key.half[k] - r->blocks[block].half[k];
+	r->blocks[block] = key;
+	memcpy(r->last + block * BLOCK, is, size);
+}
 
 static void add_region(struct key *key, struct region *r, const char *from, size_t size)
 {
-	for (size_t at = 0; at < size; at += BLOCK) {
+	for (size_t at = 0, block = 0; at < size; at += BLOCK, block++) {
 		size_t many = size - at < BLOCK ? size - at : BLOCK;
-		struct key *block = &r->blocks[at / BLOCK], is = { { at, ~at } };
+		struct key was = r->blocks[block], is = { { at, ~at } };
+		struct change *change = &changes[change_count];
 
-		if (!memcmp(r->last + at, from + at, many) && (block->half[0] || block->half[1]))
+		if (!memcmp(r->last + at, from + at, many) && (was.half[0] || was.half[1]))
 			continue;
-		memcpy(r->last + at, from + at, many);
+		change_count++;
+		*change = (struct change){ .in = r, .block = block, .key = was };
+		memcpy(change->was, r->last + at, BLOCK);
 		add_all(&is, from + at, many);
-		for (unsigned k = 0; k < 2; k++)
-			r->sum.half[k] += is.half[k] - block->half[k];
-		*block = is;
+		set_block(r, block, is, from + at, many);
 	}
 	add(key, r->sum.half[0], r->sum.half[1]);
 }
@@ -251,7 +268,7 @@ void il_keep(void *word)
 static struct node {
 	struct option options[4 * ALL];
 	uint32_t number, point;
-	size_t copy, logged_count, used;
+	size_t copy, logged_count, change_count, used;
 	unsigned current;
 	long long now, asked;
 	uint64_t gone;
@@ -266,12 +283,9 @@ static char *copy_part(char *at, void *part, size_t size, bool back)
 }
 
 /* The stack of each thread that goes on, or chooses who does. */
-static char *copy_all(char *at, bool back)
+static char *copy_threads(char *at, bool back)
 {
 	at = copy_part(at, &il.threads[1], il.count * sizeof *il.threads, back);
-	at = copy_part(at, il.memory, il.used, back);
-	at = copy_part(at, __start_il_data, data_size(), back);
-	at = copy_part(at, __start_il_ghost, ghost_size(), back);
 	for (unsigned t = 1; t <= il.count; t++) {
 		char *stack = il.threads[t].stack;
 
@@ -281,23 +295,33 @@ static char *copy_all(char *at, bool back)
 	return at;
 }
 
+/* The rest of the state is as it was hashed last. */
 static void save(struct node *n)
 {
 	n->point = il.point;
 	n->copy = copied;
 	n->logged_count = logged_count;
+	n->change_count = change_count;
 	n->used = il.used;
 	n->current = il.current;
 	n->now = il.now;
 	n->asked = il.asked;
 	n->gone = il.gone;
-	copied = (size_t)(copy_all(copies + copied, false) - copies);
+	copied = (size_t)(copy_threads(copies + copied, false) - copies);
 }
 
 static void restore(const struct node *n)
 {
 	for (; logged_count > n->logged_count; logged_count--)
 		*logged[logged_count - 1].at = logged[logged_count - 1].was;
+	for (; change_count > n->change_count; change_count--) {
+		const struct change *it = &changes[change_count - 1];
+
+		set_block(it->in, it->block, it->key, it->was, BLOCK);
+	}
+	memcpy(il.memory, regions[0].last, n->used);
+	memcpy(__start_il_data, regions[1].last, data_size());
+	memcpy(__start_il_ghost, regions[2].last, ghost_size());
 	if (il.used > n->used)
 		memset(il.memory + n->used, 0, il.used - n->used);
 	il.point = n->point;
@@ -307,7 +331,7 @@ static void restore(const struct node *n)
 	il.asked = n->asked;
 	il.gone = n->gone;
 	il.from = NULL;
-	copy_all(copies + n->copy, true);
+	copy_threads(copies + n->copy, true);
 	il_entry = &me()->entry;
 	memcpy(il.own, me()->own, il.own_size);
 	il.running = true;
@@ -375,7 +399,7 @@ static void come_to(uint32_t number)
 	};
 	if (il.depth == DEPTH)
 		stopped = "too deep";
-	if (copied > MOST_COPIED)
+	if (copied > MOST_COPIED || change_count > MOST_CHANGES - 4 * ARENA / BLOCK)
 		stopped = "too much memory for copies";
 	if (number == MOST_STATES - 1)
 		stopped = "too many states";
@@ -430,7 +454,7 @@ static void begin_run(void)
 {
 	if (!_setjmp(il.explorer))
 		il_begin_run();
-	copied = logged_count = il.depth = 0;
+	copied = logged_count = change_count = il.depth = 0;
 	il.runs++;
 }
 
@@ -443,8 +467,12 @@ static void watch(double until)
 		stopped = "too long";
 }
 
-static void try_states(double until)
+/* Whether more was seen than was known, so that all begins anew.  Mostly still more is seen soon behind it: it is taken along. */
+static bool try_states(double until)
 {
+	bool grew = false;
+	uint32_t most = MOST_STATES;
+
 	il_begin_pass();
 	if (!il_begin_clocks())
 		stopped = "too many words of which several threads know";
@@ -455,12 +483,18 @@ static void try_states(double until)
 		do
 			go_on();
 		while (asked.is && meets());
-		if (!asked.is && !il.failed && !il.grown)
+		if (!asked.is && !il.failed)
 			end_run();
 		watch(until);
-		if (stopped || il.grown || il.failed || !go_back())
-			return;
+		if (il.grown) {
+			most = states.count + states.count / 16;
+			grew = true;
+			il.grown = false;
+		}
+		if (states.count > most || il.failed || stopped || !go_back())
+			break;
 	}
+	return grew;
 }
 
 /*
@@ -526,6 +560,7 @@ static void allocate(void)
 	nodes = pages(DEPTH * sizeof *nodes);
 	copies = pages(MOST_COPIED + sizeof il.memory);
 	logged = pages(MOST_LOGGED * sizeof *logged);
+	changes = pages(MOST_CHANGES * sizeof *changes);
 	edges = pages(MOST_EDGES * sizeof *edges);
 	states.end = pages(MOST_STATES);
 	for (struct region *r = regions; r < regions + REGIONS; r++) {
@@ -551,7 +586,7 @@ struct whole il_try_whole(double seconds)
 		watch(until);
 	}
 	il.drawing = false;
-	while (!il.failed && !stopped && (try_states(until), il.grown))
+	while (!il.failed && !stopped && try_states(until))
 		;
 	if (!il.failed && !stopped)
 		look_for_ends();
