@@ -32,19 +32,16 @@ QUICK := budget c_names documents edits gate layers limits names packages protot
 SOURCES := format refuse_abuses scene try_cases try_using
 PROVED := prove generated_ww_c generated_ww_run by_rattle aarch64_program growths_of_tests
 WP := $(shell checks/check_wp --units) eva
-KILLS := 1 2 3
-OF_KILLS := $(KILLS:%=kills_%)
-OF_C := c_tests c_threads rust $(WP:%=wp_%) wp_text wp_faults dist aarch64 c_compilers c_pages c_installed gdb simulated kernel instructions make
+OF_C := kills c_tests c_threads rust $(WP:%=wp_%) wp_text wp_faults dist aarch64 c_compilers c_pages c_installed gdb simulated kernel instructions make
 OF_PROGRAM := soak refuse_growths tools run large parks program_fails
-.PHONY: all quick sources proofs library program kills list made_library made_program $(QUICK) $(SOURCES) $(PROVED) $(OF_C) $(OF_KILLS) $(OF_PROGRAM)
+.PHONY: all quick sources proofs library program list made_library made_program $(QUICK) $(SOURCES) $(PROVED) $(OF_C) $(OF_PROGRAM)
 
 # The longest come first. All wait for what some need, since make would begin the others before these, and the longest last.
 all: quick proofs library sources program
 quick: $(QUICK)
-library: $(OF_C) $(OF_KILLS)
+library: $(OF_C)
 program: $(OF_PROGRAM)
-kills: $(OF_KILLS)
-$(OF_C) $(OF_KILLS) $(OF_PROGRAM): | quick made_library made_program
+$(OF_C) $(OF_PROGRAM): | quick made_library made_program
 proofs: $(if $(filter yes,$(PROOFS)),$(PROVED))
 READS_format := checks/check_format
 READS_refuse_abuses := checks/refuse_abuses checks/abuses.blocks
@@ -53,7 +50,7 @@ READS_try_cases := checks/try_cases program/cases program/examples
 READS_try_using := checks/try_using docs/RATTLE.md
 sources: $(call asked,$(SOURCES))
 list:
-	@printf '%s\n' $(QUICK) $(call asked,$(SOURCES)) $(if $(filter yes,$(PROOFS)),$(PROVED)) made_library made_program $(OF_C) $(OF_KILLS) $(OF_PROGRAM)
+	@printf '%s\n' $(QUICK) $(call asked,$(SOURCES)) $(if $(filter yes,$(PROOFS)),$(PROVED)) made_library made_program $(OF_C) $(OF_PROGRAM)
 
 edits:                          ; $(call check,20) checks/check_edits $(BASE)
 $(filter-out edits,$(QUICK)):   ; $(call check,20) checks/check_$@
@@ -75,11 +72,12 @@ c_threads:                      ; $(call made,120) $(MAKE) -s -k -C c OUT=out/ga
 c_compilers c_pages:            ; $(call check,60) checks/check_$@
 c_installed:                    ; $(call check,60) checks/check_$@
 gdb:                            ; $(call check,30) checks/check_$@ $(OF_MAKE)
-$(OF_KILLS): kills_%:           ; $(call check,90) c/tests/search/kills -p $*/$(words $(KILLS)) $(if $(WHOLE),,--most 30 $(BASE:%=--changed %))
+# By itself, in three copies: what they are built of is built once.
+kills:                          ; $(call check,90) c/tests/search/kills -j 3 $(if $(WHOLE),,--most 30 $(BASE:%=--changed %))
 simulated:                      ; $(call check,60) checks/check_simulated
 kernel:                         ; $(call check,60) checks/check_kernel $(ARCHIVE)
-instructions:                   ; $(call check,60) checks/check_instructions $(ARCHIVE)
-rust:                           ; $(call check,60) checks/check_rust $(ARCHIVE)
+instructions:                   ; $(call check,60) checks/check_instructions $(OF_MAKE)
+rust:                           ; $(call check,60) checks/check_rust $(OF_MAKE)
 aarch64:                        ; $(call check,60) checks/check_aarch64 $(WHOLE:%=--both)
 dist:                           ; $(call check,60) checks/check_dist $(WHOLE:%=--twice)
 make:                           ; $(call check,60) checks/check_make
