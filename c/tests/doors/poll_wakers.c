@@ -38,10 +38,10 @@ long __wrap_syscall(long number, ...);
 long __wrap_syscall(long number, ...)
 {
 	va_list list;
-	long a[6];
+	long a[6] = { 0 };
 
 	va_start(list, number);
-	for (unsigned k = 0; k < 6; k++)
+	for (unsigned k = 0; k < (number == SYS_futex ? 6 : 3); k++)
 		a[k] = va_arg(list, long);
 	va_end(list);
 	if (number == SYS_write) {

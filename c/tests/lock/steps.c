@@ -9,6 +9,7 @@
 #include "../../lock/wait.h"
 #include "ww_shared.h"
 #include <stdarg.h>
+#include <sys/syscall.h>
 
 static DEFINE_WW_CLASS(wound_wait);
 static DEFINE_WD_CLASS(wait_die);
@@ -101,11 +102,11 @@ long __real_syscall(long number, ...);
 long __wrap_syscall(long number, ...);
 long __wrap_syscall(long number, ...)
 {
-	long words[6];
+	long words[6] = { 0 };
 	va_list list;
 
 	va_start(list, number);
-	for (unsigned k = 0; k < 6; k++)
+	for (unsigned k = 0; k < (number == SYS_futex ? 6 : 3); k++)
 		words[k] = va_arg(list, long);
 	va_end(list);
 	does_anything_else();
