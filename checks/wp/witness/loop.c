@@ -51,6 +51,7 @@ void witness_newest(void) { w_loops(0); /*@ check never: \false; */ release_newe
 void witness_release(void) { w_loops(0); /*@ check never: \false; */ release_newest_first(&w_context); }
 /*@ requires ONE_MEMBER; */
 void witness_unlock_all(void) { w_loops(0); w_context.acquired = 1; /*@ assert has_is_whole: is_whole(&w_context); */ /*@ assert has_has_slot: has_slot(&w_seat, &w_context); */ /*@ check never: \false; */ ww_acquire_unlock_all(&w_context); }
+void witness_rest(void) { w_loops(0); w_context.newest = NULL; /*@ assert slot: has_slot(&w_seat, &w_context); */ /*@ check never: \false; */ unlocks_no_more(&w_context); }
 /*@ requires ONE_MEMBER; */
 void witness_back_off(void) { w_loops(HAS_TO_BACK_OFF); /*@ assert bit: (w_context.state & HAS_TO_BACK_OFF) != 0; */ /*@ check never: \false; */ ww_back_off_(&w_context); }
 /* A context that holds nothing, and waits for the mutex first; and one that has just waited. */
