@@ -268,6 +268,12 @@ template <class... Ones> void all_ways()
 	ww_table_unlock_to(keys, x, 1);
 	must(ww_table_mark(keys, x) == 1 && !ww_table_leave(keys, 1, false));
 }
+/* While many numbers are taken. */
+[[gnu::noinline]] void call_beside_many()
+{
+	call_init_and_destroy();
+	call_take_and_put();
+}
 /* So many keys stay locked, a quarter of what the class has mutexes for. */
 void fill_table(unsigned many)
 {
@@ -312,6 +318,8 @@ int main(int count, char **words)
 	}
 	must(!ww_table_open(&keys, &objects, 0));
 	fill_table(unsigned(std::atoi(words[1])) / 4);
-	for (int times = std::atoi(words[2]); times--;)
+	for (int times = std::atoi(words[2]); times--;) {
 		call_table();
+		call_beside_many();
+	}
 }

@@ -20,8 +20,11 @@ enum { IN_A_LINE = 4, LINE = 64, APART = 1024 };
  * line taken, and with four it is an eighth. LEAST_LINES are enough for the 65 locks that a world has at least.
  */
 enum { SPARE_LINES = 4, LEAST_LINES = 17 };
-/* FULL has the bits of all numbers of a line; the bits of IN_A_WORD lines are in one word of `used`. */
-enum { FULL = (1 << IN_A_LINE) - 1, IN_A_WORD = 64 / IN_A_LINE };
+/*
+ * FULL has the bits of all numbers of a line; the bits of IN_A_WORD lines are in one word of the first level of `used`. A word has
+ * 2^SIX bits.
+ */
+enum { FULL = (1 << IN_A_LINE) - 1, IN_A_WORD = 64 / IN_A_LINE, SIX = 6 };
 
 /* How many mutexes have a line to themselves. */
 static uint32_t apart(uint32_t mutexes) { return mutexes < APART ? mutexes : APART; }
@@ -34,23 +37,39 @@ static uint32_t lines_for(uint32_t mutexes)
 	return sparse < LEAST_LINES ? LEAST_LINES : quarter > sparse ? quarter : sparse;
 }
 
-/* The bytes of both arrays of bits, each of which has one word more than its numbers fill; and the bytes of the two other arrays. */
-static size_t bytes_of_bits(const struct ww_numbers *n) { return 2 * (n->locks / 64 + 1) * sizeof *n->used; }
+/* How many words a level of bits has: one more than it fills, so that its last word is never full. */
+static size_t words_at(const struct ww_numbers *n, unsigned level) { return (n->locks >> SIX * (level + 1)) + 1; }
+
+/* The bytes of all arrays of bits, and those of the two other arrays. */
+static size_t bytes_of_bits(const struct ww_numbers *n)
+{
+	size_t words = words_at(n, 0); /* of `left` */
+
+	for (unsigned level = 0; level < LEVELS; level++)
+		words += words_at(n, level);
+	return words * sizeof *n->left;
+}
 static size_t bytes_of_others(const struct ww_numbers *n) { return n->locks * (sizeof *n->lies_at + sizeof *n->puts); }
 
 bool ww_open_numbers(struct ww_numbers *n, uint32_t mutexes)
 {
+	size_t before;
+
 	n->mutexes = mutexes ? mutexes : MANY_MUTEXES;
 	n->lines = lines_for(n->mutexes);
 	n->span = (uint64_t)n->lines * LINE << 32;
 	n->locks = n->lines * IN_A_LINE;
-	n->low = n->of_slots = 0;
+	n->of_slots = 0;
 	__atomic_store_n(&n->is_large, false, __ATOMIC_RELAXED);
-	n->used = ww_take_zeros(bytes_of_bits(n));
-	n->left = n->used ? n->used + n->locks / 64 + 1 : NULL;
+	n->left = ww_take_zeros(bytes_of_bits(n));
 	n->lies_at = ww_take_zeros(bytes_of_others(n));
-	n->puts = n->lies_at ? (uint32_t *)(n->lies_at + n->locks) : NULL;
-	return n->used && n->lies_at;
+	if (!n->left || !n->lies_at)
+		return false;
+	before = words_at(n, 0);
+	for (unsigned level = 0; level < LEVELS; before += words_at(n, level++))
+		n->used[level] = n->left + before;
+	n->puts = (uint32_t *)(n->lies_at + n->locks);
+	return true;
 }
 
 size_t ww_bytes_of_numbers(const struct ww_numbers *n)
@@ -60,21 +79,72 @@ size_t ww_bytes_of_numbers(const struct ww_numbers *n)
 
 void ww_close_numbers(struct ww_numbers *n)
 {
-	ww_return_zeros(n->used, bytes_of_bits(n));
+	ww_return_zeros(n->left, bytes_of_bits(n));
 	ww_return_zeros(n->lies_at, bytes_of_others(n));
+}
+
+static uint64_t bit_of(uint32_t number) { return (uint64_t)1 << number % 64; }
+
+static void note_taken(struct ww_numbers *n, uint32_t number)
+{
+	for (unsigned level = 0; level < LEVELS; level++, number >>= SIX) {
+		uint64_t *word = &n->used[level][number / 64];
+
+		*word |= bit_of(number);
+		if (*word != UINT64_MAX)
+			return;
+	}
+}
+
+static void note_free(struct ww_numbers *n, uint32_t number)
+{
+	for (unsigned level = 0; level < LEVELS; level++, number >>= SIX) {
+		uint64_t *word = &n->used[level][number / 64], was = *word;
+
+		*word = was & ~bit_of(number);
+		if (was != UINT64_MAX)
+			return;
+	}
+}
+
+/*
+ * The first free number from number k on; or, if there is none, a number behind all. As long as a word has no free bit from its place
+ * on, the search goes on in the next level, behind that word; then it comes down again, in words that aren't full. So it takes a few
+ * steps, whatever is taken.
+ */
+static uint32_t free_from(const struct ww_numbers *n, uint32_t k)
+{
+	unsigned level = 0, shift = 0;
+	uint64_t bits = ~n->used[0][k / 64] >> k % 64;
+	uint32_t at;
+
+	while (!bits && level < LEVELS - 1) {
+		k = ((k >> shift >> SIX) + 1) << shift << SIX;
+		level++;
+		shift += SIX;
+		bits = ~n->used[level][k >> shift >> SIX] >> (k >> shift) % 64;
+	}
+	at = (uint32_t)__builtin_ctzll(bits);
+	k += at << shift;
+	while (level--) {
+		shift -= SIX;
+		at = (uint32_t)__builtin_ctzll(~n->used[level][k >> shift >> SIX]);
+		k += at << shift;
+	}
+	return k;
 }
 
 /* The bits of the line's numbers that are taken. */
 static uint32_t used_of(const struct ww_numbers *n, uint32_t line)
 {
-	return n->used[line / IN_A_WORD] >> line % IN_A_WORD * IN_A_LINE & FULL;
+	return n->used[0][line / IN_A_WORD] >> line % IN_A_WORD * IN_A_LINE & FULL;
 }
 
-/* The first line from this one on that has a free number, or no taken one unless `shares` is true. The caller knows that there is one. */
-static uint32_t line_from(const struct ww_numbers *n, uint32_t line, bool shares)
+/* The first line from this one on of which no number is taken. The caller knows that there is one. */
+static uint32_t empty_line_from(const struct ww_numbers *n, uint32_t line)
 {
-	while (used_of(n, line) > (shares ? FULL - 1 : 0)) {
-		line += n->used[line / IN_A_WORD] == UINT64_MAX ? IN_A_WORD - line % IN_A_WORD : 1;
+	while (used_of(n, line)) {
+		line++;
 		if (line >= n->lines)
 			line = 0;
 	}
@@ -83,24 +153,21 @@ static uint32_t line_from(const struct ww_numbers *n, uint32_t line, bool shares
 
 static bool find_number(struct ww_numbers *n, const struct ww_mutex *m, uint32_t *number)
 {
-	uint32_t before, line;
+	uint32_t before, line = m ? (uint32_t)ww_likely_(m, n->span) / LINE : 0;
 
 	pthread_mutex_lock(&n->lock);
 	before = n->taken + n->of_slots;
 	if (before < n->mutexes) {
-		line = line_from(n, m ? (uint32_t)ww_likely_(m, n->span) / LINE : n->low, before >= apart(n->mutexes));
-		*number = line * IN_A_LINE + (uint32_t)__builtin_ctz(~used_of(n, line));
-		n->used[*number / 64] |= (uint64_t)1 << *number % 64;
-		if (!m && before >= apart(n->mutexes))
-			n->low = line;
+		*number = before < apart(n->mutexes) ? empty_line_from(n, line) * IN_A_LINE : free_from(n, line * IN_A_LINE);
+		if (*number >= n->locks)
+			*number = free_from(n, 0);
+		note_taken(n, *number);
 		if (__atomic_fetch_add(&n->taken, 1, __ATOMIC_RELAXED) + 1 == WW_LARGE)
 			__atomic_store_n(&n->is_large, true, __ATOMIC_RELAXED);
 	}
 	pthread_mutex_unlock(&n->lock);
 	return before < n->mutexes;
 }
-
-static uint64_t bit_of(uint32_t number) { return (uint64_t)1 << number % 64; }
 
 void ww_leave_used(struct ww_numbers *n, uint32_t number, ww_is_used *is_used)
 {
@@ -112,9 +179,7 @@ void ww_leave_used(struct ww_numbers *n, uint32_t number, ww_is_used *is_used)
 /* Marks a number as free. The numbers are locked. */
 void ww_give_locked(struct ww_numbers *n, uint32_t number)
 {
-	n->used[number / 64] &= ~bit_of(number);
-	if (number / IN_A_LINE < n->low)
-		n->low = number / IN_A_LINE;
+	note_free(n, number);
 	__atomic_fetch_sub(&n->taken, 1, __ATOMIC_RELEASE);
 }
 

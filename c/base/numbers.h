@@ -7,6 +7,9 @@
 /* How many mutexes a class has if the program sets no number. */
 enum { MANY_MUTEXES = 65536 };
 
+/* How many levels the bits of numbers have: see free_from. */
+enum { LEVELS = 5 };
+
 struct ww_numbers;
 /* Whether a context or a thread uses this number. It is that of the mutex at the address m, or of a mutex that was destroyed. */
 typedef bool ww_is_used(struct ww_numbers *n, uint32_t number, const void *m);
@@ -16,12 +19,15 @@ struct ww_numbers {
 	uint32_t mutexes;     /* how many mutexes there may be */
 	uint32_t lines;	      /* how many cache lines the words of their locks have */
 	uint32_t locks;	      /* how many locks of the proved library these lines have */
-	uint32_t low;	      /* no line before this one has a free number */
 	uint32_t taken;	      /* how many numbers mutexes have */
 	uint32_t of_slots;    /* how many numbers reader slots have */
 	bool is_large;	      /* at some time there were too many mutexes for a processor's cache */
 	uint64_t span;	      /* the factor by which an address gives its line: see ww_likely_ */
-	uint64_t *used;	      /* a bit for each number, set while it is taken */
+	/*
+	 * The first level has a bit for each number, set while that is taken; each further one has a bit for each word of the level
+	 * before, set while all bits of that word are.
+	 */
+	uint64_t *used[LEVELS];
 	uint64_t *left;	      /* a bit for each number, set if it comes free once nobody uses it */
 	uint64_t leaves;      /* how often a number was left, in all */
 	ww_is_used *is_used;  /* says whether a number that was left is still used: see used.c */

@@ -1,6 +1,7 @@
 /*
  * numbers.c - the numbers of a class with so many mutexes, for mutexes at any address, whatever was taken before.
  *
+ * splits: free_from:60,note_taken:20,note_free:20
  * defines: MUTEXES=0 MUTEXES=1 MUTEXES=17 MUTEXES=1024 MUTEXES=1025 MUTEXES=5000 MUTEXES=65537 MUTEXES=16777216
  */
 #include <__fc_builtin.h>
@@ -16,16 +17,17 @@ uint64_t ww_likely_(const void *lock, uint64_t span)
 	return (uint64_t)Frama_C_unsigned_int_interval(0, UINT32_MAX) * (span >> 32) >> 32;
 }
 
-/* Of a line's four numbers one is free, as line_from says: Eva doesn't know that of what is read twice. */
-#undef __builtin_ctz
-#define __builtin_ctz(bits) ((void)(bits), Frama_C_interval(0, 3))
-/* Only numbers that there are were left, so are these that are taken out of the word from number k on. */
+/*
+ * Only numbers that there are were left, so are these that are taken out of the word from number k on; and free_from, of which each bit
+ * stands for 2^shift numbers, only finds such, since the last word of a level is never full: Eva doesn't know that of what is read twice.
+ */
+enum { shift = 0 };
 #define __builtin_ctzll(bits) \
 	({ \
-		uint32_t at = Frama_C_unsigned_int_interval(0, 63); \
-		if (k + at >= n->locks) \
-			at = 0; \
-		at; \
+		uint64_t found_ = k + ((uint64_t)Frama_C_unsigned_int_interval(0, 63) << shift); \
+		(void)(bits); \
+		k = found_ < n->locks ? (uint32_t)found_ : n->locks - 1; \
+		0; \
 	})
 #undef __atomic_exchange_n
 #define __atomic_exchange_n(p, v, order) take_out(p)
@@ -58,10 +60,15 @@ void main(void)
 	static struct ww_mutex m;
 	static uint32_t number; /* that it is written where 0 is returned isn't asked here */
 
-	if (!ww_open_numbers(&n, MUTEXES) || !n.used || !n.left || !n.lies_at)
+	if (!ww_open_numbers(&n, MUTEXES) || !n.left || !n.lies_at || !n.puts ||
+	    !n.used[0] || !n.used[1] || !n.used[2] || !n.used[3] || !n.used[4])
 		return;
 	while (Frama_C_interval(0, 1)) {
-		n.used[Frama_C_unsigned_int_interval(0, n.locks / 64)] = Frama_C_unsigned_long_interval(0, UINT64_MAX);
+		n.used[0][Frama_C_unsigned_int_interval(0, n.locks >> 6)] = Frama_C_unsigned_long_interval(0, UINT64_MAX);
+		n.used[1][Frama_C_unsigned_int_interval(0, n.locks >> 12)] = Frama_C_unsigned_long_interval(0, UINT64_MAX);
+		n.used[2][Frama_C_unsigned_int_interval(0, n.locks >> 18)] = Frama_C_unsigned_long_interval(0, UINT64_MAX);
+		n.used[3][Frama_C_unsigned_int_interval(0, n.locks >> 24)] = Frama_C_unsigned_long_interval(0, UINT64_MAX);
+		*n.used[4] = Frama_C_unsigned_long_interval(0, UINT64_MAX);
 		n.taken = Frama_C_unsigned_int_interval(0, UINT32_MAX);
 		n.of_slots = Frama_C_unsigned_int_interval(0, 4095);
 		if (!ww_take_number(&n, Frama_C_interval(0, 1) ? &m : NULL, &number)) {

@@ -20,7 +20,21 @@ static bool own[MANY], over;
 static unsigned rounds = 25000, openings = 200, numbers;
 
 static struct ww_numbers bare;
-static uint64_t used[MANY / 64];
+
+/* Numbers of this test's own, of so many lines, all free. */
+static void bare_of(uint32_t mutexes, uint32_t lines)
+{
+	static uint64_t bits[MANY / 32];
+	uint64_t *at = bits;
+
+	memset(&bare, 0, sizeof bare);
+	memset(bits, 0, sizeof bits);
+	bare = (struct ww_numbers){ .lock = PTHREAD_MUTEX_INITIALIZER, .mutexes = mutexes, .lines = lines, .locks = 4 * lines };
+	for (unsigned level = 0; level < LEVELS; level++) {
+		bare.used[level] = at;
+		at += (bare.locks >> 6 * (level + 1)) + 1;
+	}
+}
 
 /* Few, so that what one thread looks for others take away and put back meanwhile; or enough for all. */
 static void *takes_and_gives(void *arg)
@@ -46,12 +60,7 @@ static void bare_by_threads(uint32_t of)
 {
 	uint32_t n, count = 0;
 
-	memset(&bare, 0, sizeof bare);
-	bare.lock = (pthread_mutex_t)PTHREAD_MUTEX_INITIALIZER;
-	bare.mutexes = of;
-	bare.lines = 4 * ENOUGH;
-	memset(used, 0, sizeof used);
-	bare.used = used;
+	bare_of(of, 4 * ENOUGH);
 	in_threads(THREADS, takes_and_gives);
 	while (!ww_take_number(&bare, NULL, &n)) {
 		MUST(!own[n]);
@@ -78,13 +87,8 @@ static void fresh_by_threads(void)
 	uint32_t n;
 
 	for (unsigned k = 0; k < 20; k++) {
-		memset(&bare, 0, sizeof bare);
 		memset(own, 0, sizeof own);
-		bare.lock = (pthread_mutex_t)PTHREAD_MUTEX_INITIALIZER;
-		bare.mutexes = MANY;
-		bare.lines = MANY / 4;
-		memset(used, 0, sizeof used);
-		bare.used = used;
+		bare_of(MANY, MANY / 4);
 		in_threads(THREADS, takes_a_share);
 		MUST(ww_take_number(&bare, NULL, &n) == -ENOSPC);
 	}
@@ -282,6 +286,50 @@ static void are_low(uint32_t count)
 		MUST(!ww_number_put(n[k], &few));
 	MUST(!ww_mutex_destroy(&m) && !ww_class_free(&few));
 	free(n);
+}
+
+/*
+ * Nearly all numbers are taken, in a class of this size: one that was put back is found from any place, as the next free one from there
+ * on, or else the first.
+ */
+static void are_found(uint32_t mutexes)
+{
+	struct ww_mutex *m = calloc(1024, sizeof *m);
+	uint32_t n, locks, put[3];
+	unsigned x = 3;
+
+	memset(&bare, 0, sizeof bare);
+	bare.lock = (pthread_mutex_t)PTHREAD_MUTEX_INITIALIZER;
+	MUST(m && ww_open_numbers(&bare, mutexes));
+	locks = bare.mutexes = bare.locks; /* more than the class would give */
+	while (!ww_take_number(&bare, NULL, &n))
+		MUST(n < locks);
+	for (unsigned k = 0; k < 20000; k++) {
+		const struct ww_mutex *at = &m[next(&x) % 1024];
+		uint32_t line = (uint32_t)ww_likely_(at, bare.span) / 64, best = locks;
+
+		for (unsigned j = 0; j < 3; j++) {
+			do
+				put[j] = (uint32_t)((next(&x) * UINT64_C(2654435761) + next(&x)) % locks);
+			while ((j > 0 && put[j] == put[0]) || (j > 1 && put[j] == put[1]));
+			ww_give_number(&bare, put[j]);
+		}
+		for (unsigned left = 3; left; left--) {
+			uint32_t from = k % 2 ? 4 * line : 0, which = 0;
+
+			for (unsigned j = 0; j < left; j++) {
+				uint32_t far = (put[j] + locks - from) % locks;
+
+				if (!j || far < best)
+					best = far, which = j;
+			}
+			MUST(!ww_take_number(&bare, k % 2 ? at : NULL, &n) && n == put[which]);
+			put[which] = put[left - 1];
+		}
+	}
+	MUST(bare.taken == locks);
+	ww_close_numbers(&bare);
+	free(m);
 }
 
 /* By the word that a list of many fetches ahead. */
@@ -525,6 +573,9 @@ int main(int count, char **words)
 	are_low(1);
 	are_low(1027);
 	are_low(5000);
+	are_found(1024);
+	are_found(65536);
+	are_found(300000);
 	words_say_owners(2);
 	words_say_owners(17);
 	words_say_owners(4094);
