@@ -22,7 +22,7 @@
  *	numbered		pool		who takes the first number, under `numbers`			number-again
  *	lies_at			numbers		who makes the mutex with the number				numbers
  *	is_large		numbers		who takes a number, under `numbers`				numbers
- *	taken used low		numbers		who takes or gives a number, under `numbers`			numbers-4
+ *	taken used		numbers		who takes or gives a number, under `numbers`			numbers-4
  *	left is_used		numbers		who leaves a number, or gives one that was left			number-leave
  *	leaves			numbers		who leaves a number						number-leave
  *	puts			numbers		who puts the number back: one thread at a time			number-stranger

@@ -565,10 +565,9 @@ PLAIN = {
     "met->waits": "by: note_meeting",
     "met->back_offs": "by: note_meeting",
     "of->set_aside": "queue: ",
-    "n->low": "numbers: ww_open_numbers",
     "n->taken": "numbers: ",
-    "n->left": "numbers: ww_open_numbers",
-    "n->used": "numbers: bytes_of_bits line_from used_of ww_close_numbers ww_open_numbers",
+    "n->left": "numbers: bytes_of_bits ww_close_numbers ww_open_numbers",
+    "n->used": "numbers: free_from used_of ww_open_numbers",
     "n->lies_at": "by: ww_open_numbers",
     "n->puts": "by: ww_open_numbers",
     # Of a table. What is read without the lock the use's own context wrote.
