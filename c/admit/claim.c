@@ -93,15 +93,11 @@ ww_seat *ww_claim_new(struct ww_seats *of, uint32_t most)
 /* ---- seats that are free ---- */
 
 /*
- * Looks at all seats of the array that were made and may be claimed: first at the near ones, from the seat on that this thread used
- * last. Where threads have seats of their own, it doesn't come back to a seat that it claimed here, but begins at a place by its
- * number, at which other threads don't begin.
+ * Looks at all seats of the array that were made and may be claimed: first at the near ones, from the seat `from` on. A thread with
+ * a seat of its own doesn't come back to a seat that it claimed here.
  */
-ww_seat *ww_claim_any(const struct ww_seats *of)
+ww_seat *ww_claim_from(const struct ww_seats *of, uint32_t from)
 {
-	bool is_last = ww_mine.last.id == __atomic_load_n(&of->id, __ATOMIC_RELAXED);
-	bool spreads = of->pool->own_seats && of == &of->pool->threads;
-	uint32_t from = is_last ? (uint32_t)(ww_mine.last.seat - of->seats) : spreads ? (uint32_t)ww_mine.thread : 0;
 	uint32_t open = open_seats(of), made = made_seats(of), there = made < open ? made : open;
 	uint32_t near = near_seats(of) < there ? near_seats(of) : there;
 	ww_seat *s = NULL;
@@ -109,6 +105,18 @@ ww_seat *ww_claim_any(const struct ww_seats *of)
 	for (uint32_t k = 0; k < there && !s; k++)
 		s = claim_and_note(of, k < near ? &of->seats[(from + k) % near] : seat_at(of, k));
 	return s;
+}
+
+/*
+ * The search begins at the seat that this thread used last. Where threads have seats of their own, it begins at a place by this
+ * thread's number, at which other threads don't begin.
+ */
+ww_seat *ww_claim_any(const struct ww_seats *of)
+{
+	bool is_last = ww_mine.last.id == __atomic_load_n(&of->id, __ATOMIC_RELAXED);
+	bool spreads = of->pool->own_seats && of == &of->pool->threads;
+
+	return ww_claim_from(of, is_last ? (uint32_t)(ww_mine.last.seat - of->seats) : spreads ? (uint32_t)ww_mine.thread : 0);
 }
 
 ww_seat *ww_own_or_any(struct ww_pool *p)

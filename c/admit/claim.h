@@ -17,7 +17,11 @@ COLD WW_HIDDEN bool ww_make_seat(struct ww_pool *p, ww_seat *s);
 /* Whether the seat was made. Until then it is memory of zeros, which only the thread that makes the seat writes. */
 static inline bool is_made(const ww_seat *s) { return __atomic_load_n(&s->pool, __ATOMIC_SEQ_CST); }
 
-/* Claims a seat of this array that was made and is free: the search begins at one that suits this thread. NULL: none is free. */
+/*
+ * Claims a seat of this array that was made and is free: the search begins at the seat `from`, or at one that suits this thread.
+ * NULL: none is free.
+ */
+WW_HIDDEN ww_seat *ww_claim_from(const struct ww_seats *of, uint32_t from);
 WW_HIDDEN ww_seat *ww_claim_any(const struct ww_seats *of);
 /*
  * Makes the next seat of this array and claims it, unless `most` seats of the array were made: callers that found no free seat come

@@ -34,14 +34,14 @@ static void make_locks(struct ww_pool *p)
 
 /*
  * Whether nobody uses a seat of the class, except for suspended contexts if these may be there, and nobody waits. A thread that
- * waits for a permit and then for a seat stands in the line for permits throughout. Opening is locked.
+ * waits for a permit and then for a seat counts as one that waits throughout. Opening is locked.
  */
 static bool is_idle(struct ww_pool *p, bool may_be_suspended)
 {
 	bool idle;
 
 	pthread_mutex_lock(&p->queue);
-	idle = !p->threads.lines[WAITS].first && !p->tasks.lines[WAITS].first && !p->tasks.lines[CALLED].first && !p->crowd.line.first;
+	idle = !p->threads.lines[WAITS].first && !p->tasks.lines[WAITS].first && !p->tasks.lines[CALLED].first && !waiting_threads(p);
 	for (uint32_t k = 0; k < seats_of(p) && idle; k++)
 		idle = !(__atomic_load_n(&p->seats[k].busy, __ATOMIC_ACQUIRE) & BUSY) || (may_be_suspended && is_suspended(&p->seats[k]));
 	pthread_mutex_unlock(&p->queue);
@@ -142,7 +142,6 @@ static struct ww_pool *memory_of_pool(void)
 	memset(p, 0, sizeof *p);
 	p->copy = ww_this_copy;
 	make_locks(p);
-	p->crowd.line.end = &p->crowd.line.first;
 	for (struct ww_seats *of = &p->threads; of <= &p->tasks; of++) {
 		of->pool = p;
 		for (uint32_t k = 0; k < SERVED; k++)

@@ -37,6 +37,8 @@
  *	open due limiter	seats		who looks at the limiter of tasks, under `queue`		tasks-wider
  *	due limiter		crowd		who begins the crowd, or looks at its limiter, under `queue`	crowd-ends
  *	made			seats		who makes a seat, under `queue`					made
+ *	waiting first end	crowd		who waits for a permit, under `queue`				class-cancel-permit
+ *	is_called next		turn		who waits for a permit, and who calls it, under `queue`		class-cancel-permit
  *	served_ seat_ waker_	seek		who waits, and who serves or calls it, under `queue`		poll-contexts-end
  *	begun			crowd		each that begins contexts					crowd-checked
  *	quiet_until		crowd		who ends the crowd, under `queue`; others read it		crowd-ends

@@ -17,7 +17,12 @@
  *
  * Fewer contexts at a time save cache lines, which wander between processors where contexts meet, and sleeps of threads that wait
  * for a lock whose owner lost its processor. All of this is a hint: no lock asks who has a permit, so a context that begins without
- * a permit, or too late, costs only time. The table of a permit's states is in pool.h.
+ * a permit, or too late, costs only time.
+ *
+ *	a permit	its next state, and what makes it
+ *	over		taken: by a thread whose turn it is, or by a thread that comes while nobody waits
+ *	taken		over: its lease has ended, and its thread begins its next context, or runs no context by its own seat;
+ *			or its lease ended GRACE ago, whatever its thread does
  */
 #define _GNU_SOURCE
 #include "crowd.h"
@@ -76,18 +81,18 @@ static uint64_t nanoseconds(const struct timespec *at)
  * Of the threads that sleep, the one that has waited longest is woken first, also if it has looked for a permit since it came. If
  * threads were called in the order in which they fell asleep, others would pass, lease for lease, a thread that looked in vain. A
  * thread that doesn't sleep was woken by its time or a call, but may get no processor for long, so the next one is called, too. A
- * thread that was CALLED isn't called again before it has looked, since each call is a system call under the lock. The stores are
+ * thread that was called isn't called again before it has looked, since each call is a system call under the lock. The stores are
  * relaxed: a thread that is about to sleep on its word sees the new value. The queue is locked.
  */
 void ww_call_waiting(struct ww_pool *p, bool all)
 {
 	bool is_woken = false;
 
-	for (struct ww_seek *it = p->crowd.line.first; it && (all || !is_woken); it = it->next_) {
-		if (it->served_ == CALLED)
+	for (struct ww_turn *it = p->crowd.first; it && (all || !is_woken); it = it->next) {
+		if (it->is_called)
 			continue;
-		__atomic_store_n(&it->served_, CALLED, __ATOMIC_RELAXED);
-		is_woken = ww_futex_wake(&it->served_);
+		__atomic_store_n(&it->is_called, 1, __ATOMIC_RELAXED);
+		is_woken = ww_futex_wake(&it->is_called);
 	}
 }
 
@@ -97,6 +102,8 @@ void ww_reset_crowd(struct ww_pool *p)
 	struct ww_crowd *crowd = &p->crowd;
 
 	memset(crowd->permits, 0, sizeof crowd->permits);
+	crowd->first = NULL;
+	crowd->end = &crowd->first;
 	set_crowded(p, false);
 	crowd->quiet = QUIET;
 	__atomic_store_n(&crowd->sought, 0, __ATOMIC_RELAXED);
@@ -343,62 +350,49 @@ static uint64_t turn_of(const struct ww_pool *p, uint64_t now, uint64_t place)
 }
 
 /*
- * Whether this thread may begin contexts now, and takes a permit if it needs one: 0; or -EINPROGRESS, it has to wait, at most until
- * `ends`; or -ETIMEDOUT. If other threads come before it (`others`), it takes none. The queue is locked.
+ * Waits for a permit, at most until this time. The thread looks later if more threads are before it. `before` threads had come
+ * before it; of all that have come by now, those that don't wait any more are counted as having been before it. The queue is
+ * locked, except while the thread sleeps.
  */
-static int try_permit(struct ww_pool *p, uint64_t now, uint64_t ends, bool others)
-{
-	if (!is_crowded(p) || sleeps_elsewhere() || (!others && take_permit(p, now)))
-		return 0;
-	return now < ends ? -EINPROGRESS : -ETIMEDOUT;
-}
-
-/*
- * Waits for a permit, at most until this time, and then gets a seat. The thread looks later if more threads are before it. `before`
- * threads had come before it; of all that have come by now, those that don't wait any more are counted as having been before it. The
- * thread stands in the line until it has a seat, so that nobody frees the class meanwhile. The queue is locked, except while the
- * thread sleeps or looks for a seat.
- */
-static int wait_for_permit(struct ww_pool *p, uint64_t now, const struct timespec *until, bool heeds, ww_seat **s)
+static void wait_for_permit(struct ww_pool *p, uint64_t now, uint64_t until, bool heeds)
 {
 	struct ww_crowd *crowd = &p->crowd;
-	struct ww_seek me;
-	uint64_t before = crowd->sought, ends = nanoseconds(until);
-	int r;
+	struct ww_turn me = { .link = crowd->end };
+	uint64_t before = crowd->sought;
 
-	ww_enter_line(&crowd->line, WAITS, crowd->line.end, &me);
+	*crowd->end = &me;
+	crowd->end = &me.next;
+	__atomic_fetch_add(&crowd->waiting, 1, __ATOMIC_SEQ_CST);
 	count(&crowd->sought);
 	DTRACE_PROBE1(ww, permit_wait, p->class_);
 	do {
 		int64_t place = (int64_t)(before + waiting_threads(p) - crowd->sought);
 		uint64_t turn = turn_of(p, now, place > 0 ? (uint64_t)place : 0);
-		const struct timespec then = timespec_of(turn < ends ? turn : ends);
+		const struct timespec then = timespec_of(turn < until ? turn : until);
 
-		me.served_ = WAITS;
+		if (heeds && ww_ends_waits(p))
+			break;
+		me.is_called = 0;
 		pthread_mutex_unlock(&p->queue);
-		ww_futex_wait(&me.served_, WAITS, &then);
+		ww_futex_wait(&me.is_called, 0, &then);
 		pthread_mutex_lock(&p->queue);
 		now = ww_now();
-		r = heeds && ww_ends_waits(p) ? -EINTR : try_permit(p, now, ends, false);
-	} while (r == -EINPROGRESS);
-	me.served_ = CALLED; /* so nobody calls this thread, which is awake */
+	} while (is_crowded(p) && now < until && !take_permit(p, now));
+	*me.link = me.next;
+	*(me.next ? &me.next->link : &crowd->end) = me.link;
 	call_one(p, now);
 	DTRACE_PROBE1(ww, permit_wait_end, p->class_);
-	pthread_mutex_unlock(&p->queue);
-	if (!r && !(*s = ww_own_or_any(p)))
-		r = ww_seek_seat(p, until, heeds, s);
-	pthread_mutex_lock(&p->queue);
-	ww_leave_line(&crowd->line, &me);
-	return r;
 }
 
-/* Puts back this thread's last permit, whose lease is over, and takes a new one. Threads that wait come before it. */
-COLD static int find_permit(struct ww_pool *p, const struct timespec *until, bool heeds, ww_seat **s)
+/*
+ * Puts back this thread's last permit, whose lease is over, and takes a new one. Threads that wait come before it. `refused`
+ * becomes true if the time limit came first, while there is a crowd.
+ */
+COLD static bool find_permit(struct ww_pool *p, uint64_t until, bool heeds, bool *refused)
 {
 	uint64_t now = ww_now();
 	struct ww_my_permit had = ww_mine.permit;
-	bool had_one = had.id == p->id && had.it;
-	int r;
+	bool had_one = had.id == p->id && had.it, waits;
 
 	if (had_one)
 		look_at_sleeps();
@@ -410,15 +404,14 @@ COLD static int find_permit(struct ww_pool *p, const struct timespec *until, boo
 	ww_mine.permit = (struct ww_my_permit){ .id = p->id };
 	look_at_crowd(p, now);
 	call_one(p, now);
-	r = try_permit(p, now, nanoseconds(until), waiting_threads(p));
-	if (r && heeds && ww_ends_waits(p))
-		r = -EINTR;
-	if (r == -EINPROGRESS)
-		r = wait_for_permit(p, now, until, heeds, s);
+	waits = is_crowded(p) && !sleeps_elsewhere() && (waiting_threads(p) || !take_permit(p, now));
+	if (waits && now < until)
+		wait_for_permit(p, now, until, heeds);
+	*refused = waits && is_crowded(p) && !ww_mine.permit.ends;
 	pthread_mutex_unlock(&p->queue);
 	(void)count_sleeps(); /* a sleep for the lock of the queue doesn't count as one elsewhere */
 	ww_mine.permit.ran = ww_mine.ran;
-	return r;
+	return waits && now < until;
 }
 
 /*
@@ -439,19 +432,21 @@ static void goes_on(struct ww_pool *p, uint64_t now)
 	}
 }
 
-int ww_await_permit(struct ww_pool *p, const struct timespec *until, bool heeds, ww_seat **s)
+bool ww_await_permit(struct ww_pool *p, const struct timespec *until, bool heeds, bool *refused)
 {
 	uint64_t now = ww_now();
 	uint32_t unreported = ww_mine.permit.id == p->id ? ww_mine.permit.begun - ww_mine.permit.reported : 0;
-	int r = 0;
+	bool waits = false;
 
 	if (sleeps_elsewhere() || has_another(p))
-		return 0;
+		return false;
 	if (ww_mine.permit.id == p->id && now < ww_mine.permit.ends)
 		goes_on(p, now);
-	else if ((r = find_permit(p, until, heeds, s)))
-		return r;
+	else
+		waits = find_permit(p, nanoseconds(until), heeds, refused);
+	if (*refused)
+		return waits;
 	ww_mine.permit.reported = ++ww_mine.permit.begun;
 	__atomic_fetch_add(&p->crowd.begun, unreported + 1, __ATOMIC_RELAXED);
-	return 0;
+	return waits;
 }

@@ -5,13 +5,14 @@
 
 WW_HIDDEN void ww_reset_crowd(struct ww_pool *p);
 /*
- * In a crowd, comes before a context begins, and gets a permit if the thread needs one. If it has to wait for the permit, it does so
- * until a time limit, if that isn't NULL, or until the class is cancelled, if the wait heeds that; and then it gets a seat, `s`, too,
- * as ww_seek_seat does. If it returns 0 and no seat, the caller looks for one.
+ * In a crowd, comes before a context begins, and waits for a permit: until a time limit, if that isn't NULL, or until the class is
+ * cancelled, if the wait heeds that. `refused` becomes true if the thread needs a permit and got none. Returns whether the thread
+ * has waited; then it still counts as one that waits, so that nobody frees the class, until it calls stop_waiting.
  */
-WW_HIDDEN int ww_await_permit(struct ww_pool *p, const struct timespec *until, bool heeds, ww_seat **s);
-/* How many threads stand in the line for permits. */
-static inline uint32_t waiting_threads(const struct ww_pool *p) { return __atomic_load_n(&p->crowd.line.seekers, __ATOMIC_RELAXED); }
+WW_HIDDEN bool ww_await_permit(struct ww_pool *p, const struct timespec *until, bool heeds, bool *refused);
+static inline void stop_waiting(struct ww_pool *p) { __atomic_fetch_sub(&p->crowd.waiting, 1, __ATOMIC_SEQ_CST); }
+/* How many threads wait for a permit, or have got one and not yet a seat. */
+static inline uint32_t waiting_threads(const struct ww_pool *p) { return __atomic_load_n(&p->crowd.waiting, __ATOMIC_SEQ_CST); }
 /* Wakes the thread that has waited longest for a permit, or all that wait (`all`), to look for one. The queue is locked. */
 WW_HIDDEN void ww_call_waiting(struct ww_pool *p, bool all);
 /* This thread has waited for a lock, for so many nanoseconds (`took`) until now. */

@@ -19,32 +19,11 @@ enum { MANY_CONTEXTS = WW_FEW + 1, MANY_TASKS = WW_FEW, EACH_TASKS = WW_FEW };
 #endif
 
 /*
- * The states of a waiter, `served_` of struct ww_seek, whether it is a thread or a task, and waits for a seat or for a permit:
- *
- *	served_		its waker is		its next state, and what makes it
- *	WAITS		there, or taken back	CALLED: the first of all tasks that wait, for a seat that was given (call_next)
- *						SERVED: a seat is handed to the waiter (ww_serve, ww_hands_over), or NULL,
- *						which ends its wait (ww_end_seeking, ww_poll_seat)
- *						out of its line: the waiter gives up (ww_leave_queue)
- *	CALLED		called, or taken back	SERVED: the task's poll finds a seat, or its wait ends there
- *						WAITS, before all: the task's poll finds no seat
- *						WAITS, behind all: the task hasn't polled for a lease, and another task is
- *						CALLED for its seat (pass_on_late)
- *						out of its line: the task gives up (ww_leave_queue)
- *	SERVED		called, or taken back	the waiter stands in no line; seat_ is its own, or its wait has ended
- *
- *	of a thread that waits for a permit, which keeps its place in the line of the crowd:
- *	WAITS		none			CALLED: it is to look for a permit (ww_call_waiting), or has one (wait_for_permit)
- *	CALLED		none			WAITS: it has found no permit, and is about to sleep (wait_for_permit)
- *						out of its line: it has a seat, or its wait has ended (wait_for_permit)
- */
-enum { WAITS, CALLED, SERVED };
-
-/*
  * An array of seats, and the queue of those that found no seat of it free. A class has two. `threads` has all seats that anybody
  * may use. `tasks` is the last part of these: the seats that polls may use, too. If the program sets how many contexts the class
  * has, `tasks` is empty, and tasks wait in the queue of `threads`.
  */
+enum { WAITS, CALLED, SERVED }; /* the states of a waiter, `served_`: see queue.c */
 struct ww_line {
 	struct ww_seek *first, **end; /* the waiters, in the order in which they came, and the last link */
 	uint32_t seekers;	      /* how many waiters stand in this line */
@@ -63,23 +42,22 @@ struct ww_seats {
 	struct ww_limiter limiter;
 } __attribute__((aligned(64)));
 
-/*
- * A permit, by which a thread begins contexts in a crowd. The states of a permit:
- *
- *	a permit	its next state, and what makes it
- *	over		taken: by a thread whose turn it is, or by a thread that comes while nobody waits
- *	taken		over: its lease has ended, and its thread begins its next context, or runs no context by its own seat;
- *			or its lease ended GRACE ago (crowd.c), whatever its thread does
- */
+/* A permit, by which a thread begins contexts in a crowd: see crowd.c. */
 enum { MANY_PERMITS = MANY_PROCESSORS };
 struct ww_permit {
 	uint64_t ends;	     /* when its lease ends; or when it was put back */
 	const ww_seat *seat; /* the own seat of its thread, by which that thread begins contexts; or NULL */
 };
+/* A thread that waits for a permit. */
+struct ww_turn {
+	struct ww_turn *next, **link; /* the next waiter, and the pointer that points to this one */
+	uint32_t is_called; /* whether the thread was called since it last fell asleep: the futex word on which it sleeps */
+};
 struct ww_crowd {
 	uint64_t begun __attribute__((aligned(64))); /* how many contexts were begun in this crowd */
 	uint64_t quiet_until __attribute__((aligned(64))); /* no crowd begins before this time, since the last crowd was of no use */
-	struct ww_line line;			     /* the threads that wait for a permit, or have waited and don't yet have a seat */
+	uint32_t waiting;			     /* how many threads wait for a permit */
+	struct ww_turn *first, **end;		     /* these threads, in the order in which they came, and the last link */
 	uint64_t sought;			     /* how many threads have waited in all */
 	uint64_t due;				     /* when to look at the limiter next */
 	struct ww_limiter limiter;		     /* this and all below is changed under the lock `queue` */
@@ -122,7 +100,7 @@ struct ww_pool {
 	struct ww_shared_mutex *numbered; /* the mutexes by number (ww_number.h), an array that is made when the first number is taken */
 	struct ww_seats threads, tasks;
 	uint64_t called[MANY_TASKS]; /* for each seat of tasks the time until which the task called for it may come; 0: no task is called */
-	pthread_mutex_t queue; /* the lock of all lines, and of `crowd` */
+	pthread_mutex_t queue; /* the lock of both queues, and of `crowd` */
 	size_t bytes;	       /* how much address space the class takes, without what is small */
 	bool ends_waits;       /* the class was cancelled: each wait that something may end is to end, for good */
 	uint32_t suspended;    /* how many contexts are suspended */

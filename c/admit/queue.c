@@ -1,9 +1,21 @@
 /*
- * queue.c - threads and tasks that found no seat free: how they wait, how they are called and served, and what ends their waits. The
- * table of a waiter's states is in pool.h.
+ * queue.c - threads and tasks that found no seat free: how they wait, how they are called and served, and what ends their waits.
  *
- * A thread's waker stays until the thread is served. A task may take its own waker back; then it polls, which leaves another waker.
- * Whatever is done with the waiter meanwhile, no waker is called, and the poll finds what was done.
+ * Threads and tasks that wait are of one kind (struct ww_seek). A thread's waker stays until the thread is served. A task may take
+ * its own waker back; then it polls, which leaves another waker. Whatever is done with the waiter meanwhile, no waker is called,
+ * and the poll finds what was done. The states of a waiter:
+ *
+ *	served_		its waker is		its next state, and what makes it
+ *	WAITS		there, or taken back	CALLED: the first of all tasks that wait, for a seat that was given (call_next)
+ *						SERVED: a seat is handed to the waiter (ww_serve, ww_hands_over), or NULL,
+ *						which ends its wait (ww_end_seeking, ww_poll_seat)
+ *						out of its line: the waiter gives up (ww_leave_queue)
+ *	CALLED		called, or taken back	SERVED: the task's poll finds a seat, or its wait ends there
+ *						WAITS, before all: the task's poll finds no seat
+ *						WAITS, behind all: the task hasn't polled for a lease, and another task is
+ *						CALLED for its seat (pass_on_late)
+ *						out of its line: the task gives up (ww_leave_queue)
+ *	SERVED		called, or taken back	the waiter stands in no line; seat_ is its own, or its wait has ended
  *
  * The tasks that are CALLED stand in a line of their own, in the order of their calls. So whoever gives a seat finds the next task
  * that WAITS at once, and whoever comes to wait finds at once which call has lasted longest. A task is CALLED for one seat, and for
@@ -12,7 +24,7 @@
  * wait for any, passes its call on.
  *
  * Each change is made under the lock `queue`, and wakers are called after that. tests/admit/seats_model.py tries all that tasks may
- * do by that table and the one of seats at the head of seat.c.
+ * do by this table and that of seats at the head of seat.c.
  */
 #define _GNU_SOURCE
 #include "queue.h"
@@ -49,12 +61,12 @@ static void note_call(const ww_seat *s, uint64_t until)
 }
 
 /*
- * The queue is locked. The store of served_ is relaxed, since a waiter that doesn't lock the queue asks only whether it is SERVED, or
- * sleeps while it is WAITS.
+ * Puts a waiter at this place into a line: `which` is WAITS or CALLED. The queue is locked. The store of served_ is relaxed, since
+ * a waiter that doesn't lock the queue asks only whether it is SERVED.
  */
-void ww_enter_line(struct ww_line *lines, uint32_t which, struct ww_seek **at, struct ww_seek *it)
+static void put_into(struct ww_seats *of, uint32_t which, struct ww_seek **at, struct ww_seek *it)
 {
-	struct ww_line *line = &lines[which];
+	struct ww_line *line = &of->lines[which];
 
 	it->next_ = *at;
 	*at = it;
@@ -64,9 +76,11 @@ void ww_enter_line(struct ww_line *lines, uint32_t which, struct ww_seek **at, s
 	__atomic_store_n(&it->served_, which, __ATOMIC_RELAXED);
 }
 
-/* The queue is locked. */
-void ww_leave_line(struct ww_line *line, struct ww_seek *it)
+/* Takes a waiter out of its line, and returns the seat for which the waiter was called, or NULL. The queue is locked. */
+static ww_seat *take_out(struct ww_seats *of, struct ww_seek *it)
 {
+	bool is_called = it->served_ == CALLED;
+	struct ww_line *line = &of->lines[it->served_];
 	struct ww_seek **at = &line->first;
 
 	while (*at != it)
@@ -75,14 +89,6 @@ void ww_leave_line(struct ww_line *line, struct ww_seek *it)
 	if (!*at)
 		line->end = at;
 	__atomic_fetch_sub(&line->seekers, 1, __ATOMIC_SEQ_CST);
-}
-
-/* Takes a waiter out of its line, and returns the seat for which the waiter was called, or NULL. The queue is locked. */
-static ww_seat *take_out(struct ww_seats *of, struct ww_seek *it)
-{
-	bool is_called = it->served_ == CALLED;
-
-	ww_leave_line(&of->lines[it->served_], it);
 	if (is_called)
 		note_call(it->seat_, 0);
 	return is_called ? it->seat_ : NULL;
@@ -97,7 +103,7 @@ static struct ww_waker call_next(struct ww_seats *of, ww_seat *s, uint64_t now)
 		return (struct ww_waker){ 0 };
 	(void)take_out(of, it);
 	it->seat_ = s;
-	ww_enter_line(of->lines, CALLED, of->lines[CALLED].end, it);
+	put_into(of, CALLED, of->lines[CALLED].end, it);
 	note_call(s, now + LEASE);
 	return take_waker(it);
 }
@@ -114,7 +120,7 @@ static struct ww_waker pass_on_late(struct ww_seats *of, uint64_t now)
 	if (!late || !of->lines[WAITS].first || now < of->pool->called[late->seat_ - of->seats])
 		return (struct ww_waker){ 0 };
 	waker = call_next(of, take_out(of, late), now);
-	ww_enter_line(of->lines, WAITS, of->lines[WAITS].end, late);
+	put_into(of, WAITS, of->lines[WAITS].end, late);
 	return waker;
 }
 
@@ -287,7 +293,7 @@ static void look_for_seat(struct ww_seats *of, struct ww_seek *me)
 	bool is_only = !of->lines[WAITS].first;
 	ww_seat *s = take_out(of, me);
 
-	ww_enter_line(of->lines, WAITS, &of->lines[WAITS].first, me);
+	put_into(of, WAITS, &of->lines[WAITS].first, me);
 	if (is_barred(of->pool))
 		return;
 	if (s >= &of->seats[of->open] || !claim(s))
@@ -363,7 +369,7 @@ bool ww_queue_up(struct ww_seek *me)
 	if (of->lines[CALLED].seekers >= of->open)
 		waker = pass_on_late(of, ww_now());
 	is_only = !of->lines[WAITS].first;
-	ww_enter_line(of->lines, WAITS, of->lines[WAITS].end, me);
+	put_into(of, WAITS, of->lines[WAITS].end, me);
 	if (is_only && (of == &p->threads || !is_barred(p)))
 		s = claim_or_make(of);
 	served = s || (me->heeds_ && ww_ends_waits(p));

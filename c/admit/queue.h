@@ -14,9 +14,6 @@ WW_HIDDEN bool ww_queue_up(struct ww_seek *me);
  * waker from now on.
  */
 WW_HIDDEN bool ww_poll_seat(struct ww_seek *me, const struct ww_waker *otherwise);
-/* Puts a waiter at this place into the line of those that are WAITS, or CALLED (`which`); and takes it out. The queue is locked. */
-WW_HIDDEN void ww_enter_line(struct ww_line *lines, uint32_t which, struct ww_seek **at, struct ww_seek *it);
-WW_HIDDEN void ww_leave_line(struct ww_line *line, struct ww_seek *it);
 /* Takes the waiter out of the queue. False: it was served before, so it has a seat, or its wait has ended. */
 WW_HIDDEN bool ww_leave_queue(struct ww_seek *me);
 /*

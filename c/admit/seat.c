@@ -45,7 +45,7 @@
  *	its lease is over	the seat is handed to a task that waits, and has another lease (ww_hands_over)
  *	else			the seat is given: the loop that gave it may use it again; and a task is called for it, unless one is
  *
- * The table of what becomes of a waiter is in pool.h.
+ * The table of what becomes of a waiter is at the head of queue.c.
  *
  * So if nobody is in a call, none of the seats that may be claimed is free while a thread waits. While a task waits that wasn't
  * called, another task is called for each seat that is free: a task that gives up its call has looked at that seat, and a task that
@@ -142,16 +142,22 @@ ww_seat *ww_seat_to_begin(struct ww_pool *p)
 
 int ww_await_seat_to_begin(struct ww_pool *p, const struct timespec *until, bool heeds, ww_seat **s)
 {
-	int r;
+	bool has_waited, refused = false;
+	int r = 0;
 
-	*s = NULL;
 	prepare_thread_with_own(p);
-	r = UNLIKELY(is_crowded(p)) ? ww_await_permit(p, until, heeds, s) : 0;
-	if (!r && !*s)
+	has_waited = UNLIKELY(is_crowded(p)) && ww_await_permit(p, until, heeds, &refused);
+	if (UNLIKELY(has_waited || refused) && heeds && ww_ends_waits(p))
+		r = -EINTR;
+	else if (UNLIKELY(refused))
+		r = until == &ww_no_wait ? -EAGAIN : -ETIMEDOUT;
+	else
 		*s = until == &ww_no_wait ? ww_free_seat(p) : ww_own_or_any(p);
 	if (!r && !*s)
 		r = until == &ww_no_wait ? -EAGAIN : ww_seek_seat(p, until, heeds, s);
-	return r == -ETIMEDOUT && until == &ww_no_wait ? -EAGAIN : r;
+	if (has_waited)
+		stop_waiting(p);
+	return r;
 }
 
 /*
@@ -162,12 +168,17 @@ int ww_await_seat_to_begin(struct ww_pool *p, const struct timespec *until, bool
 ww_seat *ww_task_seat(struct ww_pool *p, bool is_within)
 {
 	struct ww_seats *of = of_tasks(p);
-	ww_seat *s;
+	ww_seat *s = NULL;
 
 	prepare_thread(p);
-	s = of == &p->threads ? any_seat(p) : claim_last(of, p);
-	if (!s && of != &p->threads && !is_barred(p) && !has_seekers(of) && !(s = ww_claim_any(of)))
-		s = ww_claim_new(of, open_seats(of));
+	if (of == &p->threads)
+		s = any_seat(p);
+	else
+		s = claim_last(of, p);
+	if (!s && of != &p->threads && !is_barred(p) && !has_seekers(of)) {
+		s = ww_claim_any(of);
+		s = s ? s : ww_claim_new(of, open_seats(of));
+	}
 	for (uint32_t k = 0; is_within && !s && k < made_seats(of); k++)
 		s = claim(&of->seats[k]) ? &of->seats[k] : NULL;
 	return !s && is_within ? ww_claim_new(of, of->count) : s;

@@ -350,7 +350,7 @@ static void put_counts(struct ww_out *to, const struct seen *c)
 	put_count(to, " of ", seats_in(c));
 	put_count(to, " contexts in use, waits for a context: ", waiters(&c->at->threads) + waiters(&c->at->tasks));
 	if (SEES(is_crowd, c->at->is_crowded) && is_crowd && SEES(width, c->at->crowd.limiter.width) && width != NO_LIMIT &&
-	    SEES(waiting, c->at->crowd.line.seekers)) {
+	    SEES(waiting, c->at->crowd.waiting)) {
 		put_count(to, "; a crowd, permits: ", width);
 		put_count(to, ", waits for one: ", waiting);
 	}

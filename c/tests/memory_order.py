@@ -404,10 +404,7 @@ TABLE = {
         "ww_set_at_hand": "store rlx",
     },
     # Whoever gives a seat looks for seekers then; a seeker has said so before it looks for a seat.
-    "seekers": {
-        "has_seekers": "load sc", "ww_leave_line": "fetch_sub sc", "ww_enter_line": "fetch_add sc", "waiters_of": "load rlx, load rlx",
-        "waiting_threads": "load rlx",
-    },
+    "seekers": {"has_seekers": "load sc", "take_out": "fetch_sub sc", "put_into": "fetch_add sc", "waiters_of": "load rlx, load rlx"},
     # When to look at a limiter next, which is asked again under its lock.
     "due": {
         "look_at_crowd": "store rlx", "goes_on": "load rlx", "ww_reset_crowd": "store rlx", "open_seats_of": "store rlx", "look_at_limiter": "store rlx",
@@ -415,11 +412,11 @@ TABLE = {
     },
     # Changed under the lock of numbers; whoever frees a class at 0 sees all that those wrote who had one.
     "taken": {"find_number": "fetch_add rlx", "ww_give_locked": "fetch_sub rel", "taken_numbers": "load acq", "make_slot": "fetch_sub rel"},
-    # The seat that is handed over, and all that goes with it. A thread that is called for a permit looks under the lock of the queue.
-    "served_": {
-        "ww_enter_line": "store rlx", "ww_leave_queue": "store rlx", "hand_to": "store rel", "ww_seek_seat": "load acq", "ww_poll_seat": "load acq",
-        "ww_call_waiting": "store rlx",
-    },
+    # How many wait for a permit, changed under the lock of the queue but by who has entered; whoever frees the class sees who does.
+    "waiting": {"wait_for_permit": "fetch_add sc", "stop_waiting": "fetch_sub sc", "waiting_threads": "load sc"},
+    # The seat that is handed over, and all that goes with it.
+    "is_called": {"ww_call_waiting": "store rlx"},
+    "served_": {"put_into": "store rlx", "ww_leave_queue": "store rlx", "hand_to": "store rel", "ww_seek_seat": "load acq", "ww_poll_seat": "load acq"},
     # Counts, which order nothing; and glances of the debug library. What a waiter in its list did before is ordered by its lock.
     "sought": {"open_seats_of": "store rlx", "ww_reset_crowd": "store rlx", "ww_class_stats": "load rlx, load rlx, load rlx"},
     "waits": {"ww_class_stats": "load rlx"},
@@ -470,7 +467,7 @@ PLAIN = {
     # Of seekers; memory_of_pool has empty queues. One that was served, by another or by itself, reads its own.
     "lines->first": "queue: ",
     "lines->end": "queue: memory_of_pool",
-    "line->end": "queue: memory_of_pool",
+    "line->end": "queue: ",
     "me->seat_": "queue: seek ww_free_seat ww_seek_seat",
     "me->served_": "queue: ww_seek_seat",
     "me->waker_": "queue: ww_seek_seat",
@@ -505,6 +502,12 @@ PLAIN = {
     "crowd->quiet_until": "by: in_child",
     "crowd->permits": "queue: ww_reset_crowd",
     "crowd->quiet": "queue: ww_reset_crowd",
+    "crowd->first": "queue: ww_reset_crowd",
+    "crowd->end": "queue: ww_reset_crowd",
+    "it->is_called": "queue: ",
+    "me->is_called": "queue: ",
+    "me->next": "queue: ",
+    "me->link": "queue: ",
     "crowd->since": "queue: ",
     "crowd->sought": "queue: ",
     "crowd->held": "queue: ",
@@ -916,6 +919,15 @@ def cancelled(makes, looks):
     )
 
 
+def waited(begins):
+    """Whoever waited for a permit uses a seat, against whoever frees the class."""
+    return (
+        [[W("busy", 1, "rlx"), X("w", "waiting", add(-1), begins)], [R("w", "waiting", "acq"), IF("w", 0, R("b", "busy", "acq"))]],
+        lambda r, f: r[1].get("b") == 0,
+        {"waiting": 1},
+    )
+
+
 def share(marks, looks, finds):
     """A reader marks, and then looks whether the mutex is free; against a writer, which has it, and then looks for the mark."""
     return (
@@ -1027,6 +1039,7 @@ def wrong():
     yield "a seat is made by a release", cancelled("rel", "sc")
     yield "who cancels a class looks by an acquire which seats were made", cancelled("sc", "acq")
     yield "a number is put back relaxed", given("rlx")
+    yield "whoever stood in the line says relaxed that it begins", waited("rlx")
     yield "a reader marks by a release", share("rel", "sc", "sc")
     yield "a reader looks relaxed whether the mutex is free", share("sc", "rlx", "sc")
     yield "a writer looks relaxed for a mark", share("sc", "sc", "rlx")
@@ -1074,6 +1087,7 @@ def ours():
     yield "a seat is made, and another thread claims it", *made("rel", "acq")
     yield "a seat is made while the class is cancelled", *cancelled("sc", "sc")
     yield "a class is freed once all numbers are put back", *given("rel")
+    yield "a class isn't freed while who stood in the line begins", *waited("rel")
     yield "a seat of a world goes from user to user", [
         [W("handle", 1), X("p", "taken", put(0), "rel")],
         [X("t", "taken", put(1), "acq"), IF("t", 0, R("h", "handle"))],

@@ -179,7 +179,7 @@ static void a_cancel_ends_all(void)
 	by = begin_thread(cancels, NULL);
 	in_many(until_cancelled);
 	end_thread(by);
-	MUST(to_do < THREADS && !waiting_threads(c->pool));
+	MUST(to_do < THREADS && !c->pool->crowd.waiting);
 	set_crowded(c->pool, false);
 }
 

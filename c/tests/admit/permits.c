@@ -31,17 +31,17 @@ static const uint32_t *is_called, *sleeps_on; /* who was called last; and who se
 static bool was_called, goes_on;      /* who slept last was called meanwhile; it would have been woken, or not have slept */
 
 /* In place of other threads that wait. */
-static struct ww_seek others[60000], *last_of_others = others;
+static struct ww_turn others[60000], *last_of_others = others;
 
 /* Whether a thread that waits for a permit of c sleeps on this word. */
 static bool is_turn(const uint32_t *word)
 {
-	const struct ww_seek *it = c.pool->crowd.line.first;
+	const struct ww_turn *it = c.pool->crowd.first;
 
-	if (word >= &others->served_ && word < (const uint32_t *)last_of_others)
+	if (word >= &others->is_called && word < (const uint32_t *)last_of_others)
 		return true;
-	while (it && &it->served_ != word)
-		it = it == others ? last_of_others[-1].next_ : it->next_; /* others stand behind one another */
+	while (it && &it->is_called != word)
+		it = it == others ? last_of_others[-1].next : it->next; /* others stand behind one another */
 	return it;
 }
 
@@ -144,16 +144,24 @@ static void come(uint32_t many)
 	struct ww_crowd *crowd = &c.pool->crowd;
 
 	crowd->sought += many;
+	crowd->waiting += many;
 	for (; many; many--, last_of_others++) {
-		*last_of_others = (struct ww_seek){ 0 };
-		ww_enter_line(&crowd->line, WAITS, crowd->line.end, last_of_others);
+		*last_of_others = (struct ww_turn){ .link = crowd->end };
+		*crowd->end = last_of_others;
+		crowd->end = &last_of_others->next;
 	}
 }
 static void go(uint32_t many)
 {
+	struct ww_crowd *crowd = &c.pool->crowd;
+	struct ww_turn *first = last_of_others - many, *last = last_of_others - 1;
+
+	crowd->waiting -= many;
 	last_of_others -= many;
-	for (uint32_t k = 0; k < many; k++)
-		ww_leave_line(&c.pool->crowd.line, &last_of_others[k]);
+	if (many) {
+		*first->link = last->next;
+		*(last->next ? &last->next->link : &crowd->end) = first->link;
+	}
 }
 
 /* This thread's lease is over. */
@@ -254,7 +262,7 @@ static void looks_in_turn(void)
 			ends_at(1, first);
 			ends_at(2, before + FAR);
 			come(place);
-			sleeps_on = &others->served_;
+			sleeps_on = &others->is_called;
 			asleep = all_end;
 			looked = sleeps();
 			sleeps_on = NULL;
@@ -527,10 +535,10 @@ static void the_first_is_called(void)
 		ends_at(0, ww_now() + FAR);
 		come(3);
 		asleep = it_gives_back;
-		sleeps_on = &others[k].served_;
+		sleeps_on = &others[k].is_called;
 		MUST(sleeps() == 1 && is_called == sleeps_on && !was_called);
 		for (unsigned each = 0; each < 3; each++)
-			MUST(others[each].served_ == (each <= k));
+			MUST(others[each].is_called == (each <= k));
 		go(3);
 		MUST(!ww_class_free(&c));
 	}
@@ -545,7 +553,7 @@ static void none_is_called_twice(void)
 	for (unsigned k = 1; k < 3; k++) {
 		unsigned before = calls_in_all;
 
-		sleeps_on = &others[k].served_;
+		sleeps_on = &others[k].is_called;
 		ww_call_waiting(c.pool, false);
 		MUST(is_called == sleeps_on && calls_in_all - before == 3 - k);
 	}
@@ -557,7 +565,7 @@ static void none_is_called_twice(void)
 /* Who was called and looks in vain falls asleep as one that wasn't called. */
 static void is_no_more_called(void)
 {
-	MUST(c.pool->crowd.line.first->served_ == WAITS);
+	MUST(!c.pool->crowd.first->is_called);
 	all_end();
 }
 static void is_called_in_vain(void)
@@ -587,7 +595,7 @@ static void the_next_one(void)
 	asleep = two_are_over;
 	called = 0;
 	MUST(sleeps() == 1 && has(0) && called == 1);
-	MUST(c.pool->crowd.line.first == others && c.pool->crowd.line.end == &others->next_);
+	MUST(c.pool->crowd.first == others && others->link == &c.pool->crowd.first);
 	go(1);
 	MUST(!ww_class_free(&c));
 }
@@ -1015,7 +1023,7 @@ static void ends_for_all(void)
 	opens(&c, 1);
 	ends_at(0, ww_now() + FAR);
 	come(2);
-	sleeps_on = &others->served_;
+	sleeps_on = &others->is_called;
 	asleep = it_ends;
 	MUST(sleeps() == 1 && goes_on && !has_one() && waiting_threads(c.pool) == 2);
 	sleeps_on = NULL;

@@ -1,5 +1,5 @@
 #!/usr/bin/env python3
-"""All that tasks may do by the tables at the head of seat.c and in pool.h, where they wait for contexts.
+"""All that tasks may do by the tables at the heads of seat.c and queue.c, where they wait for contexts.
 
 A model of return_otherwise, ww_queue_up, ww_poll_seat, ww_leave_queue, ww_poll_take_back and ww_class_cancel, of few tasks, threads and
 seats: each access of a seat's `busy`, of `seekers`, `called`, `open` or `ends_waits` is a step, and what changes under the lock `queue`

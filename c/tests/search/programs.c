@@ -229,7 +229,7 @@ static void end_calls(void)
 }
 
 /* Somebody waits for a permit, though there is no crowd. */
-static bool is_uncalled(const struct ww_pool *of) { return of->crowd.line.seekers && !is_crowded(of); }
+static bool is_uncalled(const struct ww_pool *of) { return of->crowd.waiting && !is_crowded(of); }
 
 /* ---- ww_mutex.h, ww_number.h ---- */
 
@@ -290,7 +290,7 @@ void il_check(const struct il_program *p)
 	for (unsigned k = 0; numbered && k < 3; k++)
 		MUST(ww_number_put(numbers[k], &c) == (k == 2 && names(p, "P") ? -EINVAL : 0));
 	if (c.pool) {
-		MUST(!c.pool->threads.lines[WAITS].seekers && !c.pool->threads.lines[WAITS].first && !c.pool->crowd.line.seekers);
+		MUST(!c.pool->threads.lines[WAITS].seekers && !c.pool->threads.lines[WAITS].first && !c.pool->crowd.waiting);
 		MUST(!names(p, "E") || !is_crowded(c.pool));
 		most += !!own + tasks;
 		if (is_crowded(c.pool))
@@ -969,7 +969,7 @@ static bool are_waiting(void) { return numbered ? SEEN(c.pool->numbered[numbers[
 /* Or it was, but no longer: all leases are over. */
 static bool is_sought(void)
 {
-	return waiters_of(&c.pool->threads) || waiters_of(&c.pool->tasks) || waiting_threads(c.pool) || is_later();
+	return waiters_of(&c.pool->threads) || waiters_of(&c.pool->tasks) || SEEN(c.pool->crowd.waiting) || is_later();
 }
 
 static void act(struct user *u, char what, const char *how)

@@ -38,7 +38,7 @@ struct task {
 	enum { NOT_LENT, LENT, WAS_CALLED, TAKEN } waker; /* TAKEN: back, so nobody calls it */
 	bool is_ended;	  /* what is in x may be used, and is refused; else it has never begun */
 	bool of_tasks;	  /* its context is one of those that tasks have for themselves */
-	unsigned place;	  /* WAITS, CALLED or SERVED: where it stands, while it seeks: see pool.h */
+	unsigned place;	  /* WAITS, CALLED or SERVED: where it stands, while it seeks: see queue.c */
 	bool is_roused;	  /* a waker that it left was to be called; it hasn't polled since */
 	bool was_ended;	  /* by a cancel, so it gets none */
 	const ww_seat *seat; /* of tasks: for which it was called, then which it was handed, then its context's */
