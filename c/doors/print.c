@@ -11,18 +11,23 @@
 #include <errno.h>
 #include <signal.h>
 #include <string.h>
+#include <sys/mman.h>
 #include <sys/uio.h>
 #include <unistd.h>
 
 bool ww_look(void *copy, const void *at, size_t size)
 {
 	struct iovec to = { copy, size }, from = { (void *)(uintptr_t)at, size };
+	uintptr_t from_page = (uintptr_t)at & -(uintptr_t)sysconf(_SC_PAGESIZE);
 
 	if (process_vm_readv(getpid(), &to, 1, &from, 1, 0) == (ssize_t)size)
 		return true;
 	if (errno == EFAULT || errno == 0)
 		return false;
-	memcpy(copy, at, size); /* the system has no such call, as an emulator, or refuses it */
+	/* The system has no such call, as an emulator, or refuses it. Then another call says whether the pages are there. */
+	if (msync((void *)from_page, (uintptr_t)at + size - from_page, MS_ASYNC))
+		return false;
+	memcpy(copy, at, size);
 	return true;
 }
 
