@@ -271,8 +271,12 @@ template <class... Ones> void all_ways()
 /* While many numbers are taken. */
 [[gnu::noinline]] void call_beside_many()
 {
-	call_init_and_destroy();
-	call_take_and_put();
+	uint32_t number;
+	ww_mutex m;
+
+	ww_mutex_init(&m, &objects);
+	must(!ww_mutex_destroy(&m));
+	must(!ww_number_take(&number, &objects) && !ww_number_put(number, &objects));
 }
 /* So many keys stay locked, a quarter of what the class has mutexes for. */
 void fill_table(unsigned many)
