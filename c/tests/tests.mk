@@ -37,6 +37,9 @@ WRAPS_turns = pthread_mutex_lock pthread_mutex_unlock
 WRAPS_poll_wakers = syscall pthread_mutex_unlock
 WRAPS_warnings = ww_go_on_ clock_gettime
 
+# What runs programs for another processor: for a test that runs itself.
+export WW_RUN = $(RUN)
+
 # What programs are called with: how many calls, transactions, loops, threads, or seconds.
 WORDS_abuse_sanitized = 500000
 WORDS_number_storm_sanitized = 4000

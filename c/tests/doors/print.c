@@ -233,7 +233,7 @@ static char *said_by(const char *program, const char *name)
 	if (!child) {
 		dup2(ends[1], 2);
 		setenv("WW_PRINT", name, 1);
-		execl(program, program, "hangs", (char *)NULL);
+		execl("/bin/sh", "sh", "-c", "exec $WW_RUN \"$0\" hangs", program, (char *)NULL); /* maybe by an emulator */
 		_exit(9);
 	}
 	close(ends[1]);
