@@ -113,8 +113,8 @@ struct ww_pool {
 
 /*
  * The words of the proved library's locks, two for each lock. As that library is compiled, a seat's memory begins with the address
- * of its table, and the table's second word is the address of an array, in which so many words come before these. The first one of
- * that array counts the timestamps that contexts have drawn, which a debugger reads. tests/base/numbers.c tests that it is so.
+ * of its table, and the table's second word is the address of an array. DRAWN_BEFORE words of that array come before these; the first
+ * word of all counts the timestamps that contexts have drawn, which a debugger reads. tests/base/numbers.c tests that it is so.
  */
 enum { DRAWN_BEFORE = 16 };
 static inline const uint64_t *words_of(const ww_seat *s)

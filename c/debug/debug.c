@@ -208,8 +208,7 @@ static void note_alone(const struct ww_mutex *m, const struct timespec *until)
 		return;
 	about(m);
 	ww_warn(ONCE, p->class_, "ww_mutex_lock", &watch_of(s)->began,
-			  "deadlocks through locks without a context are not detected; "
-			  "the thread holds a mutex by what began at");
+		"deadlocks through locks without a context are not detected; the thread holds a mutex by what began at");
 }
 
 /* Notes that the context got -EDEADLK at the mutex: it has to release all, and then to wait for this mutex first. */
@@ -319,11 +318,11 @@ static bool report_unlooked(const struct ww_mutex *m)
 {
 	const ww_seat *s = ww_any_seat_with(REFUSED_AT, (uintptr_t)m);
 
-	if (s)
+	if (s) {
 		about(m);
-	if (s)
 		ww_fault(s->pool->class_, "ww_mutex_unlock", &watch_of(s)->asked,
 			 "the context doesn't hold the mutex: nothing looked at the -EDEADLK that its lock returned at");
+	}
 	return s;
 }
 

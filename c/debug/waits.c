@@ -185,7 +185,8 @@ static void look_for_long_wait(void)
 	if (holder && !mine.seen && seconds_of_patience() && ww_has_come(&mine.is_long))
 		ww_warn(ONCE, p->class_, "a wait", &holder->began,
 			  "it has lasted %u seconds; mutex %u" NAMED " at %p is held by what %sbegan at", seconds_of_patience(), number,
-			  NAME(name_of_mutex(p, number)), (void *)mutex_with(&p->numbers, number), has_ended(holder) ? "a thread that has ended left; it " : "");
+			  NAME(name_of_mutex(p, number)), (void *)mutex_with(&p->numbers, number),
+			  has_ended(holder) ? "a thread that has ended left; it " : "");
 }
 
 static uint64_t *handed(const struct ww_seats *of) { return &of->pool->debug->handed[of == &of->pool->tasks]; }

@@ -42,8 +42,8 @@ enum {
 	IS_POLLED = 128, /* a lock call of ww_poll.h waits for the mutex `polled` */
 	IS_PRELOCKED = 256, /* the context has waited for the mutex `prelocked`, for which the body of its loop hasn't asked yet */
 	IS_TOLD = 512, /* the context got -EDEADLK at `contending_lock`, and hasn't locked its reader slot since */
-	HAD_KEYS = 2048, /* the context has had a key of a table, so `keys` of its seat may list tables of which it has keys now */
 	WAS_TOLD = 1024, /* the context got -EDEADLK, but the proved library forgot it, as a shared lock call acquired a lock and failed */
+	HAD_KEYS = 2048, /* the context has had a key of a table, so `keys` of its seat may list tables of which it has keys now */
 };
 
 /*
@@ -64,7 +64,7 @@ enum {
  * The last four phases are those of a loop: the table in loop.c says what comes next in each, and in all four the context lists
  * what it acquired. After its first list of locks (list.c) a context is in one of them, too. In BY_HAND the list has what the
  * context acquired since its last unlock. A poll turns each other phase but LOOP_OWES into IN_POLL, and its end turns IN_POLL back.
- * The flags, IS_DONE, IS_TOLD, HAD_KEYS and WAS_TOLD may be set in each phase.
+ * The flags, IS_DONE, IS_TOLD, WAS_TOLD and HAD_KEYS may be set in each phase.
  */
 enum phase { HAS_ENDED, IN_POLL, BY_HAND, LOOP_EASE, LOOP_OWES, LOOP_FIRST, LOOP_TOLD };
 static inline enum phase phase_of(const struct ww_acquire_ctx *x)

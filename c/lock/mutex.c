@@ -239,8 +239,10 @@ int ww_mutex_lock_slow_checked(struct ww_mutex *m, struct ww_acquire_ctx *x) { r
 
 void ww_mutex_lock_slow(struct ww_mutex *m, struct ww_acquire_ctx *x)
 {
-	if (UNLIKELY(ww_lock_slowly(m, x, &waits_on)))
-		NOTE(ABOUT, .mutex = m), end_of(ww_find_class_of(m), "ww_mutex_lock_slow", not_due);
+	if (UNLIKELY(ww_lock_slowly(m, x, &waits_on))) {
+		NOTE(ABOUT, .mutex = m);
+		end_of(ww_find_class_of(m), "ww_mutex_lock_slow", not_due);
+	}
 }
 
 int ww_mutex_lock_slow_until(struct ww_mutex *m, struct ww_acquire_ctx *x, const struct timespec *until)
@@ -310,8 +312,10 @@ int ww_mutex_lock_alone_(struct ww_mutex *m)
 {
 	int r = lock_alone(m, &waits_on);
 
-	if (UNLIKELY(r))
-		NOTE(ABOUT, .mutex = m), end_of(ww_find_class_of(m), "ww_mutex_lock", reason_of_first(m, r));
+	if (UNLIKELY(r)) {
+		NOTE(ABOUT, .mutex = m);
+		end_of(ww_find_class_of(m), "ww_mutex_lock", reason_of_first(m, r));
+	}
 	return 0;
 }
 
@@ -375,8 +379,10 @@ int ww_mutex_trylock_else_(struct ww_mutex *m, struct ww_acquire_ctx *x)
 	const char *why;
 	int r = try_admitted(m, x, check_call(x ? CALL_LOCK : CALL_ALONE, m, x, NULL, &why));
 
-	if (UNLIKELY(r < 0))
-		NOTE(ABOUT, .mutex = m), end_of(ww_find_class_of(m), "ww_mutex_trylock", why);
+	if (UNLIKELY(r < 0)) {
+		NOTE(ABOUT, .mutex = m);
+		end_of(ww_find_class_of(m), "ww_mutex_trylock", why);
+	}
 	return r;
 }
 
