@@ -25,7 +25,7 @@ PREFIX = /usr/local
 $(if $(word 2,$(PREFIX))$(word 2,$(DESTDIR)),$(error a PREFIX or DESTDIR with a space is refused: make would take it for two))
 MANDIR = $(PREFIX)/share/man
 DOCDIR = $(PREFIX)/share/doc/ww
-TOOLS = explain trace picture json
+TOOLS = explain json picture slow top trace
 TOOLSDIR = $(PREFIX)/share/ww/tools
 MAKES_C = $(MAKE) --no-print-directory -C c CROSS='$(CROSS)' RUN='$(RUN)' PREFIX='$(abspath $(PREFIX))'
 
@@ -61,15 +61,19 @@ check: $(MADE)
 check-program: $(PROGRAM)
 	+@checks/check_made --program $(PROGRAM) '$(CROSS)' $(RUN)
 
-install: $(MADE)
-	install -d $(DESTDIR)$(PREFIX)/bin $(DESTDIR)$(MANDIR)/man1 $(DESTDIR)$(DOCDIR) $(DESTDIR)$(TOOLSDIR)
+install: $(MADE) install-tools
+	install -d $(DESTDIR)$(PREFIX)/bin $(DESTDIR)$(MANDIR)/man1 $(DESTDIR)$(DOCDIR)
 	[ ! -e $(ASSEMBLY) ] || install -m 755 $(PROGRAM) $(DESTDIR)$(PREFIX)/bin
 	[ ! -e $(ASSEMBLY) ] || install -m 644 program/ww_run.1 $(DESTDIR)$(MANDIR)/man1
 	tools/install_pages $(DESTDIR)$(DOCDIR)
-	install -m 755 $(TOOLS:%=tools/%) $(DESTDIR)$(TOOLSDIR)
-	install -m 644 tools/command.py tools/core.py tools/inputs.py tools/printed.py tools/waits.py $(DESTDIR)$(TOOLSDIR)
 	+$(MAKES_C) install
 	@[ -n '$(DESTDIR)' ] || echo 'Programs find libww.so after ldconfig, or with -Wl,-rpath,$(abspath $(PREFIX))/lib; pkg-config --static ww takes libww.a.'
+
+# The tools for users. tools/top reads gdb's script.
+install-tools:
+	install -d $(DESTDIR)$(TOOLSDIR)
+	install -m 755 $(TOOLS:%=tools/%) $(DESTDIR)$(TOOLSDIR)
+	install -m 644 $(addprefix tools/,command.py core.py inputs.py printed.py waits.py) c/install/libww-gdb.py $(DESTDIR)$(TOOLSDIR)
 
 uninstall:
 	rm -f $(DESTDIR)$(PREFIX)/bin/ww_run $(DESTDIR)$(MANDIR)/man1/ww_run.1
@@ -80,4 +84,4 @@ clean:
 	rm -f $(PROGRAM) $(PROGRAM).o $(PROGRAM).sources $(OUT)/demo
 	+$(MAKES_C) clean
 
-.PHONY: all no-program library demo check check-program install uninstall clean
+.PHONY: all no-program library demo check check-program install install-tools uninstall clean

@@ -32,7 +32,7 @@ QUICK := budget c_names documents edits gate layers limits names packages protot
 SOURCES := format refuse_abuses scene try_cases try_using
 PROVED := prove generated_ww_c generated_ww_run by_rattle aarch64_program growths_of_tests
 WP := $(shell checks/check_wp --units) eva
-OF_C := kills c_tests c_threads rust $(WP:%=wp_%) wp_text wp_faults dist aarch64 c_compilers c_pages c_installed gdb simulated kernel instructions make
+OF_C := kills c_tests c_threads rust $(WP:%=wp_%) wp_text wp_faults dist aarch64 c_compilers c_pages gdb simulated kernel instructions make
 OF_PROGRAM := soak refuse_growths tools run large parks program_fails
 .PHONY: all quick sources proofs library program list made_library made_program $(QUICK) $(SOURCES) $(PROVED) $(OF_C) $(OF_PROGRAM)
 
@@ -47,7 +47,7 @@ READS_format := checks/check_format
 READS_refuse_abuses := checks/refuse_abuses checks/abuses.blocks
 READS_scene := checks/check_scene checks/scenes.py checks/endless.py checks/loops.py
 READS_try_cases := checks/try_cases program/cases program/examples
-READS_try_using := checks/try_using docs/RATTLE.md
+READS_try_using := checks/try_using docs/RATTLE.md docs/bank_tests.rt tools/crates.bash
 sources: $(call asked,$(SOURCES))
 list:
 	@printf '%s\n' $(QUICK) $(call asked,$(SOURCES)) $(if $(filter yes,$(PROOFS)),$(PROVED)) made_library made_program $(OF_C) $(OF_PROGRAM)
@@ -69,9 +69,8 @@ growths_of_tests: | prove       ; $(call check,60) checks/refuse_library_growths
 made_library:                   ; $(call made,30) bash -c '$(MAKE) -s -C c OUT=out/gate all && mkdir -p $(dir $(ARCHIVE)) && ar rcsD $(ARCHIVE) $(OF_MAKE)/core.o'
 c_tests:                        ; $(call made,120) $(MAKE) -s -k -C c OUT=out/gate check
 c_threads:                      ; $(call made,120) $(MAKE) -s -k -C c OUT=out/gate check-thread
-c_compilers c_pages:            ; $(call check,60) checks/check_$@
-c_installed:                    ; $(call check,60) checks/check_$@
-gdb:                            ; $(call check,30) checks/check_$@ $(OF_MAKE)
+c_pages:                        ; $(call check,60) checks/check_$@
+gdb c_compilers:                ; $(call check,60) checks/check_$@ $(OF_MAKE)
 # By itself, in three copies: what they are built of is built once.
 kills:                          ; $(call check,90) c/tests/search/kills -j 3 $(if $(WHOLE),,--most 30 $(BASE:%=--changed %))
 simulated:                      ; $(call check,60) checks/check_simulated

@@ -24,8 +24,8 @@
  * It prints how many records were locked by transactions that ended in the time, in how many
  * nanoseconds; how many of these the thread locked that locked fewest; how many transactions
  * there were, and how often all of them began anew; and nanoseconds of the transaction that is
- * longer than 99 of 100, to a sixteenth, and of the longest. loads peer prints the name of the
- * peer, if there is one.
+ * longer than 999 of 1,000, to a sixteenth, and of the longest. loads peer prints the name of
+ * the peer, if there is one.
  */
 #include <algorithm>
 #include <array>
@@ -290,10 +290,10 @@ public:
 		return sum;
 	}
 	std::uint64_t longest() const { return most; }
-	// That of the one which so many of a hundred don't exceed.
-	std::uint64_t of_hundred(unsigned part) const
+	// That of the one which so many of a thousand don't exceed.
+	std::uint64_t of_thousand(unsigned part) const
 	{
-		std::uint64_t left = count() * part / 100;
+		std::uint64_t left = count() * part / 1000;
 		unsigned k = 0;
 
 		while (k + 1 < of.size() && left >= of[k])
@@ -406,7 +406,7 @@ void tell(const nodes<Lock> &all, const std::vector<tally> &tallies, std::chrono
 	if (sum != added)
 		std::exit(wrong_sum);
 	std::printf("%lu %lld %lu %lu %lu %lu %lu", locked_by(tallies), static_cast<long long>(time.count()), fewest,
-		    took.count(), again, took.of_hundred(99), took.longest());
+		    took.count(), again, took.of_thousand(999), took.longest());
 	for (unsigned long it : marks)
 		std::printf(" %lu", it);
 	std::puts("");

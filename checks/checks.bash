@@ -153,7 +153,7 @@ status_for() {
 
 # Runs a command under a time limit, which a busy machine doesn't reach, and leaves its exit status in `status`: 124 if it took
 # too long.
-limit=$((300 * ${WW_TEST_PATIENCE:-1}))
+limit=$((900 * ${WW_TEST_PATIENCE:-1}))
 observe() {
     status=0
     timeout "$limit" "$@" || status=$?
@@ -190,8 +190,14 @@ must_end() {
     if [ -n "$words" ]; then
         grep -q -F -e "$words" "$work/errors" || fail "'$words' isn't told: $(cat "$work/errors")"
     else
-        cmp "$work/errors" /dev/null >&2 || fail "standard error isn't empty"
+        cmp "$work/errors" /dev/null >&2 || fail "standard error isn't empty: $(cat "$work/errors")"
     fi
+}
+
+# ends STATUS TEXT WORDS COMMAND..: runs a command, of which this must have come.
+ends() {
+    observe_apart "${@:4}"
+    must_end "${@:1:3}"
 }
 
 # Starts a command in the background, once fewer run than `most`, or than there are processors. How it ended it has to
@@ -206,14 +212,5 @@ start() {
     running=$((running + 1))
 }
 
-# Compiles a source of checks/ that is to be preloaded into a file. The kit's compiler comes without headers and
-# start-up code, and these sources need neither.
-make_library() {
-    local kit how=(-shared -fPIC -nostdlib -O1 -o "$2" "$1")
-    if command -v cc >/dev/null; then
-        cc "${how[@]}"
-    else
-        kit=$(dirname "$(rt doc)")/toolchain/bin
-        "$kit/clang" --ld-path="$kit/ld.lld" "${how[@]}"
-    fi || fail "$1 can't be compiled"
-}
+# Compiles a source of checks/ that is to be preloaded into a file.
+make_library() { cc -shared -fPIC -O1 -o "$2" "$1" || fail "$1 can't be compiled"; }

@@ -2,36 +2,15 @@
  * gives its processor away, and before a thread begins to wait in the system or wakes another. So threads meet at
  * points between which they mostly pass in no time. Some waits end at once, as the system may let them at any time.
  *
- * DELAYS_SEED says which delays are drawn, and each thread draws its own. It includes no header and wants no start-up
- * code, so that a compiler that stands alone can make it too. */
-
-typedef __SIZE_TYPE__ size_t;
-
-struct pause {
-    long seconds;
-    long nanoseconds;
-};
-
-enum { INTERRUPTED = 4 };
-
-/* The call of the system by which threads wait and wake, and the low bits of its second word for a wait. */
-#if defined(__x86_64__)
-enum { FUTEX = 202 };
-#elif defined(__aarch64__)
-enum { FUTEX = 98 };
-#else
-#error "the number of the call futex isn't known here"
-#endif
-enum { COMMANDS = 127, WAIT = 0 };
-
-/* Where the C library's own function of a name stands that is defined here too. */
-#define BEHIND ((void *)-1)
-
-char *getenv(const char *name);
-unsigned long strtoul(const char *text, char **end, int base);
-void *dlsym(void *where, const char *name);
-int nanosleep(const struct pause *pause, struct pause *left);
-int *__errno_location(void);
+ * DELAYS_SEED says which delays are drawn, and each thread draws its own. */
+#define _GNU_SOURCE
+#include <dlfcn.h>
+#include <errno.h>
+#include <linux/futex.h>
+#include <sched.h>
+#include <stdlib.h>
+#include <sys/syscall.h>
+#include <time.h>
 
 void *__libc_malloc(size_t size);
 void *__libc_calloc(size_t count, size_t size);
@@ -50,8 +29,8 @@ static __thread unsigned long drawn __attribute__((tls_model("initial-exec")));
 
 __attribute__((constructor)) static void start(void) {
     const char *text = getenv("DELAYS_SEED");
-    yield_behind = (int (*)(void))dlsym(BEHIND, "sched_yield");
-    call_behind = (long (*)(long, long, long, long, long, long, long))dlsym(BEHIND, "syscall");
+    yield_behind = (int (*)(void))dlsym(RTLD_NEXT, "sched_yield");
+    call_behind = (long (*)(long, long, long, long, long, long, long))dlsym(RTLD_NEXT, "syscall");
     seed = (text ? strtoul(text, 0, 10) : 0) + 1;
 }
 
@@ -67,8 +46,7 @@ static unsigned long draw(void) {
 }
 
 static void sleep_below(unsigned long nanoseconds) {
-    struct pause pause = {0, 0};
-    pause.nanoseconds = (long)(draw() % nanoseconds);
+    struct timespec pause = {0, (long)(draw() % nanoseconds)};
     nanosleep(&pause, 0);
 }
 
@@ -108,13 +86,13 @@ int sched_yield(void) {
 }
 
 long syscall(long number, long first, long second, long third, long fourth, long fifth, long sixth) {
-    if (number == FUTEX && seed != 0) {
-        int waits = (second & COMMANDS) == WAIT;
+    if (number == SYS_futex && seed != 0) {
+        int waits = (second & FUTEX_CMD_MASK) == FUTEX_WAIT;
         unsigned long what = draw();
         if (waits && what % 7 == 0)
             return 0;
         if (waits && what % 7 == 1) {
-            *__errno_location() = INTERRUPTED;
+            errno = EINTR;
             return -1;
         }
         if (what % 3 == 2)

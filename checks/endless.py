@@ -145,10 +145,6 @@ def waits_owning(node, step):
 OF_STEPS = (sleeps, firsts_ask, backs_off, takes_contended_first, waits_owning)
 WAITERS_GO_ON = (made, heard, settled, looks, leaves, sleeps)
 
-# What is kept in the place of a premise that is left out, since it says less.
-WEAKER = {holders_release: holders_go_on}
-
-
 # ---- the laws, as specs/Theorem.antt has them
 
 
@@ -172,11 +168,6 @@ def deadlocked(w):
 
 def somebody_waits(w, s):
     return any(core_of(w.state).waiters)
-
-
-def oldest_waits(w, s):
-    core = core_of(w.state)
-    return waits(w, 0) and not core.sign[0] and bool(core.owned(0))
 
 
 NO_DEADLOCK_LASTS = Law(
@@ -204,12 +195,20 @@ NO_LIVELOCK = Law(
     lambda w, step, s: step[0] in ("fast", "take", "leave") or step[:2] == ("die", s),
     seats=(0, 1),
 )
-OLDEST_IS_SERVED = Law(
-    "oldest_is_served",
-    (*WAITERS_GO_ON, holders_release, firsts_ask),
-    oldest_waits,
-    lambda w, step, s: step[0] in ("take", "leave") and step[1] == 0,
-)
+
+
+def served(seat, owning=True):
+    """What is proved of the oldest in Wound-Wait, if it owns a lock, of this seat."""
+
+    def concerns(w, s):
+        core = core_of(w.state)
+        return waits(w, seat) and not core.sign[seat] and (bool(core.owned(seat)) or not owning)
+
+    comes = lambda w, step, s: step[0] in ("take", "leave") and step[1] == seat
+    return Law("oldest_is_served", (*WAITERS_GO_ON, holders_release, firsts_ask), concerns, comes)
+
+
+OLDEST_IS_SERVED = served(0)
 OLDEST_ENDS = Law(
     "oldest_ends",
     (*WAITERS_GO_ON, holders_release, firsts_ask, contexts_end, waits_owning, rests_not),
@@ -236,6 +235,9 @@ CONTEXTS_ARE_OVER = Law(
     lambda w, step, s: step[:2] == ("end", 1),
 )
 
+# What is kept in the place of a premise that is left out, since it says less.
+WEAKER = {(OLDEST_IS_SERVED, holders_release): holders_go_on}
+
 # For each law: the kind, locks, seats and events with which a run that breaks it is searched for, and which premises
 # are left out, one at a time.
 SEARCHES = [
@@ -247,11 +249,18 @@ SEARCHES = [
     (WAITS_END, WAIT_DIE, 1, 2, EVENTS, (sleeps, firsts_ask)),
     (NO_LIVELOCK, WOUND_WAIT, 2, 2, EVENTS, (backs_off,)),
     (NO_LIVELOCK, WAIT_DIE, 2, 2, EVENTS, (backs_off,)),
-    (OLDEST_IS_SERVED, WOUND_WAIT, 2, 2, EVENTS, (holders_release, firsts_ask)),
+    (OLDEST_IS_SERVED, WOUND_WAIT, 2, 2, EVENTS, (made, heard, settled, looks, leaves, holders_release, firsts_ask)),
     (OLDEST_ENDS, WOUND_WAIT, 1, 2, EVENTS + " end", (contexts_end,)),
     (BACKING_OFF_ENDS, WOUND_WAIT, 2, 2, EVENTS, (older_are_over,)),
     (BACKING_OFF_ENDS, WAIT_DIE, 2, 2, EVENTS, (older_are_over,)),
-    (CONTEXTS_ARE_OVER, WAIT_DIE, 1, 2, EVENTS + " end", (contexts_end_or_die,)),
+    (
+        CONTEXTS_ARE_OVER,
+        WAIT_DIE,
+        1,
+        2,
+        EVENTS + " end",
+        (made, heard, settled, looks, leaves, holders_release, contexts_end_or_die),
+    ),
 ]
 
 
@@ -416,10 +425,11 @@ def texts(steps):
 #
 # And one that dies keeps its sign as long as it owns a lock: so without backing off it dies again and again, though the
 # older context rests that signed it, whose wait was cancelled.
+#
+# Nor is what holds of the oldest that owns a lock in Wound-Wait true of others, or of one that owns none, or in Wait-Die.
 FOLLOWED = [
     (
-        BACKING_OFF_ENDS,
-        backs_off,
+        ((BACKING_OFF_ENDS, backs_off),),
         WOUND_WAIT,
         2,
         3,
@@ -428,8 +438,7 @@ FOLLOWED = [
         "guard 1 0; join 1 0; die 1 0; unguard 1 0",
     ),
     (
-        OLDEST_ENDS,
-        waits_owning,
+        ((OLDEST_ENDS, waits_owning), (served(0, owning=False), None), (served(3), None)),
         WOUND_WAIT,
         2,
         4,
@@ -440,8 +449,7 @@ FOLLOWED = [
         "guard 2 1; give 2 1; unguard 2 1; wakes 2 1; rises 1; guard 1 1; take 1 1; unguard 1 1",
     ),
     (
-        CONTEXTS_ARE_SERVED,
-        contexts_end_or_die,
+        ((CONTEXTS_ARE_SERVED, contexts_end_or_die), (OLDEST_IS_SERVED, None)),
         WAIT_DIE,
         3,
         4,
@@ -453,8 +461,7 @@ FOLLOWED = [
         "falls asleep 2",
     ),
     (
-        CONTEXTS_ARE_SERVED,
-        takes_contended_first,
+        ((CONTEXTS_ARE_SERVED, takes_contended_first),),
         WAIT_DIE,
         3,
         4,
@@ -509,8 +516,8 @@ def of_steps(premises):
     return tuple(it for it in OF_STEPS if it in premises)
 
 
-def all_but(premise, premises):
-    kept = [WEAKER.get(it) if it is premise else it for it in premises]
+def all_but(premise, law):
+    kept = [WEAKER.get((law, it)) if it is premise else it for it in law.asked]
     return tuple(it for it in kept if it)
 
 
@@ -519,17 +526,18 @@ def premises_matter():
     failed, runs_of = False, functools.lru_cache(maxsize=1)(Runs)
     for law, kind, locks, seats, names, left_out in SEARCHES:
         for premise in (None, *left_out):
-            kept = all_but(premise, law.asked)
+            kept = all_but(premise, law)
             found, spoken_of = runs_of(kind, locks, seats, names, of_steps(kept)).run_that_breaks(law, kept)
             said = "no run breaks it" if not found else "{}; and then for ever: {}".format(*map(texts, found))
             without = f" without {premise.__name__}" if premise else ""
             print(f"{kind}, {locks} locks, {seats} seats, {law.name}{without}: {said} ({spoken_of} scenes)")
             failed |= (found is None) != (premise is None) or not spoken_of
-    for law, premise, *run in FOLLOWED:
+    for laws, *run in FOLLOWED:
         kind, locks, seats, to, again = run
-        whole, but_one = (breaks(law, it, *run) for it in (law.asked, all_but(premise, law.asked)))
-        is_broken = but_one and not whole
-        said = f"{to}; and then for ever: {again}" if is_broken else "THE RUN DOESN'T BREAK IT"
-        print(f"{kind}, {locks} locks, {seats} seats, {law.name} without {premise.__name__}: {said}")
-        failed |= not is_broken
+        for law, premise in laws:
+            is_broken = breaks(law, all_but(premise, law), *run) and not (premise and breaks(law, law.asked, *run))
+            said = f"{to}; and then for ever: {again}" if is_broken else "THE RUN DOESN'T BREAK IT"
+            of = f"{law.name} without {premise.__name__}" if premise else f"{law.name} where it isn't said to hold"
+            print(f"{kind}, {locks} locks, {seats} seats, {of}: {said}")
+            failed |= not is_broken
     return not failed

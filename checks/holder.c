@@ -1,24 +1,12 @@
 /* Preloaded before a program, this stops a thread that holds locks. Of the threads beside the first one, whichever first
  * asks for HOLD_BYTES or more at once sleeps for a second before it gets them, and writes one byte to descriptor 9: so
- * the others wait for that long, and whoever started the program can tell that they did.
- *
- * It includes no header and wants no start-up code, so that a compiler that stands alone can make it too. */
-
-typedef __SIZE_TYPE__ size_t;
-
-struct pause {
-    long seconds;
-    long nanoseconds;
-};
+ * the others wait for that long, and whoever started the program can tell that they did. */
+#define _GNU_SOURCE
+#include <stdlib.h>
+#include <time.h>
+#include <unistd.h>
 
 enum { TOLD = 9 };
-
-char *getenv(const char *name);
-unsigned long strtoul(const char *text, char **end, int base);
-long write(int descriptor, const void *bytes, size_t count);
-int nanosleep(const struct pause *pause, struct pause *left);
-int getpid(void);
-int gettid(void);
 
 /* What the C library does under the name below, where nothing stands before it. */
 void *__libc_malloc(size_t size);
@@ -34,7 +22,7 @@ __attribute__((constructor)) static void start(void) {
 }
 
 static void hold(void) {
-    struct pause second = {1, 0};
+    struct timespec second = {1, 0};
     if (gettid() == getpid() || __atomic_exchange_n(&held, 1, __ATOMIC_SEQ_CST))
         return;
     while (nanosleep(&second, &second) != 0) {

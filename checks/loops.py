@@ -1,5 +1,5 @@
 """What crates/ww_loops asks of retry loops, of a few seats and locks: without each premise some run keeps the others, and some
-loop never ends; and where all are kept each loop ends.
+loop never ends; and where all are kept each loop ends. The same of the oldest context's loop in Wound-Wait, of which less is asked.
 
 So this is a second reading of specs/Loops.antt, by scenes: it knows no calls, and each seat stands in one phase of its loop. Each
 seat has a context from the start, seat 0 the oldest, and its loop has just begun.
@@ -84,13 +84,28 @@ def few_loops(node, step):
 
 
 OF_STEPS = (finite, told_wants_none, first_takes_contended, few_loops)
-LOOPS_END = Law(
-    "loops_end",
-    (made, heard, settled, looks, leaves, finite, told_wants_none, first_takes_contended, asks, backs_off, releases, few_loops),
-    lambda w, s: w.loops[s].phase != OUTSIDE,
-    lambda w, step, s: step == ("ends loop", s),
-    seats=(0, 1),
-)
+ROUNDS_GO_ON = (made, heard, settled, looks, leaves, finite, told_wants_none, first_takes_contended, asks, backs_off, releases)
+
+
+def of_loops(name, asked, seats):
+    return Law(name, asked, lambda w, s: w.loops[s].phase != OUTSIDE, lambda w, step, s: step == ("ends loop", s), seats)
+
+
+LOOPS_END = of_loops("loops_end", (*ROUNDS_GO_ON, few_loops), (0, 1))
+
+
+def loop_of(seat):
+    """What is proved of the oldest's loop in Wound-Wait, of this seat's. That it waits forever for its first lock is an end as the law
+    tells it."""
+
+    def waits_owning(s, n, seats):
+        if s == seat:
+            yield Asked(lambda w: True, lambda step, w: not waits(w, seat) or bool(core_of(w.state).owned(seat)))
+
+    return of_loops("oldest_loop_ends", (*ROUNDS_GO_ON, waits_owning), (seat,))
+
+
+OLDEST_LOOP_ENDS = loop_of(0)
 
 
 # ---- the runs
@@ -173,22 +188,26 @@ class LoopRuns(Runs):
                 yield ("loops again", s), BEGUN
 
 
-# For each search: the kind, locks and seats, and which premises are left out, one at a time.
+# For each search: the law, kind, locks and seats, which premises are left out, one at a time, and which are kept besides, so that the
+# search is that of the law above.
 SEARCHES = [
-    (WAIT_DIE, 1, 2, (made, heard, settled, looks, leaves, finite, asks, releases)),
-    (WAIT_DIE, 2, 2, (backs_off,)),
-    (WOUND_WAIT, 1, 2, (made, heard, settled, looks, leaves, finite, asks, releases)),
-    (WOUND_WAIT, 2, 2, (backs_off,)),
+    (LOOPS_END, WAIT_DIE, 1, 2, (made, heard, settled, looks, leaves, finite, asks, releases), ()),
+    (LOOPS_END, WAIT_DIE, 2, 2, (backs_off,), ()),
+    (LOOPS_END, WOUND_WAIT, 1, 2, (made, heard, settled, looks, leaves, finite, asks, releases), ()),
+    (OLDEST_LOOP_ENDS, WOUND_WAIT, 1, 2, (finite,), ()),
+    (LOOPS_END, WOUND_WAIT, 2, 2, (backs_off,), ()),
+    (OLDEST_LOOP_ENDS, WOUND_WAIT, 2, 2, (made, heard, settled, looks, leaves, asks, backs_off, releases), (few_loops,)),
 ]
 
 
 # In Wound-Wait the loop of the oldest, seat 0, waits for its first lock, and so wounds nobody. Seat 3 has that, and waits for lock 1,
 # for which 1 and 2, both older than it, loop again and again. In Wait-Die the loop of the oldest has a lock, and waits for one of
 # seat 2, which waits for lock 1: 1 and 3 loop for it again and again. Whenever seat 2 would have to die there it looks too late.
-# Without the wait for the contended lock 1 and 3 die again and again at lock 0, having taken lock 1 first.
+# Without the wait for the contended lock 1 and 3 die again and again at lock 0, having taken lock 1 first. The first two runs also
+# show why the law of the oldest's loop is one of the oldest, and of Wound-Wait.
 FOLLOWED = [
     (
-        few_loops,
+        ((LOOPS_END, few_loops), (loop_of(3), None)),
         WOUND_WAIT,
         2,
         4,
@@ -199,7 +218,7 @@ FOLLOWED = [
         "ends loop 2; guard 2 1; give 2 1; unguard 2 1; wakes 2 1; loops again 2; rises 1; guard 1 1; take 1 1; unguard 1 1",
     ),
     (
-        few_loops,
+        ((LOOPS_END, few_loops), (OLDEST_LOOP_ENDS, None)),
         WAIT_DIE,
         3,
         4,
@@ -211,7 +230,7 @@ FOLLOWED = [
         "leaves to sleep 2 1; falls asleep 2",
     ),
     (
-        first_takes_contended,
+        ((LOOPS_END, first_takes_contended),),
         WAIT_DIE,
         3,
         4,
@@ -236,18 +255,18 @@ def of_steps(premises):
     return tuple(it for it in OF_STEPS if it in premises)
 
 
-def all_but(premise):
-    return tuple(it for it in LOOPS_END.asked if it is not premise)
+def all_but(premise, premises):
+    return tuple(it for it in premises if it is not premise)
 
 
-def breaks(premises, kind, locks, seats, to, again):
-    """Whether that is a run which keeps these premises, and in which the loop of seat 0 never ends."""
+def breaks(law, premises, kind, locks, seats, to, again):
+    """Whether that is a run which keeps these premises, and in which the loop of the law's first seat never ends."""
     try:
         runs = FollowedLoops(kind, locks, seats, EVENTS, of_steps(premises), to, again)
     except Impossible:
         return False
-    made = [(runs.scene(it), go[0][0]) for it, go in enumerate(runs.steps)]
-    is_silent = all(LOOPS_END.concerns(w, 0) and not LOOPS_END.comes(w, step, 0) for w, step in made)
+    made, s = [(runs.scene(it), go[0][0]) for it, go in enumerate(runs.steps)], law.seats[0]
+    is_silent = all(law.concerns(w, s) and not law.comes(w, step, s) for w, step in made)
     nodes = set(range(len(runs.nodes)))
     return runs.closes and is_silent and runs.part_to_stay_in(nodes, runs.steps, runs.asked(premises)) == nodes
 
@@ -255,18 +274,20 @@ def breaks(premises, kind, locks, seats, to, again):
 def premises_matter():
     """Whether without each premise some loop never ends, and with all of them each does."""
     failed, runs_of = False, functools.lru_cache(maxsize=1)(LoopRuns)
-    for kind, locks, seats, left_out in SEARCHES:
+    for law, kind, locks, seats, left_out, besides in SEARCHES:
         for premise in (None, *left_out):
-            kept = all_but(premise)
-            found, spoken_of = runs_of(kind, locks, seats, EVENTS, of_steps(kept)).run_that_breaks(LOOPS_END, kept)
+            kept = all_but(premise, (*law.asked, *besides))
+            found, spoken_of = runs_of(kind, locks, seats, EVENTS, of_steps(kept)).run_that_breaks(law, kept)
             said = "no run breaks it" if not found else "{}; and then for ever: {}".format(*map(texts, found))
             without = f" without {premise.__name__}" if premise else ""
-            print(f"{kind}, {locks} locks, {seats} seats, loops_end{without}: {said} ({spoken_of} scenes)")
+            print(f"{kind}, {locks} locks, {seats} seats, {law.name}{without}: {said} ({spoken_of} scenes)")
             failed |= (found is None) != (premise is None) or not spoken_of
-    for premise, *run in FOLLOWED:
+    for laws, *run in FOLLOWED:
         kind, locks, seats, to, again = run
-        is_broken = breaks(all_but(premise), *run) and not breaks(LOOPS_END.asked, *run)
-        said = f"{to}; and then for ever: {again}" if is_broken else "THE RUN DOESN'T BREAK IT"
-        print(f"{kind}, {locks} locks, {seats} seats, loops_end without {premise.__name__}: {said}")
-        failed |= not is_broken
+        for law, premise in laws:
+            is_broken = breaks(law, all_but(premise, law.asked), *run) and not (premise and breaks(law, law.asked, *run))
+            said = f"{to}; and then for ever: {again}" if is_broken else "THE RUN DOESN'T BREAK IT"
+            of = f"{law.name} without {premise.__name__}" if premise else f"{law.name} where it isn't said to hold"
+            print(f"{kind}, {locks} locks, {seats} seats, {of}: {said}")
+            failed |= not is_broken
     return not failed

@@ -1,17 +1,11 @@
 /* Preloaded before a program, this refuses some of its allocations: those from number REFUSE_FIRST to number
  * REFUSE_LAST, counted from 1 since the program began, those of all its threads together. For each it writes one byte
- * to descriptor 9, so that whoever started the program can tell that something was refused, and how often.
- *
- * It includes no header and wants no start-up code, so that a compiler that stands alone can make it too. */
+ * to descriptor 9, so that whoever started the program can tell that something was refused, and how often. */
+#include <errno.h>
+#include <stdlib.h>
+#include <unistd.h>
 
-typedef __SIZE_TYPE__ size_t;
-
-enum { TOLD = 9, INVALID = 22, NO_MEMORY = 12 };
-
-char *getenv(const char *name);
-unsigned long strtoul(const char *text, char **end, int base);
-long write(int descriptor, const void *bytes, size_t count);
-int *__errno_location(void);
+enum { TOLD = 9 };
 
 /* What the C library does under the names below, where nothing stands before it. */
 void *__libc_malloc(size_t size);
@@ -45,7 +39,7 @@ static int is_refused(void) {
     /* A byte that can't be written is missed by whoever counts them, so nothing is to be done about it here. */
     if (write(TOLD, ".", 1) != 1) {
     }
-    *__errno_location() = NO_MEMORY;
+    errno = ENOMEM;
     return 1;
 }
 
@@ -71,10 +65,10 @@ void *aligned_alloc(size_t alignment, size_t size) {
 
 int posix_memalign(void **block, size_t alignment, size_t size) {
     if (alignment < sizeof(void *) || (alignment & (alignment - 1)) != 0)
-        return INVALID;
+        return EINVAL;
     void *made = memalign(alignment, size);
     if (!made)
-        return NO_MEMORY;
+        return ENOMEM;
     *block = made;
     return 0;
 }

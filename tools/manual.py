@@ -158,7 +158,7 @@ def program(formats, version):
     """The page of the program, told from the head of a page, its section on the input, and its table of statuses."""
     head = formats.split("\n## ")[0].split("\n\n", 1)[1].strip()
     reads = re.search(r"^## The input\n\n(.*?)\n\n", formats, re.DOTALL | re.MULTILINE)[1]
-    status = re.search(r"^## The exit status\n\n(.*?)\n\n(.*?)\n\n## ", formats, re.DOTALL | re.MULTILINE)
+    status = re.search(r"^## The exit status\n\n(.*?)\n\n(.*?)\n(?:\n## |\Z)", formats, re.DOTALL | re.MULTILINE)
     rows = [[cell.strip() for cell in row.strip("|").split("|")] for row in status[1].splitlines()[2:]]
     made = [f'.TH WW_RUN 1 "" "libww {version}" "Wound/wait locks"']
     made += ['.\\" Written by tools/pages from program/FORMATS.md, which says more: change that, not this page.', ".nh"]

@@ -20,7 +20,7 @@ OF_GDB = re.compile(r'class "(.*)" \((?:Wound-Wait|Wait-Die)\): .*')
 THREAD = re.compile(r"  ((?:thread|task|a thread|an unknown thread|suspended context)\b.*?)(?: at (\S+, .*?))?((?:, (?:also )?(?:timestamp \d+|without a context))+)")
 ALSO = r'(?:, mutex \d+(?: ".*")? at \w+)?'
 HOLDS = re.compile(rf"    (holds|reads) (.*?){ALSO}")
-WAITS = re.compile(rf"    waits (?:(\S+ s|since .*) )?for (?:(what .*) reads|(.*?){ALSO}, which (?:nobody|(.*)) holds)")
+WAITS = re.compile(rf"    waits (?:(\S+ s(?: longer than the newest wait)?),? )?for (?:(what .*) reads|(.*?){ALSO}, which (?:nobody|(.*)) holds)")
 MORE = re.compile(r"  and \d+ more threads at .*")
 BACKS_OFF = re.compile(r"  (.*) backs off as soon as it runs")
 
@@ -121,11 +121,13 @@ class Waits:
             self.victims = [max(self.cycle, key=began.get)]
 
     def read_gdb(self):
-        who = None
+        who = of = None
         for line in self.lines:
-            if found := THREAD.fullmatch(line):
+            if found := OF_GDB.fullmatch(line):
+                of = f" of {found[1]}" if len({*self.heads}) > 1 else ""
+            elif found := THREAD.fullmatch(line):
                 who = found[1]
-                self.add(who, *found[3][2:].split(", "), found[2] and f"at {found[2]}")
+                self.add(who, found[2] and f"at {found[2]}", *(it + of if it.startswith("timestamp") else it for it in found[3][2:].split(", ")))
             elif who and (found := HOLDS.fullmatch(line)):
                 self.add(who, found[1] == "reads" and f"reads {found[2]}")
                 if found[1] == "holds":

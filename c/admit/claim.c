@@ -6,20 +6,20 @@
  * needed. A thread's own seat is made when the thread first asks for it (seat.c). A seat for anybody is made when a thread or a
  * task finds that no seat that was made is free. Seats for anybody are made in an order: tasks begin with the first seat of tasks;
  * threads begin with the seats that tasks may not have, and then come those of tasks, the last one first. If memory is refused, the
- * class has fewer contexts meanwhile, and a caller that finds no seat waits in the queue.
+ * class has fewer contexts until memory can be had, and a caller that finds no seat waits in the queue.
  *
  * Making a seat is no step of the seat's `busy`, since nobody looks at that word before. A claim looks at a seat for anybody only
  * if the seat is among the first `made` of that order; the claim acquires `made`, which the maker released once the seat was ready.
- * A task that was called for a seat looks at it under the lock of the queue, which the maker had, too. Only its thread looks at a
- * thread's own seat: that thread made the seat itself, or came to the seat's place after the thread that did. So each user of a
- * seat sees what the maker wrote.
+ * A task that was called for a seat looks at it under the lock of the queue, which the maker had, too. At a thread's own seat only
+ * that thread looks: it made the seat itself, or came to the seat's place after the thread that did. So each user of a seat sees what
+ * the maker wrote.
  */
 #define _GNU_SOURCE
 #include "claim.h"
 
 /* ---- seats that are made ---- */
 
-/* How many seats of the array come first in the order of claims: for threads, those that tasks don't have; for tasks, all. */
+/* How many seats of the array come first in the order of claims: of `threads` those that tasks don't have, and of `tasks` all. */
 static uint32_t near_seats(const struct ww_seats *of) { return of->count - (of == &of->pool->threads ? of->pool->tasks.count : 0); }
 
 /* The seat at this place in the order of claims: the near seats, and behind these the others, of which the last one comes first. */
@@ -60,8 +60,8 @@ static ww_seat *claim_and_note(const struct ww_seats *of, ww_seat *s)
 }
 
 /*
- * Another thread may claim a seat right after this one made it, so this one goes on to the next. If memory is refused, it tries the
- * seats that were made out of this order: ww_serve makes the seat for which it calls a task.
+ * Another thread may claim a seat right after this thread made it. Then this thread makes the next one. If memory is refused, this
+ * thread tries all seats that were made, since some were made out of this order: ww_serve makes the seat for which it calls a task.
  */
 ww_seat *ww_claim_next(struct ww_seats *of, uint32_t most)
 {
@@ -93,30 +93,22 @@ ww_seat *ww_claim_new(struct ww_seats *of, uint32_t most)
 /* ---- seats that are free ---- */
 
 /*
- * Looks at all seats of the array that were made and may be claimed: first at the near ones, from the seat `from` on. A thread with
- * a seat of its own doesn't come back to a seat that it claimed here.
+ * Looks at all seats of the array that were made and may be claimed, first at the near ones. The search begins at the seat that
+ * this thread used last, so that the thread finds its own cache lines. Where threads have seats of their own, the search begins at a
+ * place by this thread's number, at which other threads don't begin.
  */
-ww_seat *ww_claim_from(const struct ww_seats *of, uint32_t from)
+ww_seat *ww_claim_any(const struct ww_seats *of)
 {
 	uint32_t open = open_seats(of), made = made_seats(of), there = made < open ? made : open;
 	uint32_t near = near_seats(of) < there ? near_seats(of) : there;
+	bool is_last = ww_mine.last.id == __atomic_load_n(&of->id, __ATOMIC_RELAXED);
+	bool spreads = of->pool->own_seats && of == &of->pool->threads;
+	uint32_t from = is_last ? (uint32_t)(ww_mine.last.seat - of->seats) : spreads ? (uint32_t)ww_mine.thread : 0;
 	ww_seat *s = NULL;
 
 	for (uint32_t k = 0; k < there && !s; k++)
 		s = claim_and_note(of, k < near ? &of->seats[(from + k) % near] : seat_at(of, k));
 	return s;
-}
-
-/*
- * The search begins at the seat that this thread used last. Where threads have seats of their own, it begins at a place by this
- * thread's number, at which other threads don't begin.
- */
-ww_seat *ww_claim_any(const struct ww_seats *of)
-{
-	bool is_last = ww_mine.last.id == __atomic_load_n(&of->id, __ATOMIC_RELAXED);
-	bool spreads = of->pool->own_seats && of == &of->pool->threads;
-
-	return ww_claim_from(of, is_last ? (uint32_t)(ww_mine.last.seat - of->seats) : spreads ? (uint32_t)ww_mine.thread : 0);
 }
 
 ww_seat *ww_own_or_any(struct ww_pool *p)

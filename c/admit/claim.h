@@ -17,15 +17,11 @@ COLD WW_HIDDEN bool ww_make_seat(struct ww_pool *p, ww_seat *s);
 /* Whether the seat was made. Until then it is memory of zeros, which only the thread that makes the seat writes. */
 static inline bool is_made(const ww_seat *s) { return __atomic_load_n(&s->pool, __ATOMIC_SEQ_CST); }
 
-/*
- * Claims a seat of this array that was made and is free: the search begins at the seat `from`, or at one that suits this thread.
- * NULL: none is free.
- */
-WW_HIDDEN ww_seat *ww_claim_from(const struct ww_seats *of, uint32_t from);
+/* Claims a seat of this array that was made, is free, and may be claimed now. NULL: there is none. */
 WW_HIDDEN ww_seat *ww_claim_any(const struct ww_seats *of);
 /*
- * Makes the next seat of this array and claims it, unless `most` seats of the array were made: callers that found no free seat come
- * here. NULL: there is none. The first one of these two is called while the queue is locked; the second one locks the queue.
+ * For callers that found no free seat: makes the next seat of this array and claims it, unless `most` seats of the array were made
+ * already. NULL: there is none. ww_claim_next is called while the queue is locked, and ww_claim_new locks the queue.
  */
 COLD WW_HIDDEN ww_seat *ww_claim_next(struct ww_seats *of, uint32_t most);
 WW_HIDDEN ww_seat *ww_claim_new(struct ww_seats *of, uint32_t most);

@@ -7,9 +7,8 @@
 #include "../base/sleep.h"
 #include <limits.h>
 #include <string.h>
-#include <sys/mman.h>
 
-/* A class has one seat more than contexts. No context uses this spare seat: ww_has_users looks by it who uses a mutex. */
+/* A class has one seat more than contexts, the spare seat. No context uses it: ww_has_users makes its steps by it (used.c). */
 enum { SPARE = 1 };
 
 static struct ww_pool *freed; /* the pools of classes that were freed, whose memory is used again */
@@ -63,21 +62,14 @@ static bool was_idle(struct ww_pool *p)
 }
 
 /*
- * Ends the rest of each seat, since the threads whose contexts would share its age don't exist in the child. A suspended context
- * keeps its age: it may go on both in the parent and in the child.
- */
-static void stop_rests(struct ww_pool *p)
-{
-	for (uint32_t k = 0; k < seats_of(p); k++)
-		if (!is_suspended(&p->seats[k]))
-			stop_rest(&p->seats[k]);
-}
-
-/*
- * A class that nobody used goes on in the child, as do its mutexes. In any other class, also in a child of this child, threads were
- * in the middle of their calls, and don't exist here. So no seat and no number of that class is given any more, nobody waits in its
- * queues or looks at its limiters, and nobody takes its locks. The memory of freed classes is used again, though a thread may have
- * been about to leave its last context or mutex there: so these get new locks. Opening is locked.
+ * A class that nobody used goes on in the child, as do its mutexes. But no seat of it rests any more, since the threads whose
+ * contexts would share its age don't exist in the child. Only a suspended context keeps its age: it may go on both in the parent and
+ * in the child.
+ *
+ * In any other class, also in a child of this child, threads were in the middle of their calls, and don't exist here. So no seat and
+ * no number of that class is given any more, nobody waits in its queues or looks at its limiters, and nobody takes its locks. The
+ * memory of freed classes is used again, though a thread may have been about to leave its last context or mutex there: so these get
+ * new locks. Opening is locked.
  */
 static void in_child(void)
 {
@@ -85,7 +77,9 @@ static void in_child(void)
 		struct ww_pool *p = (struct ww_pool *)it;
 
 		if (was_idle(p)) {
-			stop_rests(p);
+			for (uint32_t k = 0; k < seats_of(p); k++)
+				if (!is_suspended(&p->seats[k]))
+					stop_rest(&p->seats[k]);
 			continue;
 		}
 		p->gone = true;
@@ -127,7 +121,10 @@ __attribute__((constructor(101))) static void load(void)
 
 /* ---- what an open class consists of ---- */
 
-/* The memory of a class that was freed, or new memory; NULL if there is none. */
+/*
+ * The memory of a class that was freed, whose queues are empty; or new memory, in which all but the locks and the queues is 0. NULL if
+ * memory is refused.
+ */
 static struct ww_pool *memory_of_pool(void)
 {
 	struct ww_pool *p = freed;
@@ -161,7 +158,7 @@ static void keep_memory(struct ww_pool *p)
 	freed = p;
 }
 
-/* Prepares the queues of a class that is opened, which no other thread sees yet. */
+/* Prepares both arrays of seats of a class that is opened, which no other thread sees yet. No seat is made so far. */
 static void open_seats_of(struct ww_pool *p)
 {
 	struct ww_seats *tasks = &p->tasks;
@@ -198,37 +195,38 @@ static void close_world(struct ww_pool *p)
  * Makes the spare seat, the first seat that threads come to, and the first that tasks come to. So whoever waits in a queue waits
  * for somebody who has a seat.
  */
-static int make_first_seats(struct ww_pool *p)
+static bool make_first_seats(struct ww_pool *p)
 {
 	p->threads.seats = p->seats;
 	p->tasks.seats = &p->seats[p->threads.count - p->tasks.count];
 	p->before_own = &p->seats[p->threads.count - 1];
 	if (ww_make_seat(p, spare_of(p)) && ww_make_seat(p, p->seats) && (!p->tasks.count || ww_make_seat(p, p->tasks.seats)))
-		return 0;
+		return true;
 	close_world(p);
-	return -ENOMEM;
+	return false;
 }
 
+/* Opens the world of the proved library that the class has, with its first seats. */
 static int open_world(struct ww_pool *p, bool is_wait_die)
 {
+	uint64_t begins = ((uint64_t)1 << 52) - 1; /* so many contexts may begin by each seat */
 	int r;
 
 	ww_heap_opens();
-	r = ww_open_world_(is_wait_die, p->numbers.locks, ((uint64_t)1 << 52) - 1, (uint16_t)(seats_of(p) + SPARE), &p->world);
-	if (!r)
-		r = make_first_seats(p);
-	if (!r) {
-		p->span = p->numbers.span;
-		p->words = (uintptr_t)words_of(p->seats);
-	}
+	r = ww_open_world_(is_wait_die, p->numbers.locks, begins, (uint16_t)(seats_of(p) + SPARE), &p->world);
 	p->bytes = ww_heap_opened() + bytes_of_seats(p) + ww_bytes_of_numbers(&p->numbers);
-	return r;
+	if (r || !make_first_seats(p))
+		return r ? r : -ENOMEM;
+	p->span = p->numbers.span;
+	p->words = (uintptr_t)words_of(p->seats);
+	return 0;
 }
 
+/* Makes the pool of a class that is opened. If it can't be made, its memory is kept for another class. */
 static int make_pool(struct ww_class *c, bool has_own, struct ww_pool **made)
 {
-	struct ww_pool *p = memory_of_pool();
-	bool has_numbers;
+	struct ww_pool *p = *made = memory_of_pool();
+	bool has_memory;
 	int r;
 
 	if (!p)
@@ -243,18 +241,17 @@ static int make_pool(struct ww_class *c, bool has_own, struct ww_pool **made)
 	p->tasks.id = ~p->id;
 	open_seats_of(p);
 	__atomic_store_n(&p->ends_waits, false, __ATOMIC_SEQ_CST);
-	has_numbers = ww_open_numbers(&p->numbers, c->mutexes);
+	ww_reset_crowd(p);
+	has_memory = ww_open_numbers(&p->numbers, c->mutexes, seats_of(p));
 	p->seats = ww_take_zeros(bytes_of_seats(p));
-	r = has_numbers && p->seats ? ww_debug_open(p) : -ENOMEM;
+	r = has_memory && p->seats ? ww_debug_open(p) : -ENOMEM;
 	if (!r) {
 		r = open_world(p, !!c->is_wait_die);
-		ww_reset_crowd(p);
 		if (r)
 			NOTE(CLASS_FREED, .pool = p);
 	}
 	if (r)
 		keep_memory(p);
-	*made = p;
 	return r;
 }
 
@@ -263,15 +260,20 @@ static int make_pool(struct ww_class *c, bool has_own, struct ww_pool **made)
 /* Opens the class, unless it is open. Opening is locked. */
 static int open_now(struct ww_class *c, bool has_own)
 {
-	struct ww_pool *p = NULL;
-	int r = 0;
+	struct ww_pool *p;
+	int r;
 
-	if (!c->pool && !(r = ww_prepare()) && !(r = make_pool(c, has_own, &p))) {
-		p->next = ww_all_open;
-		ww_all_open = &p->open;
-		__atomic_store_n(&c->pool, p, __ATOMIC_RELEASE);
-	}
-	return r;
+	if (c->pool)
+		return 0;
+	r = ww_prepare();
+	if (!r)
+		r = make_pool(c, has_own, &p);
+	if (r)
+		return r;
+	p->next = ww_all_open;
+	ww_all_open = &p->open;
+	__atomic_store_n(&c->pool, p, __ATOMIC_RELEASE);
+	return 0;
 }
 
 COLD int ww_class_open_with(struct ww_class *c, bool has_own)
@@ -288,11 +290,9 @@ COLD int ww_class_open_with(struct ww_class *c, bool has_own)
 /* A class whose number of contexts the program sets has exactly as many, so no thread has a seat of its own there. */
 int ww_class_open(struct ww_class *c) { return ww_class_open_with(c, !NEEDED(c)->contexts); }
 
-/* Each slot by which a context reads is a mutex of the class, so the class has room for these besides the keys. */
 int ww_class_open_for(struct ww_class *c, uint32_t contexts, uint32_t keys, size_t *bytes)
 {
-	uint32_t slots = contexts ? contexts : MANY_CONTEXTS + MANY_OWN;
-	int r = keys > WW_MAX_LOCKS ? -EINVAL : ww_class_limit(NEEDED(c), (keys ? keys : MANY_MUTEXES) + slots, contexts);
+	int r = ww_class_limit(NEEDED(c), keys, contexts);
 	struct ww_pool *p;
 
 	if (!r)
@@ -322,8 +322,8 @@ static bool is_open(const struct ww_class *c, const char *call)
 
 int ww_class_limit(struct ww_class *c, uint32_t mutexes, uint32_t contexts)
 {
-	if (mutexes > WW_MAX_LOCKS || contexts > WW_MAX_SEATS - SPARE) {
-		NOTE_MISUSE(c, "ww_class_limit", "a class has at most 16,777,216 mutexes and 4,094 contexts");
+	if (mutexes > WW_MAX_LOCKS - WW_MAX_SEATS || contexts > WW_MAX_SEATS - SPARE) {
+		NOTE_MISUSE(c, "ww_class_limit", "a class has at most 16,773,121 mutexes and 4,094 contexts");
 		return -EINVAL;
 	}
 	if (is_open(NEEDED(c), "ww_class_limit"))
@@ -390,8 +390,8 @@ struct ww_class *ww_find_class_of(const struct ww_mutex *m)
 /* ---- how a class is cancelled, and freed ---- */
 
 /*
- * `ends_waits` is stored before anybody is woken, and whoever is woken looks at it after that. So does the user of a seat that
- * isn't made yet, when it waits.
+ * `ends_waits` is stored before anybody is woken, and a thread or task that is woken looks at `ends_waits` after that. A seat that
+ * isn't made yet can't be woken, but its first user looks at `ends_waits`, too, before it sleeps.
  */
 int ww_class_cancel(struct ww_class *c)
 {
@@ -412,23 +412,17 @@ int ww_class_cancel(struct ww_class *c)
 	return 0;
 }
 
-/* Frees the slots of readers. This function stands here, so that a program without shared mutexes links nothing of shared.c. */
-static void free_slots(struct ww_pool *p)
-{
-	for (uint32_t k = 0; k < MANY_BITS; k++)
-		for (struct ww_slot *slot; (slot = p->slots[k]); munmap(slot, slot->size))
-			p->slots[k] = slot->next;
-}
-
 /*
  * Frees what the class has, except its pool: a thread that gave a seat may still look there for a waiter to serve, but finds nobody
- * in the queues.
+ * in the queues. The readers' slots are freed here, so that a program without shared mutexes links nothing of shared.c.
  */
 static void free_pool(struct ww_pool *p)
 {
 	NOTE(CLASS_FREED, .pool = p);
 	close_world(p);
-	free_slots(p);
+	for (uint32_t k = 0; k < MANY_BITS; k++)
+		for (struct ww_slot *slot; (slot = p->slots[k]); ww_return_zeros(slot, slot->size))
+			p->slots[k] = slot->next;
 	free(p->numbered);
 	p->numbered = NULL;
 	keep_memory(p);

@@ -4,8 +4,8 @@
  *
  * 1. A crowd begins when a thread spends an eighth of its time in waits for locks, and doesn't sleep elsewhere, that is, outside
  * this library. A thread that does sleep elsewhere needs no permit, since it leaves its processor to others.
- * 2. There is one permit at first, or, once contexts have turned out to be long, one for each processor; and never more than that,
- * unless the program sets how many. How many are best is measured (limiter.c).
+ * 2. There is one permit at first. Once contexts have turned out to be long, there is one for each processor. There are never more
+ * permits than processors, unless the program sets how many there are. How many are best is measured (limiter.c).
  * 3. A permit lasts for a lease, in which its thread begins as many contexts as it likes. Each thread that waits for a permit
  * sleeps until its turn should come. The thread that has waited longest is called for a permit that is put back.
  * 4. A crowd ends if nobody waits for a permit, if the threads of two leases on end slept elsewhere, or if a limit is of no use.
@@ -32,8 +32,8 @@
 #include <sys/resource.h>
 
 /*
- * All times here are in nanoseconds. Where two contexts meet, the cache lines that move cost about a MEETING, besides the wait.
- * Fewer permits have to gain an eighth. They can't if contexts take longer than eight meetings.
+ * All times here are in nanoseconds. Where two contexts meet, the cache lines that move cost about a MEETING, besides the wait. A
+ * limit is kept only if it gets an eighth more contexts done. So it can't be of use where contexts take longer than eight meetings.
  */
 enum { MEETING = 1000, LONG_CONTEXT = 8 * MEETING };
 /*
@@ -41,17 +41,20 @@ enum { MEETING = 1000, LONG_CONTEXT = 8 * MEETING };
  * and few if they took less than one part in FEW_WAITS. Contexts often back off if one in OFTEN does, on average.
  */
 enum { SAMPLE = 32000, MANY_WAITS = 8, FEW_WAITS = 128, OFTEN = 16 };
-/* A thread counts as awake after so many looks on end, at samples or leases, that found that it hadn't slept elsewhere. */
+/*
+ * A thread looks at the end of each SAMPLE and of each lease whether it has slept elsewhere since its last look. It counts as awake
+ * after so many looks on end that found no such sleep.
+ */
 enum { AWAKE = 2 };
 /* A crowd ends once the threads of so many leases on end have slept elsewhere. */
 enum { SLEEPERS = 2 };
 /* For how long no crowd begins after a crowd: at first, and at most. */
 enum { QUIET = 16000000, LONGEST_QUIET = 512000000 };
-/* Contexts count as long after so long without a lease that showed short ones. Waits are summed up for half of it before they count. */
+/* Contexts count as long once no lease has shown short contexts for this time. The sums of waits count once they cover half of it. */
 enum { LONG_WINDOW = 16000000 };
 /*
- * For how many windows of the limiter long contexts have the largest width at first. The contexts that had begun before the crowd
- * end only in these, one after another, so an earlier window would tell nothing of that width.
+ * If contexts are long, the limiter keeps the largest width for so many windows at first. The contexts that had begun before the
+ * crowd end in these windows, one after another, so only a later window shows what that width is worth.
  */
 enum { LONG_HOLDS = 8 };
 /*
@@ -78,11 +81,11 @@ static uint64_t nanoseconds(const struct timespec *at)
 /* ---- whether there is one ---- */
 
 /*
- * Of the threads that sleep, the one that has waited longest is woken first, also if it has looked for a permit since it came. If
- * threads were called in the order in which they fell asleep, others would pass, lease for lease, a thread that looked in vain. A
- * thread that doesn't sleep was woken by its time or a call, but may get no processor for long, so the next one is called, too. A
- * thread that was called isn't called again before it has looked, since each call is a system call under the lock. The stores are
- * relaxed: a thread that is about to sleep on its word sees the new value. The queue is locked.
+ * Threads are called in the order in which they came. In the order in which they fell asleep, others would pass, lease after lease, a
+ * thread that has looked for a permit in vain and sleeps again. If a called thread didn't sleep, its time or an earlier call had
+ * woken it, but it may get no processor for long; so the next thread is called, too. A thread that was called isn't called again
+ * before it has looked, since each call is a system call under the lock. The stores are relaxed: a thread that is about to sleep on
+ * its word sees the new value. The queue is locked.
  */
 void ww_call_waiting(struct ww_pool *p, bool all)
 {
@@ -125,6 +128,7 @@ static void open_limiter(struct ww_pool *p, bool is_long)
 	p->crowd.is_long = is_long;
 }
 
+/* Begins a crowd, unless another thread has just begun one. */
 COLD static void begin_crowd(struct ww_pool *p, uint64_t now)
 {
 	struct ww_crowd *crowd = &p->crowd;
@@ -168,6 +172,10 @@ static void look_at_sleeps(void)
 
 static bool sleeps_elsewhere(void) { return ww_mine.awake < 0; }
 
+/*
+ * Sums up this thread's waits, each with a MEETING, since the last SAMPLE was full. If the waits of a full SAMPLE were many, and this
+ * thread doesn't sleep elsewhere, a crowd begins.
+ */
 void ww_note_wait(struct ww_pool *p, uint64_t now, uint64_t took)
 {
 	if (ww_mine.permit.id == p->id)
@@ -228,25 +236,27 @@ static void count_ended_lease(struct ww_pool *p, const struct ww_my_permit *had,
 }
 
 /*
- * Whether a limit may be of use where each processor has a permit. Then threads wait for locks for one part in FEW_WAITS of their
- * time. If contexts are long, a limit mostly keeps processors idle; so threads have to wait for half of their time, or contexts have
- * to back off often, since then fewer contexts would do less in vain. The sums begin anew while the limiter tries another width for
- * long contexts, since what threads do by fewer permits tells nothing of the largest width. The queue is locked.
+ * Whether fewer permits may be of use than one for each processor. They may be if threads wait for locks for at least one part in
+ * FEW_WAITS of their time. If contexts are long, fewer permits mostly keep processors idle. So they may be of use only if threads
+ * wait for half of their time, or if contexts often back off, since fewer contexts would do less in vain. While the limiter tries
+ * fewer permits for long contexts, the sums begin anew, since what threads do then tells nothing of the largest width.
+ *
+ * The queue is locked.
  */
 static bool sum_up_waits(struct ww_crowd *crowd, uint64_t now)
 {
-	bool is_tried = crowd->is_long && crowd->limiter.tries, does = FEW_WAITS * crowd->waited >= crowd->held;
+	bool is_tried = crowd->is_long && crowd->limiter.tries, is_of_use = FEW_WAITS * crowd->waited >= crowd->held;
 
 	if (now - crowd->looked < LONG_WINDOW / 2 && !is_tried)
 		return true;
 	if (crowd->is_long)
-		does = is_tried || 2 * crowd->waited >= crowd->held || OFTEN * crowd->backed_off >= crowd->leased;
+		is_of_use = is_tried || 2 * crowd->waited >= crowd->held || OFTEN * crowd->backed_off >= crowd->leased;
 	crowd->looked = now;
 	crowd->waited = crowd->held = crowd->leased = crowd->backed_off = 0;
-	return does;
+	return is_of_use;
 }
 
-/* Whether more threads are known than run at a time, so that a thread that is woken may not run for long. */
+/* Whether more threads are known than there are processors. Then a thread that is woken may have to wait for a processor. */
 static bool is_short_of_processors(const struct ww_pool *p) { return p->own_seats && !has_processors(p); }
 
 /* Looks at the limiter. It returns false once a limit is of no use. The queue is locked. */
@@ -279,17 +289,15 @@ static void look_at_crowd(struct ww_pool *p, uint64_t now)
 
 /* ---- permits ---- */
 
-static bool is_over(const struct ww_permit *it, uint64_t now)
-{
-	return now + TIMER_SLACK >= it->ends && (!runs_by(it->seat) || now >= it->ends + GRACE);
-}
-
 /* A permit that another thread may take now, or NULL. The queue is locked. */
 static struct ww_permit *find_over(struct ww_pool *p, uint64_t now)
 {
-	for (uint32_t k = 0; k < p->crowd.limiter.width && k < MANY_PERMITS; k++)
-		if (is_over(&p->crowd.permits[k], now))
-			return &p->crowd.permits[k];
+	for (uint32_t k = 0; k < p->crowd.limiter.width && k < MANY_PERMITS; k++) {
+		struct ww_permit *it = &p->crowd.permits[k];
+
+		if (now + TIMER_SLACK >= it->ends && (!runs_by(it->seat) || now >= it->ends + GRACE))
+			return it;
+	}
 	return NULL;
 }
 
@@ -350,9 +358,9 @@ static uint64_t turn_of(const struct ww_pool *p, uint64_t now, uint64_t place)
 }
 
 /*
- * Waits for a permit, at most until this time. The thread looks later if more threads are before it. `before` threads had come
- * before it; of all that have come by now, those that don't wait any more are counted as having been before it. The queue is
- * locked, except while the thread sleeps.
+ * Waits for a permit, at most until this time. The more threads are before this one, the later it looks. `before` is how many had
+ * come before this thread. Of all that have come by now, those that don't wait any more count as if they had come before it. The
+ * queue is locked, except while the thread sleeps.
  */
 static void wait_for_permit(struct ww_pool *p, uint64_t now, uint64_t until, bool heeds)
 {
@@ -385,14 +393,14 @@ static void wait_for_permit(struct ww_pool *p, uint64_t now, uint64_t until, boo
 }
 
 /*
- * Puts back this thread's last permit, whose lease is over, and takes a new one. Threads that wait come before it. `refused`
- * becomes true if the time limit came first, while there is a crowd.
+ * Puts back this thread's last permit, whose lease is over, and takes a new one, once all threads that wait already have had their
+ * turn. Returns what ww_await_permit does.
  */
-COLD static bool find_permit(struct ww_pool *p, uint64_t until, bool heeds, bool *refused)
+COLD static int find_permit(struct ww_pool *p, uint64_t until, bool heeds, bool *has_waited)
 {
 	uint64_t now = ww_now();
 	struct ww_my_permit had = ww_mine.permit;
-	bool had_one = had.id == p->id && had.it, waits;
+	bool had_one = had.id == p->id && had.it, waits, is_refused;
 
 	if (had_one)
 		look_at_sleeps();
@@ -405,23 +413,21 @@ COLD static bool find_permit(struct ww_pool *p, uint64_t until, bool heeds, bool
 	look_at_crowd(p, now);
 	call_one(p, now);
 	waits = is_crowded(p) && !sleeps_elsewhere() && (waiting_threads(p) || !take_permit(p, now));
-	if (waits && now < until)
+	*has_waited = waits && now < until;
+	if (*has_waited)
 		wait_for_permit(p, now, until, heeds);
-	*refused = waits && is_crowded(p) && !ww_mine.permit.ends;
+	is_refused = waits && is_crowded(p) && !ww_mine.permit.ends;
 	pthread_mutex_unlock(&p->queue);
 	(void)count_sleeps(); /* a sleep for the lock of the queue doesn't count as one elsewhere */
 	ww_mine.permit.ran = ww_mine.ran;
-	return waits && now < until;
+	return waits && heeds && ww_ends_waits(p) ? -EINTR : is_refused ? -ETIMEDOUT : 0;
 }
 
 /*
- * Whether this thread already runs a context by its own seat. Then it needs no permit, since others may wait for what that context
- * holds.
+ * This thread's lease goes on, so the thread begins one more context by its permit. If the crowd is due to be looked at, this thread
+ * looks, unless another one has the lock of the queue: then the next thread that comes here looks.
  */
-static bool has_another(const struct ww_pool *p) { return runs_by(own_seat(p)); }
-
-/* Begins one more context in this thread's lease, which isn't over; and looks at the crowd, if that is due. */
-static void goes_on(struct ww_pool *p, uint64_t now)
+static void go_on_in_lease(struct ww_pool *p, uint64_t now)
 {
 	ww_mine.permit.begins = now - ww_mine.permit.seen < ww_mine.permit.brief ? MOST_BEGINS : 0;
 	ww_mine.permit.seen = now;
@@ -432,21 +438,26 @@ static void goes_on(struct ww_pool *p, uint64_t now)
 	}
 }
 
-bool ww_await_permit(struct ww_pool *p, const struct timespec *until, bool heeds, bool *refused)
+/*
+ * A thread that sleeps elsewhere needs no permit. Nor does a thread that already runs a context by its own seat, since others may
+ * wait for what that context holds.
+ */
+int ww_await_permit(struct ww_pool *p, const struct timespec *until, bool heeds, bool *has_waited)
 {
 	uint64_t now = ww_now();
-	uint32_t unreported = ww_mine.permit.id == p->id ? ww_mine.permit.begun - ww_mine.permit.reported : 0;
-	bool waits = false;
+	bool is_mine = ww_mine.permit.id == p->id;
+	uint32_t unreported = is_mine ? ww_mine.permit.begun - ww_mine.permit.reported : 0;
+	int r = 0;
 
-	if (sleeps_elsewhere() || has_another(p))
-		return false;
-	if (ww_mine.permit.id == p->id && now < ww_mine.permit.ends)
-		goes_on(p, now);
+	if (sleeps_elsewhere() || runs_by(own_seat(p)))
+		return 0;
+	if (is_mine && now < ww_mine.permit.ends)
+		go_on_in_lease(p, now);
 	else
-		waits = find_permit(p, nanoseconds(until), heeds, refused);
-	if (*refused)
-		return waits;
-	ww_mine.permit.reported = ++ww_mine.permit.begun;
-	__atomic_fetch_add(&p->crowd.begun, unreported + 1, __ATOMIC_RELAXED);
-	return waits;
+		r = find_permit(p, nanoseconds(until), heeds, has_waited);
+	if (!r) {
+		ww_mine.permit.reported = ++ww_mine.permit.begun;
+		__atomic_fetch_add(&p->crowd.begun, unreported + 1, __ATOMIC_RELAXED);
+	}
+	return r;
 }

@@ -5,17 +5,17 @@
 
 WW_HIDDEN void ww_reset_crowd(struct ww_pool *p);
 /*
- * In a crowd, comes before a context begins, and waits for a permit: until a time limit, if that isn't NULL, or until the class is
- * cancelled, if the wait heeds that. `refused` becomes true if the thread needs a permit and got none. Returns whether the thread
- * has waited; then it still counts as one that waits, so that nobody frees the class, until it calls stop_waiting.
+ * In a crowd, comes before a context begins, and waits for a permit, if the thread needs one. -ETIMEDOUT: the time limit came, if
+ * `until` isn't NULL. -EINTR: the class was cancelled, if the wait heeds that. If `has_waited` becomes true, the thread still counts
+ * as one that waits, so that nobody frees the class, until it calls stop_waiting.
  */
-WW_HIDDEN bool ww_await_permit(struct ww_pool *p, const struct timespec *until, bool heeds, bool *refused);
+WW_HIDDEN int ww_await_permit(struct ww_pool *p, const struct timespec *until, bool heeds, bool *has_waited);
 static inline void stop_waiting(struct ww_pool *p) { __atomic_fetch_sub(&p->crowd.waiting, 1, __ATOMIC_SEQ_CST); }
 /* How many threads wait for a permit, or have got one and not yet a seat. */
 static inline uint32_t waiting_threads(const struct ww_pool *p) { return __atomic_load_n(&p->crowd.waiting, __ATOMIC_SEQ_CST); }
-/* Wakes the thread that has waited longest for a permit, or all that wait (`all`), to look for one. The queue is locked. */
+/* Wakes the thread that has waited longest for a permit, or all threads that wait (`all`); each looks for a permit. The queue is locked. */
 WW_HIDDEN void ww_call_waiting(struct ww_pool *p, bool all);
-/* This thread has waited for a lock, for so many nanoseconds (`took`) until now. */
+/* Notes that this thread has waited for a lock, for `took` nanoseconds until now. Many such waits begin a crowd. */
 WW_HIDDEN void ww_note_wait(struct ww_pool *p, uint64_t now, uint64_t took);
 
 /* Whether each thread that has seats of its own has a processor. If the class has no such seats, this isn't known, and it returns false. */
@@ -25,8 +25,8 @@ static inline bool has_processors(const struct ww_pool *p)
 }
 
 /*
- * Begins or ends the crowd. The store is relaxed: a thread that sees it late begins one more context without a permit, or looks
- * once more for a permit.
+ * Begins or ends the crowd. The store is relaxed, since a thread that sees it late does no harm: it begins one more context without a
+ * permit, or looks once more for a permit.
  */
 static inline void set_crowded(struct ww_pool *p, bool crowded)
 {

@@ -1,6 +1,7 @@
 /*
  * layout.c - where a debugger finds what: install/libww-gdb.py reads this table, and so knows no offset itself. The table lies in a
- * section of its own, which is allocated, so it stays in a stripped program or library.
+ * section of its own, which is allocated, so it stays in a stripped program or library. Debug information isn't used, since programs
+ * in production lack it.
  */
 #include "claim.h"
 #include "class.h"

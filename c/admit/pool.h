@@ -18,16 +18,18 @@ enum { MANY_CONTEXTS = 1024, MANY_TASKS = 896, EACH_TASKS = 2 };
 enum { MANY_CONTEXTS = WW_FEW + 1, MANY_TASKS = WW_FEW, EACH_TASKS = WW_FEW };
 #endif
 
-/*
- * An array of seats, and the queue of those that found no seat of it free. A class has two. `threads` has all seats that anybody
- * may use. `tasks` is the last part of these: the seats that polls may use, too. If the program sets how many contexts the class
- * has, `tasks` is empty, and tasks wait in the queue of `threads`.
- */
-enum { WAITS, CALLED, SERVED }; /* the states of a waiter, `served_`: see queue.c */
+/* The states of a waiter, `served_`: see queue.c. */
+enum { WAITS, CALLED, SERVED };
+/* The waiters that WAIT for a seat of an array, in the order in which they came; or those that are CALLED, in the order of their calls. */
 struct ww_line {
-	struct ww_seek *first, **end; /* the waiters, in the order in which they came, and the last link */
-	uint32_t seekers;	      /* how many waiters stand in this line */
+	struct ww_seek *first, **end; /* the waiters, and the last link */
+	uint32_t seekers;	      /* how many there are */
 };
+/*
+ * An array of seats, and the waiters that found no seat of it free. A class has two arrays. `threads` has all seats that anybody may
+ * use. `tasks` is the last part of these: the seats that polls may use, too. If the program sets how many contexts the class has,
+ * `tasks` is empty, and tasks wait for seats of `threads`.
+ */
 struct ww_seats {
 	struct ww_pool *pool;
 	uint64_t id; /* names the array in a thread's `last`; NO_ID: no thread comes back to the seat it used last */
@@ -36,7 +38,7 @@ struct ww_seats {
 	uint32_t open;		      /* how many of the seats may be claimed now; of `threads` all may */
 	uint32_t made;		      /* so many seats, the first in the order of claims, are made, and maybe others: see claim.c */
 	uint32_t set_aside;	      /* so many of the tasks' contexts are suspended; so many more seats may be claimed */
-	struct ww_line lines[SERVED]; /* a line of tasks and threads that wait, and a line of tasks that were called */
+	struct ww_line lines[SERVED]; /* of those that WAIT, and of those that are CALLED */
 	uint64_t sought;	      /* how many have waited in all */
 	uint64_t due;		      /* of tasks: when to look at the limiter next */
 	struct ww_limiter limiter;
@@ -133,8 +135,8 @@ static inline uint32_t seats_of(const struct ww_pool *p) { return p->threads.cou
 static inline ww_seat *spare_of(const struct ww_pool *p) { return &p->seats[seats_of(p)]; }
 
 /*
- * Makes the seat's own cancel pending. A cancel of the proved library is pending between any two calls by a seat, and no call heeds
- * it; to end a wait, ww_heed_ lets that wait heed it.
+ * Makes the seat's own cancel pending, in the proved library. Between any two calls by a seat its cancel is pending, and calls don't
+ * heed it. Only a wait that is to end is told to heed it (ww_heed_), and takes it; then it is made pending again.
  */
 static inline void ww_make_cancel_pending(ww_seat *s) { (void)ww_cancel_(&s->handle, (uint16_t)(s - s->pool->seats)); }
 

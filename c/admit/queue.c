@@ -2,8 +2,8 @@
  * queue.c - threads and tasks that found no seat free: how they wait, how they are called and served, and what ends their waits.
  *
  * Threads and tasks that wait are of one kind (struct ww_seek). A thread's waker stays until the thread is served. A task may take
- * its own waker back; then it polls, which leaves another waker. Whatever is done with the waiter meanwhile, no waker is called,
- * and the poll finds what was done. The states of a waiter:
+ * its own waker back; then it polls, which leaves another waker. Between the two, no waker is called, and the poll finds whatever was
+ * done with the waiter. The states of a waiter:
  *
  *	served_		its waker is		its next state, and what makes it
  *	WAITS		there, or taken back	CALLED: the first of all tasks that wait, for a seat that was given (call_next)
@@ -38,11 +38,11 @@ enum { ANOTHER_LOAD = 16000000 };
 
 /* ---- who waits, and gets a seat ---- */
 
-/* The waker of a thread that waits. */
+/* The waker of a thread that waits. The thread may have ended by now, so only the address of its futex word is used. */
 static void wake_seeker(void *nothing, void *served)
 {
 	(void)nothing;
-	ww_futex_wake(served); /* passes on the address alone: the thread may have ended */
+	ww_futex_wake(served);
 }
 
 /* Takes a waiter's waker, so that it is called at most once. The queue is locked. */
@@ -140,8 +140,8 @@ static struct ww_waker hand_to(struct ww_seats *of, struct ww_seek *it, ww_seat 
 	return was_for && was_for != s ? call_next(of, was_for, ww_now()) : waker;
 }
 
-/* Whether a seat that is free, or given now, may go to those that wait for this array's seats. The queue is locked. */
-static bool is_for(const struct ww_seats *of, const ww_seat *s)
+/* Whether a seat that is free, or given now, may go to a waiter of this array. The queue is locked. */
+static bool may_go_to(const struct ww_seats *of, const ww_seat *s)
 {
 	const struct ww_pool *p = of->pool;
 
@@ -149,8 +149,9 @@ static bool is_for(const struct ww_seats *of, const ww_seat *s)
 }
 
 /*
- * By now other threads may have freed the class, which its id shows. In a child of a fork nobody waits. A seat of tasks that may be
- * claimed only from now on is made before a task is called, so that the task finds it.
+ * The thread that gave the seat uses nothing of the class any more, so other threads may have freed the class by now, and opened
+ * another one in its memory: then the id has changed. In a child of a fork nobody waits. If the limiter has just opened a seat of
+ * tasks that was never used, the seat is made before a task is called, so that the task finds it.
  */
 COLD void ww_serve(struct ww_seats *of, uint64_t id, ww_seat *s, uint64_t now)
 {
@@ -160,7 +161,7 @@ COLD void ww_serve(struct ww_seats *of, uint64_t id, ww_seat *s, uint64_t now)
 	if (!has_seekers(of))
 		return;
 	pthread_mutex_lock(&p->queue);
-	if (__atomic_load_n(&p->id, __ATOMIC_RELAXED) == id && is_for(of, s) && has_seekers(of)) {
+	if (__atomic_load_n(&p->id, __ATOMIC_RELAXED) == id && may_go_to(of, s) && has_seekers(of)) {
 		if (of == &p->threads && claim(s))
 			waker = hand_to(of, of->lines[WAITS].first, s);
 		else if (of != &p->threads && ww_make_seat(p, s) && !is_in_use(s))
@@ -172,8 +173,8 @@ COLD void ww_serve(struct ww_seats *of, uint64_t id, ww_seat *s, uint64_t now)
 
 /* ---- seats of tasks ---- */
 
-/* How often, in all, the seats were given that may be claimed now. The queue is locked. */
-static uint32_t given(const struct ww_seats *of)
+/* How many contexts have ended in all, by the seats that may be claimed now. The queue is locked. */
+static uint32_t contexts_ended(const struct ww_seats *of)
 {
 	uint32_t sum = 0;
 
@@ -191,13 +192,13 @@ void ww_reset_task_limiter(struct ww_seats *of)
 }
 
 /*
- * Looks how many seats may be claimed; and notes that so many more contexts are suspended, `more`. The limiter's width doesn't
+ * Asks the limiter how many seats may be claimed; and notes that `more` contexts more are suspended. The limiter's width doesn't
  * count suspended contexts, so for each of them one seat more may be claimed.
  *
  * If more seats may be claimed from now on, tasks are called for all of these at once, since from now on the limiter measures what
  * so many contexts do. If nobody has waited for long, the limiter begins anew, since what was best for one load isn't for the next
- * one. The limiter counts how often the open seats were given; so if their number changes, its count at the begin of the window
- * changes, too.
+ * one. The limiter counts the contexts that end by the open seats. So if another number of seats is open, the count with which its
+ * window began has to be that of these seats.
  */
 COLD static void look_at_limiter(struct ww_seats *of, uint64_t now, uint32_t more)
 {
@@ -213,14 +214,14 @@ COLD static void look_at_limiter(struct ww_seats *of, uint64_t now, uint32_t mor
 		if (!of->lines[WAITS].first && now - of->due > ANOTHER_LOAD)
 			ww_reset_task_limiter(of);
 		else
-			(void)ww_limiter_look(&of->limiter, now, given(of), now);
+			(void)ww_limiter_look(&of->limiter, now, contexts_ended(of), now);
 		__atomic_store_n(&of->due, now + LEASE / 4, __ATOMIC_RELAXED);
 	}
 	limit = of->limiter.width < of->count - of->set_aside ? of->limiter.width + of->set_aside : of->count;
 	if (limit != was) {
-		of->limiter.begun = width != of->limiter.width ? 0 : of->limiter.begun - given(of);
+		of->limiter.begun = width != of->limiter.width ? 0 : of->limiter.begun - contexts_ended(of);
 		__atomic_store_n(&of->open, limit, __ATOMIC_SEQ_CST);
-		of->limiter.begun += given(of);
+		of->limiter.begun += contexts_ended(of);
 	}
 	pthread_mutex_unlock(&p->queue);
 	for (uint32_t k = was; k < limit; k++)
@@ -263,7 +264,7 @@ bool ww_hands_over(struct ww_seats *of, ww_seat *s, uint64_t now)
 	if (now < s->lease)
 		return false;
 	pthread_mutex_lock(&p->queue);
-	if (is_for(of, s))
+	if (may_go_to(of, s))
 		it = of->lines[CALLED].first ? of->lines[CALLED].first : of->lines[WAITS].first;
 	if (it) {
 		s->lease = now + LEASE;
@@ -328,6 +329,7 @@ bool ww_poll_seat(struct ww_seek *me, const struct ww_waker *otherwise)
 	return served;
 }
 
+/* If the waiter is a task that was called for a seat, the next task is called for that seat, since the waiter won't come for it. */
 bool ww_leave_queue(struct ww_seek *me)
 {
 	struct ww_seats *of = me->of_;
@@ -352,8 +354,8 @@ bool ww_leave_queue(struct ww_seek *me)
 /* ---- how a wait begins ---- */
 
 /*
- * A waiter that comes behind another one finds only seats that are meant for others, so it doesn't look. A waiter without a waker
- * is about to leave, so its wait isn't counted.
+ * A waiter that comes behind another one doesn't look for a seat, since any seat that is free is meant for those before it. A waiter
+ * without a waker is about to leave (ww_free_seat), so its wait isn't counted.
  */
 bool ww_queue_up(struct ww_seek *me)
 {
@@ -366,7 +368,7 @@ bool ww_queue_up(struct ww_seek *me)
 	if (of == &p->tasks)
 		look_if_due(of, ww_now());
 	pthread_mutex_lock(&p->queue);
-	if (of->lines[CALLED].seekers >= of->open)
+	if (of->lines[CALLED].seekers >= of->open) /* a task is called for each seat, and may be late */
 		waker = pass_on_late(of, ww_now());
 	is_only = !of->lines[WAITS].first;
 	put_into(of, WAITS, of->lines[WAITS].end, me);
@@ -399,6 +401,7 @@ static void sleep_until(struct ww_seek *me, const ww_seat *own, const struct tim
 	ww_futex_wait(&me->served_, WAITS, own && is_later ? &soon : until);
 }
 
+/* A thread whose own seat is in use waits in the queue all the same. It leaves the queue as soon as it sees that its own seat is free. */
 COLD int ww_seek_seat(struct ww_pool *p, const struct timespec *until, bool heeds, ww_seat **s)
 {
 	struct ww_seek me = { .of_ = &p->threads, .heeds_ = heeds };
@@ -428,7 +431,10 @@ COLD int ww_seek_seat(struct ww_pool *p, const struct timespec *until, bool heed
 
 /* ---- the end of all waits ---- */
 
-/* Each waker is called while nothing is locked, and the search for the next waiter begins anew, since the queue may have changed. */
+/*
+ * A waker is called while nothing is locked, since it may run code of the program. The queue may have changed meanwhile, so the search
+ * for the next waiter begins anew.
+ */
 void ww_end_seeking(struct ww_seats *of)
 {
 	struct ww_pool *p = of->pool;

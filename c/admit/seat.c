@@ -13,9 +13,9 @@
  *
  * ww_own_or_any and any_seat come first to the thread's own seat, and to other seats only if no thread waits. ww_task_seat comes to
  * other seats than the thread's last one only if no thread waits, and no task that wasn't called. All these look once, without the
- * lock of the queue; whoever comes to wait looks once more under that lock. A begin that doesn't wait, and a trylock, enter the
- * queue and leave it at once. In a crowd no seat is at hand, so each begin asks for a permit; nor does claim_last find any. A
- * thread that waits while its own seat is in use looks at that seat from time to time, since nobody hands it on.
+ * lock of the queue; a thread or task that comes to wait looks once more under that lock. A begin that doesn't wait, and a trylock,
+ * enter the queue and leave it at once. In a crowd no seat is at hand and claim_last finds none, so each begin asks for a permit. A
+ * thread that waits while its own seat is in use looks at that seat from time to time, since nobody hands a thread's own seat on.
  *
  * Seats are made when they are first needed (claim.c): a thread's own seat before ww_own_or_any first looks for it, and the next
  * seat for anybody when no seat that was made is free. So whoever waits has found all seats made and in use, unless memory was
@@ -82,27 +82,21 @@ static void prepare_thread(struct ww_pool *p)
 }
 
 /*
- * Makes this thread's own seat in the class, unless it was made. If memory is refused, this call goes on to any seat, and the
- * thread's next one tries again.
+ * Comes before this thread asks for a seat that may be its own: gives the thread seats of its own, if it may have them, and makes
+ * the one in this class. If memory for that seat is refused, this call goes on to any seat, and the thread's next call tries again.
  */
-static void make_own(struct ww_pool *p)
-{
-	ww_seat *own = own_seat(p);
-
-	if (!own || is_made(own) || p->gone)
-		return;
-	pthread_mutex_lock(&p->queue);
-	(void)ww_make_seat(p, own);
-	pthread_mutex_unlock(&p->queue);
-}
-
-/* Comes before this thread asks for a seat, and gives the thread seats of its own, if it may have them. */
 static void prepare_thread_with_own(struct ww_pool *p)
 {
+	ww_seat *own;
+
 	prepare_thread(p);
-	if (p->own_seats) {
+	if (p->own_seats)
 		ww_take_own();
-		make_own(p);
+	own = own_seat(p);
+	if (own && !is_made(own) && !p->gone) {
+		pthread_mutex_lock(&p->queue);
+		(void)ww_make_seat(p, own);
+		pthread_mutex_unlock(&p->queue);
 	}
 }
 
@@ -121,8 +115,8 @@ ww_seat *ww_other_seat(struct ww_pool *p)
 }
 
 /*
- * A thread that looks at one seat after the other may miss each time the seat that is free. So it looks once more as a waiter in
- * the queue, whom any thread that gives a seat would serve, and leaves the queue.
+ * While a thread looks at one seat after another, the seat that is free may be each time one at which it has just looked, or has yet
+ * to look. So this thread enters the queue, where whoever gives a seat serves it, looks once more, and leaves the queue.
  */
 ww_seat *ww_free_seat(struct ww_pool *p)
 {
@@ -132,7 +126,7 @@ ww_seat *ww_free_seat(struct ww_pool *p)
 	return LIKELY(s) || p->gone ? s : ww_queue_up(&me) || !ww_leave_queue(&me) ? me.seat_ : NULL;
 }
 
-/* In a crowd neither the thread's own seat is at hand, nor the one that it used last. */
+/* In a crowd a thread with a seat of its own begins by that seat alone, and only by a permit. */
 ww_seat *ww_seat_to_begin(struct ww_pool *p)
 {
 	ww_seat *own = is_crowded(p) ? own_seat(p) : NULL;
@@ -140,41 +134,38 @@ ww_seat *ww_seat_to_begin(struct ww_pool *p)
 	return UNLIKELY(own) ? use_permit(p) ? use_own(own) : NULL : claim_last(&p->threads, p);
 }
 
+/*
+ * A thread that has waited for a permit may have to wait for a seat, too. It counts as one that waits until it has the seat, so that
+ * nobody frees the class between the two waits.
+ */
 int ww_await_seat_to_begin(struct ww_pool *p, const struct timespec *until, bool heeds, ww_seat **s)
 {
-	bool has_waited, refused = false;
-	int r = 0;
+	bool has_waited = false, waits = until != &ww_no_wait;
+	int r;
 
 	prepare_thread_with_own(p);
-	has_waited = UNLIKELY(is_crowded(p)) && ww_await_permit(p, until, heeds, &refused);
-	if (UNLIKELY(has_waited || refused) && heeds && ww_ends_waits(p))
-		r = -EINTR;
-	else if (UNLIKELY(refused))
-		r = until == &ww_no_wait ? -EAGAIN : -ETIMEDOUT;
-	else
-		*s = until == &ww_no_wait ? ww_free_seat(p) : ww_own_or_any(p);
+	r = UNLIKELY(is_crowded(p)) ? ww_await_permit(p, until, heeds, &has_waited) : 0;
+	if (!r)
+		*s = waits ? ww_own_or_any(p) : ww_free_seat(p);
 	if (!r && !*s)
-		r = until == &ww_no_wait ? -EAGAIN : ww_seek_seat(p, until, heeds, s);
+		r = waits ? ww_seek_seat(p, until, heeds, s) : -ETIMEDOUT;
 	if (has_waited)
 		stop_waiting(p);
-	return r;
+	return r == -ETIMEDOUT && !waits ? -EAGAIN : r;
 }
 
 /*
- * A task has no seat of its own. While others wait, it comes back only to the seat that this thread gave last, if that is free: so
- * the tasks of one loop use its seats one after another, without a change of loops. A task that has a context already gets any
- * seat, since the waiters may wait for it.
+ * A task has no seat of its own. While others wait, a task comes back only to the seat that this thread gave last, if that is free: so
+ * the tasks of one loop use its seats one after another, without a change of loops. A task that has a context already (`is_within`)
+ * gets any seat, since the waiters may wait for what that context holds.
  */
 ww_seat *ww_task_seat(struct ww_pool *p, bool is_within)
 {
 	struct ww_seats *of = of_tasks(p);
-	ww_seat *s = NULL;
+	ww_seat *s;
 
 	prepare_thread(p);
-	if (of == &p->threads)
-		s = any_seat(p);
-	else
-		s = claim_last(of, p);
+	s = of == &p->threads ? any_seat(p) : claim_last(of, p);
 	if (!s && of != &p->threads && !is_barred(p) && !has_seekers(of)) {
 		s = ww_claim_any(of);
 		s = s ? s : ww_claim_new(of, open_seats(of));
@@ -193,8 +184,8 @@ static bool needs_call(const uint64_t *called, uint64_t now)
 }
 
 /*
- * Gives a seat of tasks, or a seat whose contexts share an age. Only a thread's own seat may rest between two contexts, so this
- * one's rest ends.
+ * Gives a seat of tasks, or a seat whose contexts share an age. Only a thread's own seat may rest between two contexts, so the rest
+ * of this seat ends.
  */
 static __attribute__((noinline)) void return_otherwise(ww_seat *s)
 {
@@ -215,6 +206,7 @@ static __attribute__((noinline)) void return_otherwise(ww_seat *s)
 		ww_serve(of, id, s, now);
 }
 
+/* Once `busy` is 0, other threads may free the class, so its id is read before. */
 void ww_return_seat(ww_seat *s)
 {
 	struct ww_seats *of = s->of;

@@ -39,8 +39,8 @@ struct ww_met {
 };
 
 /*
- * Who makes polls that nobody else goes on with, and has something that ends with the wait of such a poll: `ends` is called once
- * ww_acquire_end_wait has ended the wait.
+ * What keeps something for each wait of its polls: a lock table, or retry.c. Only the poller that began such a poll may go on with it. If
+ * the program ends the wait by ww_acquire_end_wait, that calls `ends`.
  */
 struct ww_poller {
 	void (*ends)(struct ww_poller *it, struct ww_seat *s);

@@ -40,7 +40,7 @@ enum { FIRST_HOLDS = 8, MOST_HOLDS = 64 };
 /* Lets so many contexts run from now on. While those of another width before may still run, nothing is counted (`settles`). */
 static void set_width(struct ww_limiter *limiter, uint32_t width)
 {
-	limiter->settles |= limiter->width != width;
+	limiter->settles = limiter->width != width;
 	limiter->before = limiter->width;
 	limiter->width = width;
 }

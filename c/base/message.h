@@ -8,7 +8,7 @@
 
 /*
  * The probes for perf and bpftrace, if SystemTap's header is installed. Each is an instruction that does nothing, at a place where
- * a call waits anyway. None has the program's call, which a tracer finds on the stack by the unwind tables, as tools/slow does.
+ * a call waits anyway. No probe has the program's line: a tracer finds that on the stack by the unwind tables, as tools/slow does.
  */
 #if __has_include(<sys/sdt.h>)
 #include <sys/sdt.h>
@@ -42,8 +42,8 @@ __attribute__((noreturn, cold)) static inline void end_of(const struct ww_class 
 __attribute__((noreturn, cold)) static inline void end(const char *call, const char *why) { end_of(NULL, call, why); }
 
 /*
- * A pointer that a public call got, where the call follows it first. If it is NULL, the debug library ends the program with a message:
- * `call` is what the program calls, if that isn't this function. A header says the same of the parameter by WW_NONNULL_.
+ * A pointer that the program gave to a public call, at the place where the call first follows it. If the pointer is NULL, the debug
+ * library ends the program with a message that names the call: this function, or `call`. The headers mark such a parameter by WW_NONNULL_.
  */
 #ifdef WW_DEBUG
 #define NONE_OF(it) \

@@ -29,12 +29,12 @@ enum { FULL = (1 << IN_A_LINE) - 1, IN_A_WORD = 64 / IN_A_LINE, SIX = 6 };
 /* How many mutexes have a line to themselves. */
 static uint32_t apart(uint32_t mutexes) { return mutexes < APART ? mutexes : APART; }
 
-/* How many lines a class with so many mutexes has: a quarter of their number, or more if there are few mutexes. */
-static uint32_t lines_for(uint32_t mutexes)
+/* How many lines so many mutexes and slots have: a quarter of their number, or more if there are few mutexes. */
+static uint32_t lines_for(uint32_t mutexes, uint32_t slots)
 {
-	uint32_t quarter = (mutexes + IN_A_LINE - 1) / IN_A_LINE, sparse = SPARE_LINES * apart(mutexes);
+	uint32_t quarter = (mutexes + slots + IN_A_LINE - 1) / IN_A_LINE, sparse = SPARE_LINES * apart(mutexes);
 
-	return sparse < LEAST_LINES ? LEAST_LINES : quarter > sparse ? quarter : sparse;
+	return quarter < LEAST_LINES && sparse < LEAST_LINES ? LEAST_LINES : quarter > sparse ? quarter : sparse;
 }
 
 /* How many words a level of bits has: one more than it fills, so that its last word is never full. */
@@ -51,12 +51,12 @@ static size_t bytes_of_bits(const struct ww_numbers *n)
 }
 static size_t bytes_of_others(const struct ww_numbers *n) { return n->locks * (sizeof *n->lies_at + sizeof *n->puts); }
 
-bool ww_open_numbers(struct ww_numbers *n, uint32_t mutexes)
+bool ww_open_numbers(struct ww_numbers *n, uint32_t mutexes, uint32_t slots)
 {
 	size_t before;
 
 	n->mutexes = mutexes ? mutexes : MANY_MUTEXES;
-	n->lines = lines_for(n->mutexes);
+	n->lines = lines_for(n->mutexes, slots);
 	n->span = (uint64_t)n->lines * LINE << 32;
 	n->locks = n->lines * IN_A_LINE;
 	n->of_slots = 0;
@@ -151,22 +151,31 @@ static uint32_t empty_line_from(const struct ww_numbers *n, uint32_t line)
 	return line;
 }
 
+uint32_t ww_take_locked(struct ww_numbers *n, const struct ww_mutex *m)
+{
+	uint32_t line = m ? (uint32_t)ww_likely_(m, n->span) / LINE : 0, before = n->taken + n->of_slots;
+	uint32_t number = before < apart(n->mutexes) ? empty_line_from(n, line) * IN_A_LINE : free_from(n, line * IN_A_LINE);
+
+	if (number >= n->locks)
+		number = free_from(n, 0);
+	note_taken(n, number);
+	return number;
+}
+
+/* Takes a number, unless the mutexes have as many as there may be. */
 static bool find_number(struct ww_numbers *n, const struct ww_mutex *m, uint32_t *number)
 {
-	uint32_t before, line = m ? (uint32_t)ww_likely_(m, n->span) / LINE : 0;
+	bool is_there;
 
 	pthread_mutex_lock(&n->lock);
-	before = n->taken + n->of_slots;
-	if (before < n->mutexes) {
-		*number = before < apart(n->mutexes) ? empty_line_from(n, line) * IN_A_LINE : free_from(n, line * IN_A_LINE);
-		if (*number >= n->locks)
-			*number = free_from(n, 0);
-		note_taken(n, *number);
+	is_there = n->taken < n->mutexes;
+	if (is_there) {
+		*number = ww_take_locked(n, m);
 		if (__atomic_fetch_add(&n->taken, 1, __ATOMIC_RELAXED) + 1 == WW_LARGE)
 			__atomic_store_n(&n->is_large, true, __ATOMIC_RELAXED);
 	}
 	pthread_mutex_unlock(&n->lock);
-	return before < n->mutexes;
+	return is_there;
 }
 
 void ww_leave_used(struct ww_numbers *n, uint32_t number, ww_is_used *is_used)

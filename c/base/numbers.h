@@ -20,7 +20,7 @@ struct ww_numbers {
 	uint32_t lines;	      /* how many cache lines the words of their locks have */
 	uint32_t locks;	      /* how many locks of the proved library these lines have */
 	uint32_t taken;	      /* how many numbers mutexes have */
-	uint32_t of_slots;    /* how many numbers reader slots have */
+	uint32_t of_slots;    /* how many numbers reader slots have, besides those of mutexes */
 	bool is_large;	      /* at some time there were too many mutexes for a processor's cache */
 	uint64_t span;	      /* the factor by which an address gives its line: see ww_likely_ */
 	/*
@@ -35,13 +35,15 @@ struct ww_numbers {
 	uint32_t *puts;	      /* how often each number was put back, or its mutex destroyed: this tells earlier users from later ones */
 };
 
-/* Makes the numbers for so many mutexes, or for 65,536 if that is 0. It returns false if there is no memory. */
-WW_HIDDEN bool ww_open_numbers(struct ww_numbers *n, uint32_t mutexes);
+/* Makes the numbers for so many mutexes, or for 65,536 if that is 0, and for so many slots. It returns false if there is no memory. */
+WW_HIDDEN bool ww_open_numbers(struct ww_numbers *n, uint32_t mutexes, uint32_t slots);
 WW_HIDDEN void ww_close_numbers(struct ww_numbers *n);
 /* How many bytes all numbers take. */
 WW_HIDDEN size_t ww_bytes_of_numbers(const struct ww_numbers *n);
-/* Takes a free number for the mutex at this address, or for none. It returns -ENOSPC if no number is free. */
+/* Takes a free number for the mutex at this address, or for none. It returns -ENOSPC if the mutexes have as many as there may be. */
 WW_HIDDEN int ww_take_number(struct ww_numbers *n, const struct ww_mutex *m, uint32_t *number);
+/* Takes a free number, and doesn't count it among those of the mutexes. The caller knows that one is free. The numbers are locked. */
+WW_HIDDEN uint32_t ww_take_locked(struct ww_numbers *n, const struct ww_mutex *m);
 WW_HIDDEN void ww_give_number(struct ww_numbers *n, uint32_t number);
 /* The same as ww_give_number, for a caller that has locked the numbers. */
 WW_HIDDEN void ww_give_locked(struct ww_numbers *n, uint32_t number);

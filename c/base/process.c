@@ -29,13 +29,13 @@ static bool is_prepared, is_closed;
 static void (*at_end)(void), (*in_child)(void);
 
 /*
- * A process may have several copies of the library, and may load one where another one lay before. So when it is loaded, each copy
- * makes the number from which it counts of its address and the time, by Knuth's multiplication. So no two copies have the same ids,
- * and none is NO_ID or 0.
+ * A process may have several copies of the library, and may load one at an address where another one was before. Each copy counts from a
+ * number of its own, which it makes of its address and the time when it is loaded, by Knuth's multiplication (ww_load). So no two copies
+ * have the same ids, and no id is NO_ID or 0.
  */
 uint64_t ww_this_copy = (uint64_t)1 << 62;
 
-/* The count is relaxed, since it orders nothing. */
+/* The count of threads is relaxed, since it orders nothing. */
 void ww_number_thread(void)
 {
 	static uint64_t last_thread;
@@ -104,9 +104,9 @@ void ww_report_message(const char *message)
 /* ---- processors ---- */
 
 /*
- * A thread that opens a class may have been bound to one processor before. So the processors of other threads are counted when
- * these come, and classes that are open learn of them then. The sets have room for as many processors as a kernel has. If the
- * kernel doesn't say which of them a thread may use, all that run count.
+ * The thread that opens a class may be bound to one processor, while other threads are not. So the processors of each thread are added
+ * when that thread takes seats of its own, and the open classes learn of them then. The sets have room for as many processors as a
+ * kernel has. If the kernel doesn't say which of them a thread may use, all that run count.
  */
 uint32_t ww_processors(void)
 {

@@ -24,7 +24,7 @@ void ww_debug_check_seat(const ww_seat *s, enum use use)
 
 	if (is_seat_right(s, busy, token, use))
 		return;
-	ww_warn(NOW, NULL, "libww_debug", NULL,
+	ww_warn(NULL, "libww_debug", NULL,
 		"a seat" NO_STATE "%s, busy %u, ages %u, token %u, at %p, of %p, pool %p, slot %p",
 		use == UNUSED ? "unused" : use == IN_USE ? "in use" : "about to be given", busy, s->ages, token,
 		(const void *)s, (void *)s->of, (void *)s->pool, (void *)s->slot);
@@ -58,7 +58,7 @@ void ww_debug_check_context(const struct ww_acquire_ctx *x)
 	if (x->own && (x->gives == x->own || is_loop(x)) && (x->pool == x->own->pool || x->pool == NO_POOL) &&
 	    !(x->state & ~any) && (x->state & HAD_KEYS || !x->own->keys) && is_phase_right(x))
 		return;
-	ww_warn(NOW, NULL, "libww_debug", NULL,
+	ww_warn(NULL, "libww_debug", NULL,
 		  "a context" NO_STATE "state %u, at %p, own %p, of pool %p, pool %p, gives %p", x->state,
 		  (const void *)x, (void *)x->own, x->own ? (void *)x->own->pool : NULL, (void *)x->pool, x->gives);
 	abort();

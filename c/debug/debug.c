@@ -13,6 +13,7 @@
 #include "parts.h"
 #ifdef WW_DEBUG
 #include "../doors/print.h"
+#include "../lock/loop.h"
 static __thread const ww_seat *seen_seat; /* the seat of the last context that this thread found to be one */
 
 /*
@@ -46,7 +47,7 @@ static void report_unseen(void)
 {
 #ifndef WW_FEW
 	if (!is_seen())
-		ww_warn(ONCE, NULL, "libww_debug", NULL,
+		ww_warn(NULL, "libww_debug", NULL,
 			  "the calls of this program weren't compiled with -DWW_DEBUG: "
 			  "reports have no lines, and some misuse isn't seen");
 #endif
@@ -70,7 +71,7 @@ static void report_dangers(const struct ww_pool *p, bool is_task)
 	const ww_seat *first = is_task ? NULL : ww_seat_with(p, false, A_CONTEXT, this_thread());
 
 	if (first)
-		ww_warn(ONCE, p->class_, "ww_acquire_init", &watch_of(first)->began,
+		ww_warn(p->class_, "ww_acquire_init", &watch_of(first)->began,
 			  "two contexts of a thread can wait for each other forever; "
 			  "its other one, if it wasn't left without ww_acquire_fini, began at");
 }
@@ -94,7 +95,7 @@ static void note_end(const struct ww_acquire_ctx *x)
 	struct watch *s = watch_of(x->own);
 
 	if (s->refused)
-		ww_warn(ONCE, x->own->pool->class_, "ww_acquire_fini", &s->asked,
+		ww_warn(x->own->pool->class_, "ww_acquire_fini", &s->asked,
 			  "the context loses its age: one that begins in its place is the youngest, and gives way again; "
 			  "let it back off, and go on, or suspend it (ww_retry.h); it got -EDEADLK at");
 	ww_watch_end(s);
@@ -207,7 +208,7 @@ static void note_alone(const struct ww_mutex *m, const struct timespec *until)
 	if (!s)
 		return;
 	about(m);
-	ww_warn(ONCE, p->class_, "ww_mutex_lock", &watch_of(s)->began,
+	ww_warn(p->class_, "ww_mutex_lock", &watch_of(s)->began,
 		"deadlocks through locks without a context are not detected; the thread holds a mutex by what began at");
 }
 
@@ -231,18 +232,20 @@ static void note_taken_back(const struct ww_acquire_ctx *x)
 }
 
 /*
- * Reports a lock after ww_acquire_done, and a lock that comes before the wait for the contended mutex, which is over by now. A lock
- * that is released at once isn't noted as acquired.
+ * Reports a lock after ww_acquire_done, and a lock that comes before the wait for the contended mutex, which is over by now; but not
+ * if that mutex went by its number meanwhile. A lock that is released at once isn't noted as acquired.
  */
 static void got_lock(const struct ww_mutex *m, const struct ww_acquire_ctx *x, struct watch *s)
 {
+	bool is_due = s->refused && s->refused != m && !ww_is_gone(m->pool, s->refused, x->puts);
+
 	if (x->state & IS_DONE && holder_with(m->pool, m->number) == s)
-		fault_of(m, "ww_mutex_lock", NULL, "the context is done");
-	if (s->refused && s->refused != m && s->taken_back.file)
+		fault_of(m, "ww_mutex_lock", NULL, "the context is done: ww_acquire_done comes after its last lock");
+	if (is_due && s->taken_back.file)
 		fault_of(m, "ww_mutex_lock", &s->taken_back,
 			 "after its back-off the context retries at once, and doesn't wait for the mutex at which -EDEADLK "
 			 "came: that wait was taken back at");
-	else if (s->refused && s->refused != m)
+	else if (is_due)
 		fault_of(m, "ww_mutex_lock", &s->asked,
 			 "after -EDEADLK another mutex comes first than that at which it came, at");
 	s->is_injected = false;
@@ -306,7 +309,7 @@ static void note_time(const struct timespec *until)
 	bool is_far = away > YEAR && away / 90 < YEAR, is_past = away < -MINUTE && until->tv_sec < HOUR;
 
 	if (is_far || is_past)
-		ww_warn(ONCE, NULL, "a time limit", NULL,
+		ww_warn(NULL, "a time limit", NULL,
 			  "the time is %s: is it one of CLOCK_MONOTONIC, and no duration?",
 			  is_far ? "more than a year away" : "long past");
 }
@@ -384,33 +387,23 @@ bool ww_debug_is_stale(const struct ww_mutex *m)
 
 /* ---- classes ---- */
 
-/* A text that says what of the class is in use, which the caller frees, or NULL. */
-static char *text_of(const struct ww_pool *p)
-{
-	struct ww_out to = { 0 };
-	char *words;
-	size_t size;
-
-	to.file = open_memstream(&words, &size);
-	if (to.file)
-		ww_print_pool(p, &to);
-	return to.file && !fclose(to.file) ? words : NULL;
-}
-
 /* Reports what of the class is in use, the first time that the class can't be freed at this line, unless nothing is in use by now. */
 static void report_in_use(const struct ww_class *c)
 {
+	struct report report;
 	struct ww_pool *p;
-	char *text = NULL;
+	bool is_new;
 
 	(void)ww_lock_pools();
 	p = c->pool;
-	if (p && !p->gone && ww_is_any_used(p) && ww_times_here(c, "ww_class_free", NULL) == 1)
-		text = text_of(p);
+	is_new = p && !p->gone && ww_is_any_used(p) && ww_times_here(c, "ww_class_free", NULL) == 1;
+	if (is_new) {
+		ww_begin_report(&report, NULL, "ww_class_free");
+		ww_print_pool(p, &(struct ww_out){ .file = report.to });
+	}
 	ww_unlock_pools();
-	if (text)
-		ww_warn(NOW, NULL, "ww_class_free", NULL, "%s", text);
-	free(text);
+	if (is_new)
+		ww_end_warning(&report, NULL);
 }
 
 /* ---- what is noted ---- */

@@ -16,9 +16,9 @@ static inline const char *name_of(const struct ww_class *c) { return c->name ? c
 
 /* The place in the program at which this thread's call is made. */
 WW_HIDDEN extern __thread struct place ww_here;
-/* Sets a place to that of this thread's call; or to another place, which may change meanwhile. */
-WW_HIDDEN void ww_set_place(struct place *at);
+/* Sets a place to another one, which may change meanwhile; or to that of this thread's call. */
 WW_HIDDEN void ww_copy_place(struct place *at, const struct place *from);
+static inline void ww_set_place(struct place *at) { ww_copy_place(at, &ww_here); }
 WW_HIDDEN void ww_print_place(const struct place *at, FILE *to);
 /*
  * Whether this thread's call said its line. Code that isn't compiled with WW_DEBUG has the quick calls compiled in, which the debug
@@ -33,14 +33,23 @@ WW_HIDDEN extern __thread char ww_about[160];
  * line, of the same class, come once with a backtrace, and then each time that their number has doubled.
  */
 WW_HIDDEN void ww_fault(const struct ww_class *c, const char *call, const struct place *earlier, const char *why);
+/* Reports a call that is right by itself, but dangerous: once for each line and class. */
+__attribute__((format(printf, 4, 5)))
+WW_HIDDEN void ww_warn(const struct ww_class *c, const char *call, const struct place *earlier, const char *format, ...);
+
 /*
- * Reports a call that is right by itself, but dangerous: once for each line and class (ONCE), or because the caller knows it to be
- * new (NOW).
+ * A report that is being made: in memory, or, if there is none, written at once. It is given to the program at its end, when the caller
+ * has no lock of the library any more. pthread_cancel doesn't end the thread between begin and end: otherwise standard error would stay
+ * locked, and whatever the call had acquired.
  */
-enum when { ONCE, NOW };
-__attribute__((format(printf, 5, 6)))
-WW_HIDDEN void ww_warn(enum when when, const struct ww_class *c, const char *call, const struct place *earlier,
-		       const char *format, ...);
+struct report {
+	char *text;
+	size_t size;
+	FILE *memory, *to;
+	int may_end;
+};
+WW_HIDDEN void ww_begin_report(struct report *report, const struct ww_class *c, const char *call);
+WW_HIDDEN void ww_end_warning(struct report *report, const struct place *earlier);
 
 /* A prime, by which a number of 64 bits is mixed. */
 #define MIX 1099511628211u

@@ -5,11 +5,9 @@
 #include <stdarg.h>
 #include <string.h>
 /* Not every C library has backtrace(). */
-#ifdef __has_include
 #if __has_include(<execinfo.h>)
 #include <execinfo.h>
 #define HAS_BACKTRACE
-#endif
 #endif
 
 static unsigned long faults, warnings;
@@ -31,12 +29,6 @@ void ww_debug_at_(const char *file, int line)
 
 unsigned long ww_debug_faults(void) { return READ_ONCE(faults); }
 unsigned long ww_debug_warnings(void) { return READ_ONCE(warnings); }
-
-void ww_set_place(struct place *at)
-{
-	WRITE_ONCE(at->file, ww_here.file);
-	WRITE_ONCE(at->line, ww_here.line);
-}
 
 void ww_copy_place(struct place *at, const struct place *from)
 {
@@ -106,21 +98,10 @@ static void trace(FILE *to)
 	if (count && !is_named && !__atomic_exchange_n(&is_said, true, __ATOMIC_RELAXED))
 		fputs("[link with -rdynamic: then these have the names of functions, except static ones]\n", to);
 #endif
+	(void)to;
 }
 
-/* A message that is being made: in memory, or, if there is none, written at once. */
-struct report {
-	char *text;
-	size_t size;
-	FILE *memory, *to;
-	int may_end;
-};
-
-/*
- * Begins a message. pthread_cancel doesn't end the thread during it: otherwise standard error would stay locked, and whatever the
- * call had acquired.
- */
-static void begin_report(struct report *report, const struct ww_class *c, const char *call)
+void ww_begin_report(struct report *report, const struct ww_class *c, const char *call)
 {
 	pthread_setcancelstate(PTHREAD_CANCEL_DISABLE, &report->may_end);
 	report->text = NULL;
@@ -133,10 +114,7 @@ static void begin_report(struct report *report, const struct ww_class *c, const 
 		fprintf(report->to, "class \"%s\": ", name_of(c));
 }
 
-/*
- * Ends a message, and reports it. If the call's line is of another language than C, there is no backtrace, since the calls of C
- * would be the interpreter's.
- */
+/* If the call's line is of another language than C, there is no backtrace, since the calls of C would be the interpreter's. */
 static void end_report(struct report *report, const struct place *earlier, unsigned times)
 {
 	if (earlier) {
@@ -157,6 +135,13 @@ static void end_report(struct report *report, const struct place *earlier, unsig
 	pthread_setcancelstate(report->may_end, NULL);
 }
 
+void ww_end_warning(struct report *report, const struct place *earlier)
+{
+	end_report(report, earlier, 1);
+	*ww_about = 0;
+	__atomic_fetch_add(&warnings, 1, __ATOMIC_RELAXED);
+}
+
 void ww_fault(const struct ww_class *c, const char *call, const struct place *earlier, const char *why)
 {
 	unsigned times = is_seen() ? ww_times_here(c, call, why) : 1;
@@ -164,7 +149,7 @@ void ww_fault(const struct ww_class *c, const char *call, const struct place *ea
 	if (!(times & (times - 1))) {
 		struct report report;
 
-		begin_report(&report, c, call);
+		ww_begin_report(&report, c, call);
 		fputs(why, report.to);
 		end_report(&report, earlier, times);
 	}
@@ -172,22 +157,19 @@ void ww_fault(const struct ww_class *c, const char *call, const struct place *ea
 	__atomic_fetch_add(&faults, 1, __ATOMIC_RELAXED);
 }
 
-void ww_warn(enum when when, const struct ww_class *c, const char *call, const struct place *earlier,
-	     const char *format, ...)
+void ww_warn(const struct ww_class *c, const char *call, const struct place *earlier, const char *format, ...)
 {
 	struct report report;
 	va_list words;
 
-	if (when == ONCE && ww_times_here(c, call, format) > 1) {
+	if (ww_times_here(c, call, format) > 1) {
 		*ww_about = 0;
 		return;
 	}
-	begin_report(&report, c, call);
+	ww_begin_report(&report, c, call);
 	va_start(words, format);
 	vfprintf(report.to, format, words);
 	va_end(words);
-	end_report(&report, earlier, 1);
-	*ww_about = 0;
-	__atomic_fetch_add(&warnings, 1, __ATOMIC_RELAXED);
+	ww_end_warning(&report, earlier);
 }
 #endif

@@ -42,13 +42,7 @@ void ww_debug_check_interval(unsigned int milliseconds) { WRITE_ONCE(check_inter
 
 static unsigned seconds_of_patience(void) { return WW_PATIENCE > 0 ? READ_ONCE(patience) : 0; }
 
-static struct timespec in_milliseconds(uint64_t count)
-{
-	uint64_t at = ww_now() + count * 1000000;
-
-	return (struct timespec){ (time_t)(at / 1000000000), (long)(at % 1000000000) };
-}
-
+static struct timespec in_milliseconds(uint64_t count) { return timespec_of(ww_now() + count * 1000000); }
 static struct timespec when_long(void) { return in_milliseconds(1000ull * seconds_of_patience()); }
 
 void ww_wait_begins(ww_seat *s, const struct ww_mutex *m, const struct ww_how *how)
@@ -128,18 +122,17 @@ static uint64_t deadlock(const struct ww_pool *of, unsigned *count)
 	return 0;
 }
 
-/* A text with a line for each wait of the deadlock, or NULL. Each of the waits may still end by a cancel. */
-static char *text_of_deadlock(const struct ww_pool *of, unsigned count)
+/* Writes that there is a deadlock, and a line for each wait of it. Each of the waits may still end by a cancel. */
+static void print_deadlock(const struct ww_pool *of, unsigned count, FILE *file)
 {
-	const ww_seat *s = mine.seat;
-	struct ww_out to = { 0 };
-	char *words;
-	size_t size;
+	struct ww_out to = { .file = file };
 
-	to.file = open_memstream(&words, &size);
-	for (; to.file && s && count; count--, s = next_wait(of, s))
+	if (count == 1)
+		fputs("the thread waits for what it holds itself", file);
+	else
+		fprintf(file, "no class detects this deadlock of %u threads", count);
+	for (const ww_seat *s = mine.seat; s && count; count--, s = next_wait(of, s))
 		ww_print_wait(s, &to);
-	return to.file && !fclose(to.file) ? words : NULL;
 }
 
 /*
@@ -149,19 +142,19 @@ static char *text_of_deadlock(const struct ww_pool *of, unsigned count)
 static void look_for_deadlock(void)
 {
 	const struct ww_pool *of = ww_lock_pools();
-	char *text = NULL;
+	struct report report;
 	unsigned count;
 	uint64_t seen = deadlock(of, &count);
+	bool is_new = seen && seen == mine.seen && ww_times(seen) == 1;
 
-	if (seen && seen == mine.seen && ww_times(seen) == 1)
-		text = text_of_deadlock(of, count);
+	if (is_new) {
+		ww_begin_report(&report, NULL, "a wait");
+		print_deadlock(of, count, report.to);
+	}
 	ww_unlock_pools();
 	mine.seen = seen;
-	if (text && count == 1)
-		ww_warn(NOW, NULL, "a wait", NULL, "the thread waits for what it holds itself%s", text);
-	else if (text)
-		ww_warn(NOW, NULL, "a wait", NULL, "no class detects this deadlock of %u threads%s", count, text);
-	free(text);
+	if (is_new)
+		ww_end_warning(&report, NULL);
 }
 
 /* ---- waits that last ---- */
@@ -183,7 +176,7 @@ static void look_for_long_wait(void)
 	const struct watch *holder = holder_with(p, number);
 
 	if (holder && !mine.seen && seconds_of_patience() && ww_has_come(&mine.is_long))
-		ww_warn(ONCE, p->class_, "a wait", &holder->began,
+		ww_warn(p->class_, "a wait", &holder->began,
 			  "it has lasted %u seconds; mutex %u" NAMED " at %p is held by what %sbegan at", seconds_of_patience(), number,
 			  NAME(name_of_mutex(p, number)), (void *)mutex_with(&p->numbers, number),
 			  has_ended(holder) ? "a thread that has ended left; it " : "");
@@ -229,7 +222,7 @@ static void report_leak(const struct ww_seats *of)
 		if (is_seat_used(s) && (!first || READ_ONCE(s->stamp) - 1 < READ_ONCE(first->stamp) - 1))
 			first = s;
 	}
-	ww_warn(ONCE, p->class_, "a wait for a context", first ? &first->began : NULL,
+	ww_warn(p->class_, "a wait for a context", first ? &first->began : NULL,
 		  "all %u contexts have been in use for %u seconds; "
 		  "one that isn't ended by ww_acquire_fini stays in use%s",
 		  open_seats(of), seconds_of_patience(),
@@ -248,7 +241,7 @@ void ww_seek_begins(struct ww_seats *of, const struct timespec *until)
 	}
 	s = ww_any_seat_with(ANYTHING, this_thread());
 	if (s)
-		ww_warn(ONCE, of->pool->class_, "a wait for a context", &watch_of(s)->began,
+		ww_warn(of->pool->class_, "a wait for a context", &watch_of(s)->began,
 			  "all are in use, and deadlocks through this wait are not detected; "
 			  "the thread has what began at");
 }

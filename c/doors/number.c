@@ -39,8 +39,8 @@ struct ww_shared_mutex *ww_number_at(uint32_t number, struct ww_class *c)
 }
 
 /*
- * A thread that knew the number before may still come to wait for it. If that thread sees IS_TAKEN, it sees that the number was put
- * back before it was taken here (wait_first).
+ * A context that got -EDEADLK at this number may still come to wait for it (wait_first), though the number was put back meanwhile. If
+ * that context sees IS_TAKEN, which is released here, it also sees that the number was put back before.
  */
 int ww_number_take(uint32_t *number, struct ww_class *c)
 {
@@ -66,10 +66,10 @@ int ww_number_take(uint32_t *number, struct ww_class *c)
 }
 
 /*
- * Puts the number back; or, if `leaves`, also if somebody uses it. A waiter counts itself first, and becomes the holder before it
- * stops counting as a waiter, so this sees the one or the other. Of several threads that put the number back only one finds
- * IS_TAKEN in its exchange. A context that backed off may still come to the number (wait_first): it is seen after that exchange, or
- * sees that the number isn't taken. In a forked child nobody uses the number any more, and it isn't freed.
+ * Puts the number back; with `leaves` also while somebody uses it. A waiter counts itself in `waiters` first, and is the holder before it
+ * counts itself out: so the looks here find a waiter or a holder. Of several threads that put the number back only one finds
+ * IS_TAKEN in its exchange. A context that backed off may still come to the number (wait_first): the look after that exchange finds the
+ * context, or the context finds that the number isn't taken. In a forked child nobody uses the number any more, and it isn't freed.
  */
 static int put_number(uint32_t number, struct ww_class *c, bool leaves)
 {

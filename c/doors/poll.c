@@ -86,8 +86,8 @@ int ww_acquire_end_wait(struct ww_acquire_ctx *x)
 }
 
 /*
- * Ends the context in whatever state it is. To a context that has ended none of these calls does anything. A cancel that comes late
- * wakes the seat's next user, which looks again at what it waits for.
+ * Ends the context in whatever state it is; if the context has ended, these calls do nothing. A thread that cancels the context at the
+ * same time may wake the next user of its seat instead, which then looks again at what it waits for.
  */
 int ww_acquire_end(struct ww_acquire_ctx *x)
 {

@@ -14,7 +14,10 @@
 #include <sys/uio.h>
 #include <unistd.h>
 
-/* Where the system has no such copy, as an emulator, or refuses it, a pipe takes what is there. */
+/*
+ * Where the system can't make such a copy, as in an emulator, or refuses it, the memory is written to a pipe, and read from that. The
+ * write returns an error where a load would end the program.
+ */
 static bool look_by_pipe(void *copy, const void *at, size_t size)
 {
 	int ends[2];
@@ -31,10 +34,9 @@ static bool look_by_pipe(void *copy, const void *at, size_t size)
 bool ww_look(void *copy, const void *at, size_t size)
 {
 	struct iovec to = { copy, size }, from = { (void *)(uintptr_t)at, size };
+	ssize_t copied = process_vm_readv(getpid(), &to, 1, &from, 1, 0);
 
-	if (process_vm_readv(getpid(), &to, 1, &from, 1, 0) == (ssize_t)size)
-		return true;
-	return errno != EFAULT && errno != 0 && look_by_pipe(copy, at, size);
+	return copied == (ssize_t)size || (copied < 0 && errno != EFAULT && look_by_pipe(copy, at, size));
 }
 
 /* ---- text ---- */
@@ -155,8 +157,8 @@ static const struct ww_mine *thread_with(uint64_t number)
 }
 
 /*
- * Who uses the seat with this number. A thread that sleeps left its waker there; else the thread is the owner of the seat, or the one
- * that locked without a context. Which thread uses another context isn't known: it may go on in any.
+ * Who uses the seat with this number. A thread that sleeps left its waker in the seat. Otherwise the thread is known if the seat is a
+ * thread's own, or if the thread locked without a context. A context by a seat for anybody may go on in any thread.
  */
 static struct ww_use use_of(const struct seen *c, uint32_t k)
 {
@@ -184,20 +186,20 @@ static struct ww_use use_of(const struct seen *c, uint32_t k)
 	return use;
 }
 
-/* Which of the SOME seats from this one on are in use, as bits: by one look, since there are many seats. */
-enum { SOME = 32 };
+/*
+ * Which of the few seats from this one on are in use, as bits. A class has many seats, so one look copies as many as have room on the
+ * small stack of a signal handler.
+ */
+enum { FEW_SEATS = 8 };
 static uint32_t used_from(const struct seen *c, uint32_t first)
 {
-	uint32_t busy[SOME] = { 0 }, count = seats_in(c) - first < SOME ? seats_in(c) - first : SOME, used = 0;
-	struct iovec to = { busy, count * sizeof *busy }, from[SOME];
+	uint32_t count = seats_in(c) - first < FEW_SEATS ? seats_in(c) - first : FEW_SEATS, used = 0;
+	ww_seat seats[FEW_SEATS];
 
+	if (!ww_look(seats, &c->seats[first], count * sizeof *seats))
+		return 0;
 	for (uint32_t k = 0; k < count; k++)
-		from[k] = (struct iovec){ (void *)(uintptr_t)&c->seats[first + k].busy, sizeof *busy };
-	if (process_vm_readv(getpid(), &to, 1, from, count, 0) < 0)
-		for (uint32_t k = 0; k < count; k++)
-			(void)SEES(busy[k], c->seats[first + k].busy);
-	for (uint32_t k = 0; k < count; k++)
-		used |= (busy[k] & BUSY) << k;
+		used |= (seats[k].busy & BUSY) << k;
 	return used;
 }
 
@@ -352,7 +354,7 @@ static void put_counts(struct ww_out *to, const struct seen *c)
 	uint32_t used = 0, width, waiting;
 	bool is_crowd;
 
-	for (uint32_t k = 0; k < seats_in(c); k += SOME)
+	for (uint32_t k = 0; k < seats_in(c); k += FEW_SEATS)
 		used += (uint32_t)__builtin_popcount(used_from(c, k));
 	put_class(to, c, "class \"", "\": ");
 	put_count(to, "", c->taken);
@@ -369,13 +371,14 @@ static void put_counts(struct ww_out *to, const struct seen *c)
 
 void ww_print_pool(const struct ww_pool *p, struct ww_out *to)
 {
+	enum { SOME = 32 };
 	uint64_t words[2 * SOME];
 	struct seen c;
 
 	if (!see(&c, p))
 		return;
 	put_counts(to, &c);
-	for (uint32_t k = 0; k < seats_in(&c); k += SOME)
+	for (uint32_t k = 0; k < seats_in(&c); k += FEW_SEATS)
 		for (uint32_t used = used_from(&c, k); used; used &= used - 1)
 			put_use(to, &c, k + (uint32_t)__builtin_ctz(used));
 	for (uint32_t n = 0; n < c.locks; n += SOME) {
@@ -423,8 +426,8 @@ static void print_open(const struct ww_pool *p, int fd)
 }
 
 /*
- * All open classes. A class that is freed meanwhile isn't the pool's any more, and then the rest of the list may be that of freed
- * pools.
+ * Writes all open classes. If a class is freed meanwhile, its pool isn't that class's any more, and `next` may lead into the list of freed
+ * pools: so the look ends there.
  */
 static void print_all(int fd)
 {

@@ -15,7 +15,7 @@
  *	3. mutex: free?
  *	then it reads; else the mark is taken back
  *
- * That is Dekker's argument twice. Each line is sequentially consistent, as the core's are. A writer that has the mutex after line
+ * That is Dekker's argument twice. Each line is sequentially consistent, as the core's steps are. A writer that has the mutex after line
  * 1 finds the mark, and clears no bit of this slot before the read has ended; earlier writers have released the mutex by then. So
  * once line 2 finds the bit, the bit stays. But a writer in between may have found no bit, if another slot with the same bit has
  * set it again. If line 3 finds the mutex free, that writer is through, and all later writers find bit and mark. So a writer waits
@@ -49,7 +49,6 @@
 #include "../lock/used.h"
 #include "../lock/loop.h"
 #include "../lock/mutex.h"
-#include <sys/mman.h>
 
 /* How often a writer looks at a mark before it waits for the slot: the reader may be about to take the mark back. */
 #ifndef WW_MARK_LOOKS
@@ -60,7 +59,6 @@
 #define WW_BITS MANY_BITS
 #endif
 
-#define NOT_READ "the context doesn't read the mutex"
 #define ALWAYS_INLINE static inline __attribute__((always_inline))
 /* How a call waits that has no time limit and is no poll; and how a call tries. */
 #define BY_WAITING ((struct ww_how){ 0 })
@@ -127,34 +125,27 @@ static inline void clear_marks(struct ww_slot *slot)
 }
 
 /*
- * Makes the seat's slot, with a mutex of the class that isn't counted as one, so that the class can be freed. The slot is shown by
- * a sequentially consistent store, before its first mark, since another slot may already have set its bit. The memory is zeros, of
- * which only the pages take room that are written.
+ * Makes the seat's slot. Its mutex isn't counted among those of the class: it has a number besides. The slot is shown by a
+ * sequentially consistent store, before its first mark, since another slot may already have set its bit.
  */
 COLD static int make_slot(ww_seat *s)
 {
 	struct ww_pool *p = s->pool;
 	size_t words = (p->numbers.locks + MARKS_IN_A_WORD - 1) / MARKS_IN_A_WORD;
 	size_t size = sizeof(struct ww_slot) + words * (sizeof(uint64_t) + sizeof(uint32_t));
-	struct ww_slot *slot = mmap(NULL, size, PROT_READ | PROT_WRITE, MAP_PRIVATE | MAP_ANONYMOUS, -1, 0);
-	int r = slot == MAP_FAILED ? -ENOMEM : p->gone ? -EINVAL : ww_take_number(&p->numbers, NULL, &slot->mutex.number);
+	struct ww_slot *slot = p->gone ? NULL : ww_take_zeros(size);
 	uint32_t k;
 
-	if (r) {
-		if (slot != MAP_FAILED)
-			munmap(slot, size);
-		return r;
-	}
+	if (!slot)
+		return p->gone ? -EINVAL : -ENOMEM;
+	pthread_mutex_lock(&p->numbers.lock);
+	k = p->numbers.of_slots++ % WW_BITS;
 	*slot = (struct ww_slot){
-		.mutex = { .pool = p, .number = slot->mutex.number, .waiters = IS_SLOT }, .size = size,
+		.mutex = { .pool = p, .number = ww_take_locked(&p->numbers, NULL), .waiters = IS_SLOT }, .size = size,
 		.seat = (uint32_t)(s - p->seats), .nonzero = (uint32_t *)(void *)&slot->marks[words],
+		.bit = (uint64_t)1 << k, .next = p->slots[k],
 	};
 	lies_at(&p->numbers, slot->mutex.number, &slot->mutex);
-	pthread_mutex_lock(&p->numbers.lock);
-	__atomic_fetch_sub(&p->numbers.taken, 1, __ATOMIC_RELEASE);
-	k = p->numbers.of_slots++ % WW_BITS;
-	slot->bit = (uint64_t)1 << k;
-	slot->next = p->slots[k];
 	__atomic_store_n(&p->slots[k], slot, __ATOMIC_SEQ_CST);
 	pthread_mutex_unlock(&p->numbers.lock);
 	s->slot = slot;
@@ -181,8 +172,9 @@ COLD static int try_slot(struct ww_slot *slot, struct ww_acquire_ctx *x)
 }
 
 /*
- * Locks the context's slot, which is made first if the seat has none. A context that has its slot may acquire mutexes even if it
- * got -EDEADLK before; WAS_TOLD keeps that, so that it holds again if the read fails.
+ * Locks the context's slot, which is made first if the seat has none. If the context got -EDEADLK before, it isn't told to back off any
+ * more once it has its slot. But the read may still fail: so WAS_TOLD takes the place of IS_TOLD, which a read that fails sets again
+ * (reads_in_turn).
  */
 ALWAYS_INLINE int take_slot(struct ww_acquire_ctx *x, const struct ww_how how, bool tries)
 {
@@ -466,8 +458,8 @@ COLD static int await_readers(struct ww_shared_mutex *m, struct ww_acquire_ctx *
 }
 
 /*
- * Whether a trylock to write would fail now, since another context reads the mutex: the slot of a context that reads is marked and
- * taken.
+ * Whether a trylock to write would fail now. It fails at any slot of another context that is marked and taken, also if the read has
+ * ended: the slot's owner may read other mutexes, and another writer may have the slot.
  */
 static bool is_vain_write(const struct ww_shared_mutex *m, const struct ww_acquire_ctx *x)
 {
@@ -586,38 +578,28 @@ int ww_shared_mutex_unlock(struct ww_shared_mutex *m, struct ww_acquire_ctx *x)
 	return -EINVAL;
 }
 
-int ww_shared_mutex_unlock_shared(struct ww_shared_mutex *m, struct ww_acquire_ctx *x)
-{
-	if (is_polled(NEEDED(x)))
-		return -EBUSY;
-	note_used(x);
-	if (!reads_it(x, &NEEDED(m)->mutex_)) {
-		NOTE_MISUSE_OF(&m->mutex_, NULL, "ww_shared_mutex_unlock_shared", NOT_READ);
-		return -EINVAL;
-	}
-	leave_reads(x, x->own->slot->reads - 1);
-	return 0;
-}
-
 /*
- * Ends the one read of the mutex, by taking back its mark, or, if the context reads nothing else, by releasing its slot. A writer
- * that has already found the mark waits for the slot, and so for all reads by it. The slot can't be given up for that writer and
+ * Ends one read of the mutex. If it is the last one, its mark is taken back; if the context reads nothing else, its slot is released. A
+ * writer that has already found the mark waits for the slot, and so for all reads by it. The slot can't be given up for that writer and
  * taken again: the writer clears all its marks, and until the reader has set them again, writers of the other mutexes find none.
  */
-int ww_shared_mutex_end_read(struct ww_shared_mutex *m, struct ww_acquire_ctx *x)
+ALWAYS_INLINE int end_read(const char *call, struct ww_shared_mutex *m, struct ww_acquire_ctx *x, bool is_last)
 {
-	if (is_polled(NEEDED(x)))
+	if (is_polled(NEEDED_BY(call, x)))
 		return -EBUSY;
 	note_used(x);
-	if (!reads_it(x, &NEEDED(m)->mutex_)) {
-		NOTE_MISUSE_OF(&m->mutex_, NULL, "ww_shared_mutex_end_read", NOT_READ);
+	if (!reads_it(x, &NEEDED_BY(call, m)->mutex_)) {
+		NOTE_MISUSE_OF(&m->mutex_, NULL, call, "the context doesn't read the mutex");
 		return -EINVAL;
 	}
-	if (x->own->slot->reads > 1)
+	if (is_last && x->own->slot->reads > 1)
 		unmark(x->own->slot, m->mutex_.number);
 	leave_reads(x, x->own->slot->reads - 1);
 	return 0;
 }
+
+int ww_shared_mutex_unlock_shared(struct ww_shared_mutex *m, struct ww_acquire_ctx *x) { return end_read(__func__, m, x, false); }
+int ww_shared_mutex_end_read(struct ww_shared_mutex *m, struct ww_acquire_ctx *x) { return end_read(__func__, m, x, true); }
 
 void ww_acquire_end_reads(struct ww_acquire_ctx *x)
 {

@@ -334,8 +334,8 @@ static int lock_entry(const struct asked *asked, const struct entry *e, struct w
 }
 
 /*
- * Whether the context got -EDEADLK and has yet to release all, as the proved library says of a try of any mutex that the context doesn't
- * hold. A try that succeeds is taken back.
+ * Whether the context got -EDEADLK and still has to release all. The proved library says so by -EINVAL, at a try of any mutex that the
+ * context doesn't hold. So this mutex is tried, and released again if that succeeds.
  */
 static bool has_to_release(struct ww_acquire_ctx *x, struct ww_mutex *m)
 {

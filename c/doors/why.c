@@ -5,6 +5,7 @@
 #define _GNU_SOURCE
 #define WW_NO_INLINE /* ww_mutex.h compiles none of its calls into this file */
 #include "../lock/mutex.h"
+#include "../lock/used.h"
 #include "ww_why.h"
 
 int ww_acquire_label(struct ww_acquire_ctx *x, uint64_t label)
@@ -20,8 +21,9 @@ int ww_acquire_label(struct ww_acquire_ctx *x, uint64_t label)
 /* ---- who has a lock, or waits for it ---- */
 
 /*
- * The context that has the seat now.  The next one may have it by then, which has another label: so whoever names it looks once more at
- * that by which it came here, which is why the label is acquired.
+ * The context that uses the seat now, by its label. It may end while the label is read, and another context begin by the seat. So each
+ * caller reads once more the word that led it to this seat, as the owner word of a mutex, and tries again if that has changed. The label
+ * is acquired, so that the caller's second read comes after it.
  */
 static struct ww_user user_by(const ww_seat *s, enum ww_part part)
 {
@@ -125,15 +127,6 @@ static void add(struct users *to, struct ww_user user)
 		to->all[to->count - 1] = user;
 }
 
-/*
- * Whether the context that has the slot reads the mutex with this number: it has marked that, and marks from before are gone once a
- * context has read anything.
- */
-static bool is_reading(const struct ww_pool *p, const struct ww_slot *slot, uint32_t number)
-{
-	return has_lock(&p->seats[slot->seat], slot->mutex.number) && __atomic_load_n(&slot->reads, __ATOMIC_ACQUIRE) && has_mark(slot, number);
-}
-
 size_t ww_mutex_users(const struct ww_mutex *m, struct ww_user *users, size_t room)
 {
 	const struct ww_pool *p = pool_at(NEEDED(m));
@@ -150,10 +143,10 @@ size_t ww_mutex_users(const struct ww_mutex *m, struct ww_user *users, size_t ro
 	}
 	for (uint32_t k = 0; k < MANY_BITS; k++)
 		for (struct ww_slot *slot = __atomic_load_n(&p->slots[k], __ATOMIC_SEQ_CST); slot; slot = slot->next)
-			if (is_reading(p, slot, m->number)) {
+			if (ww_slot_reads(p, slot, m->number)) {
 				struct ww_user user = user_by(&p->seats[slot->seat], WW_READS);
 
-				if (is_reading(p, slot, m->number))
+				if (ww_slot_reads(p, slot, m->number))
 					add(&found, user);
 			}
 	return found.count;

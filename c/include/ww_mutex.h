@@ -301,9 +301,9 @@ WW_MUST_CHECK int ww_acquire_init_until(struct ww_acquire_ctx *ctx, struct ww_cl
 void ww_class_init(struct ww_class *ww_class, int is_wait_die, const char *name) WW_NONNULL_(1);
 /*
  * Sets how many mutexes and contexts there may be at a time, before the first use of the class, which allocates memory for as many
- * mutexes: 69 MiB for a million mutexes.  0: 65,536 mutexes; and 1,024 contexts that anybody may use, of which tasks may have 896
+ * mutexes: 65 MiB for a million mutexes.  0: 65,536 mutexes; and 1,024 contexts that anybody may use, of which tasks may have 896
  * (ww_poll.h), and one more for each thread: its own, which costs less to begin and end; the first 256 threads at a time have one.  A
- * mutex that is held without a context (NULL) counts as a context.  -EINVAL: more than 16,777,216 mutexes, or than 4,094 contexts;
+ * mutex that is held without a context (NULL) counts as a context.  -EINVAL: more than 16,773,121 mutexes, or than 4,094 contexts;
  * -EBUSY: the class is open.
  */
 WW_MUST_CHECK int ww_class_limit(struct ww_class *ww_class, uint32_t mutexes, uint32_t contexts) WW_NONNULL_(1);
@@ -322,9 +322,8 @@ WW_MUST_CHECK int ww_class_crowd(struct ww_class *ww_class, uint32_t permits) WW
 WW_MUST_CHECK int ww_class_open(struct ww_class *ww_class) WW_NONNULL_(1);
 /*
  * Opens the class for a server: with so many contexts, also suspended ones (0: as ww_class_limit), and for so many keys (0: 65,536), each
- * a mutex that is locked at a time.  Besides them the class has the mutexes that readers of these contexts need (ww_shared.h).  If
- * `bytes` isn't NULL, it says how much address space the class takes.  Opening takes time that grows with the keys.  -EINVAL, -EBUSY as
- * ww_class_limit.
+ * a mutex that is locked at a time.  If `bytes` isn't NULL, it says how much address space the class takes.  Opening takes time that
+ * grows with the keys.  -EINVAL, -EBUSY as ww_class_limit.
  */
 WW_MUST_CHECK int ww_class_open_for(struct ww_class *ww_class, uint32_t contexts, uint32_t keys, size_t *bytes) WW_NONNULL_(1);
 /*

@@ -121,7 +121,8 @@ class limits {
 
 public:
 	limits(ww_flags flags = {}) noexcept : flags_(flags) {}
-	template <class Number, class = std::enable_if_t<std::is_arithmetic_v<Number>>> limits(Number) = delete; // a time has a unit: 60s
+	// Neither a number nor a time of another clock.
+	template <class T, class = std::enable_if_t<!std::is_convertible_v<T, ww_flags>>> limits(T) = delete; // a time has a unit (60s), or the steady clock
 	template <class Rep, class Period> limits(std::chrono::duration<Rep, Period> timeout, ww_flags flags = {}) : flags_(flags)
 	{
 		until_ = at(std::chrono::steady_clock::now().time_since_epoch() + bounded(timeout));
@@ -148,7 +149,7 @@ class WW_SAFETY_(capability("mutex")) mutex {
 
 public:
 	constexpr explicit mutex(struct ww_class &c) noexcept : it_ WW_MUTEX_INIT(&c) {}
-	constexpr explicit mutex(mutex_class &c) noexcept : mutex(c.it_) {}
+	constexpr explicit mutex(mutex_class &c) noexcept : mutex(c.it_) {} // a row of them is a ww::mutex_array
 	// It takes its number now. So where the class has too few, the program ends here with a message, and no lock of it returns
 	// -ENOSPC later: for objects that are made at run time.
 	mutex(mutex_class &c, numbered_t WW_AND_FROM_) noexcept { ww_mutex_init(&it_, &c.it_); }

@@ -21,8 +21,7 @@
  * context, since all waits are those of contexts, and so every deadlock among readers and writers ends by -EDEADLK.
  *
  * Return values are those of ww_mutex.h.  -EDEADLK of any of these calls, also of a context's first: release everything, then
- * ww_shared_mutex_await, and begin again; a loop does so by itself.  Of the mutexes of the class each reader slot takes one: as
- * many as contexts that may read at a time, and for each thread's own context that has ever read one more.
+ * ww_shared_mutex_await, and begin again; a loop does so by itself.  Readers take none of the class's mutexes.
  */
 #ifndef WW_SHARED_H
 #define WW_SHARED_H
@@ -52,8 +51,7 @@ int ww_shared_mutex_destroy(struct ww_shared_mutex *lock) WW_NONNULL_(1);
 /*
  * Reads the mutex: waits while somebody writes it, or waits to write it; but an older context goes ahead of a younger one that waits, as
  * in any wait list.  It returns 0 also if the context reads or writes the mutex already; but -EALREADY outside loops if the context
- * writes it and it is a number's (ww_number_at).  -ENOMEM, -ENOSPC: the context's first read found no memory, or no mutex of the class
- * left.
+ * writes it and it is a number's (ww_number_at).  -ENOMEM: the context's first read found no memory.
  */
 WW_MUST_CHECK int ww_shared_mutex_lock_shared(struct ww_shared_mutex *lock, struct ww_acquire_ctx *ctx) WW_NONNULL_(1);
 /*
@@ -78,8 +76,8 @@ WW_MUST_CHECK int ww_shared_mutex_lock_until(struct ww_shared_mutex *lock, struc
 WW_MUST_CHECK int ww_shared_mutex_trylock(struct ww_shared_mutex *lock, struct ww_acquire_ctx *ctx) WW_NONNULL_(1);
 /*
  * For a context that writes the mutex: from now on it reads it, and others may.  This can't fail, and nobody writes the mutex in between;
- * but a context that got -EDEADLK, or would get -ENOMEM or -ENOSPC for its first read, goes on writing it; so does one that reads nothing
- * yet, while a task that waited for its former reads, or those of an earlier context, hasn't polled again.
+ * but a context that got -EDEADLK, or would get -ENOMEM for its first read, goes on writing it; so does one that reads nothing yet, while
+ * a task that waited for its former reads, or those of an earlier context, hasn't polled again.
  */
 void ww_shared_mutex_downgrade(struct ww_shared_mutex *lock, struct ww_acquire_ctx *ctx) WW_NONNULL_(1);
 

@@ -334,7 +334,7 @@ class Look:
         if self.time:
             return f" {max(self.time - since, 0) / 1e9:.1f} s"
         newest = max(seat.since for it in self.classes for seat in it.used.values())
-        return f" since {(newest - since) / 1e9:.1f} s before the newest wait"  # a core file doesn't say when it was written
+        return f" {(newest - since) / 1e9:.1f} s longer than the newest wait,"  # a core file doesn't say when it was written
 
 
 def why_nobody_backs_off(cycle):

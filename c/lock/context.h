@@ -97,9 +97,8 @@ enum { TO_LOCK, TO_READ, TO_WRITE, TO_AWAIT };
  */
 static inline bool is_orphaned_by_fork(const ww_seat *s, int r) { return r == -EBUSY && s->pool->gone; }
 
-/* A seat's number, plus 1; and the number, plus 1, of the lock's owner in what ww_look_ returned, or 0 if nobody owns the lock. */
+/* The number of a seat, plus 1, as owner_in and owner_of_word have it of the seat that owns a lock. */
 static inline uint32_t place_among(const ww_seat *s) { return (uint32_t)(s - s->pool->seats) + 1; }
-static inline uint32_t owner_in(int32_t seen) { return (uint32_t)seen & (WW_OLDER_ - 1); }
 
 /* Whether the mutex has a number; and if there is a context, whether it has begun, in the class of the mutex. */
 static inline bool fits(const struct ww_mutex *m, const struct ww_acquire_ctx *x)

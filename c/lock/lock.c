@@ -74,7 +74,7 @@ static int lock_ends(struct ww_mutex *m, struct ww_acquire_ctx *x, ww_seat *s, i
 		DTRACE_PROBE3(ww, back_off, m, x, s);
 		x->contending_lock = m;
 		x->puts = puts_of(&s->pool->numbers, m->number);
-		s->told = m->number;
+		s->told = m->number; /* a resumed context finds the mutex by that, if it still exists (retry.c) */
 		x->state = (x->state | IS_TOLD) & ~(unsigned)WAS_TOLD;
 	}
 	/* The seat's cancel has ended the wait. If neither the context nor the class was cancelled, the time limit had passed. */

@@ -93,7 +93,7 @@ int ww_end_mutex(struct ww_mutex *m, void (*gives)(struct ww_numbers *n, uint32_
 		*m = (struct ww_mutex){ .class_ = p->class_ };
 		return 0;
 	}
-	is_used = has_user(p, m);
+	is_used = has_user(p, m); /* without the lock, since a destroy of a mutex that is in use waits for nobody */
 	if (!is_used) {
 		pthread_mutex_lock(&p->numbers.lock);
 		is_used = has_user(p, m); /* a resumed context may have counted itself before the lock was taken */
@@ -399,7 +399,7 @@ COLD static int unlock_alone_on(ww_seat *s, int r)
 {
 	r = ww_release_on(s, r);
 	if (!r) {
-		s->ages = 0; /* a seat without a context has no age */
+		s->ages = 0; /* ww_release_on has noted a meeting, but a seat without a context has no age */
 		give_seat(s);
 	}
 	return r;

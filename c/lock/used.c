@@ -1,27 +1,28 @@
 /*
  * used.c - who still uses a mutex that the program destroys, if the mutex is shared or known by its number. If somebody still uses
- * it, its number is left: a thread that later finds no free number looks whether anybody still uses a number that was left.
+ * it, its number is left: a thread that later finds no free number looks whether anybody still uses a number that was left. So a mark
+ * never counts as a read of the number's next mutex. (If marks counted how often a number was taken, they would be four times as large.)
  */
 #define _GNU_SOURCE
 #include "used.h"
 
-/*
- * Whether a context reads the mutex of this number by a slot with one of these bits. If the slot's own seat has the slot, and the
- * slot counts a read that hasn't ended, then a mark in the slot isn't from before.
- */
-bool ww_is_read_by(struct ww_pool *p, uint32_t number, uint64_t bits)
+/* If the slot's own seat has the slot, and the slot counts a read that hasn't ended, then a mark in the slot isn't from before. */
+bool ww_slot_reads(const struct ww_pool *p, struct ww_slot *slot, uint32_t number)
+{
+	const uint64_t *marks = marks_at(slot, number);
+
+	return owner_of_word(look_at(p, &slot->mutex)) == slot->seat + 1 && __atomic_load_n(&slot->reads, __ATOMIC_ACQUIRE) &&
+	       __atomic_load_n(marks, __ATOMIC_ACQUIRE) & mark_of(number);
+}
+
+bool ww_is_read_by(const struct ww_pool *p, uint32_t number, uint64_t bits)
 {
 	for (; bits; bits &= bits - 1) {
 		struct ww_slot *slot = __atomic_load_n(&p->slots[__builtin_ctzll(bits)], __ATOMIC_SEQ_CST);
 
-		for (; slot; slot = slot->next) {
-			uint32_t owner = owner_of_word(look_at(p, &slot->mutex));
-			const uint64_t *marks = marks_at(slot, number);
-
-			if (owner == slot->seat + 1 && __atomic_load_n(&slot->reads, __ATOMIC_ACQUIRE) &&
-			    __atomic_load_n(marks, __ATOMIC_ACQUIRE) & mark_of(number))
+		for (; slot; slot = slot->next)
+			if (ww_slot_reads(p, slot, number))
 				return true;
-		}
 	}
 	return false;
 }

@@ -18,12 +18,13 @@
 #define WW_AWAKE 20000
 #endif
 enum { A_SLEEP = WW_AWAKE, ALONE = 5 * A_SLEEP, SHORTEST = A_SLEEP / 40 };
-/* The share of a thread's last waits, about REMEMBERS of them, that took too long; if all did, it is ONE_WAIT. */
+/*
+ * A thread remembers of about its last REMEMBERS waits which share took too long to stay awake. The share is a number from 0 to
+ * ONE_WAIT, which means all of these waits.
+ */
 enum { REMEMBERS = 8, ONE_WAIT = 256 };
-/* How many waits a cycle may have that a thread finds before it enters the wait list. */
+/* A thread that is awake looks for cycles of up to so many waits. A longer cycle is found once the thread is in the wait list. */
 enum { LONGEST_CYCLE = 8 };
-/* In what ww_look_ returns, the bits that have the number of the owner's seat, plus 1. */
-enum { OWNER = WW_OLDER_ - 1 };
 
 /* ---- trying again, awake ---- */
 
@@ -50,7 +51,7 @@ void ww_learn_from(ww_seat *s, const struct ww_wait *wait)
 	ww_note_wait(s->pool, now, took);
 }
 
-static ww_seat *seat_in(const ww_seat *s, int32_t seen) { return &s->pool->seats[(seen & OWNER) - 1]; }
+static ww_seat *seat_in(const ww_seat *s, int32_t seen) { return &s->pool->seats[owner_in(seen) - 1]; }
 
 /*
  * Whether a wait of this seat for the owner that was seen would close a cycle: that owner waits for a lock, whose owner waits for
@@ -58,7 +59,7 @@ static ww_seat *seat_in(const ww_seat *s, int32_t seen) { return &s->pool->seats
  */
 static bool is_in_cycle(ww_seat *s, int32_t seen)
 {
-	for (unsigned k = 0; k < LONGEST_CYCLE && seen & OWNER; k++) {
+	for (unsigned k = 0; k < LONGEST_CYCLE && owner_in(seen); k++) {
 		const ww_seat *owner = seat_in(s, seen);
 		uint32_t awaits = __atomic_load_n(&owner->awaits, __ATOMIC_RELAXED);
 
@@ -70,10 +71,13 @@ static bool is_in_cycle(ww_seat *s, int32_t seen)
 }
 
 /*
- * Whether the seat has to enter the lock's wait list, since more tries of the lock, of which it saw `seen`, are of no use. Either
- * this context has to die, or its wait is one of a cycle: in the wait list it dies, or wounds the owner. Or nobody owns the lock,
- * and a waiter was woken that may have no processor yet, unless each thread is known to have one: then this context takes the lock
- * inside the guard.
+ * Whether the seat has to enter the lock's wait list, since it would look in vain for longer: `seen` is what its last look saw.
+ *
+ * If nobody owns the lock, but somebody waits for it (WW_NOBODY_), a waiter was woken that may have no processor yet. In the wait
+ * list this seat takes the lock instead. Where each thread is known to have a processor, the waiter takes the lock in a moment.
+ *
+ * If somebody owns the lock, this context may have been wounded, and backs off once it is in the wait list. Or this wait closes a
+ * cycle: in the wait list this context dies, or wounds the owner.
  */
 static bool has_to_queue(ww_seat *s, int32_t seen)
 {
@@ -81,9 +85,13 @@ static bool has_to_queue(ww_seat *s, int32_t seen)
 
 	if (seen == WW_NOBODY_)
 		return !has_processors(s->pool);
-	return seen & OWNER && (ww_is_wounded_(&s->handle) || (seen & ends && is_in_cycle(s, seen)));
+	return owner_in(seen) && (ww_is_wounded_(&s->handle) || (seen & ends && is_in_cycle(s, seen)));
 }
 
+/*
+ * Each round looks before it tries: a try of a lock that somebody owns would be in vain, and would take the cache line of the lock's
+ * word from its owner. Only a thread goes on to a second round.
+ */
 int ww_try_awake(ww_seat *s, uint32_t lock, const struct ww_wait *wait)
 {
 	unsigned looks = 0;
@@ -112,19 +120,16 @@ static void wake(ww_seat *s)
 		ww_unpark(&s->pool->seats[k]);
 }
 
-/* Whether the wait is to end now: by a poll, a cancel of the context, the time limit, or a cancel of the class. */
-static bool is_due(const ww_seat *s, const struct ww_wait *wait)
-{
-	const struct ww_how *how = wait->how;
-
-	return how->who == ENDS_TASK || (wait->cancelled && __atomic_load_n(wait->cancelled, __ATOMIC_SEQ_CST)) ||
-	       (how->until && ww_has_come(how->until)) || (how->is_interruptible && ww_ends_waits(s->pool));
-}
-
-/* If the end of the wait is due, lets the next steps of the wait end it. The seat isn't inside a guard. */
+/*
+ * If the wait is to end now, by a poll, a cancel of the context, the time limit, or a cancel of the class, lets the next steps of
+ * the wait end it. An unlock has no wait, which is NULL then. The seat isn't inside a guard.
+ */
 static void stop_if_due(ww_seat *s, const struct ww_wait *wait)
 {
-	if (wait && is_due(s, wait))
+	const struct ww_how *how = wait ? wait->how : NULL;
+
+	if (how && (how->who == ENDS_TASK || (wait->cancelled && __atomic_load_n(wait->cancelled, __ATOMIC_SEQ_CST)) ||
+		    (how->until && ww_has_come(how->until)) || (how->is_interruptible && ww_ends_waits(s->pool))))
 		(void)!ww_heed_(&s->handle);
 }
 
@@ -152,16 +157,10 @@ static int go_on_awake(ww_seat *s, const struct ww_wait *wait)
 	}
 }
 
-/* A thread sleeps here, and this returns false. A task leaves its waker, and this returns true, unless the task was woken meanwhile. */
-static bool sleep_or_leave_waker(ww_seat *s, const struct ww_wait *wait)
-{
-	const struct ww_how *how = wait->how;
-
-	if (how->who == THREAD)
-		ww_park(s, wait->awake, how->until);
-	return how->who == TASK && ww_arm(s, how->waker);
-}
-
+/*
+ * A thread sleeps until another seat's step wakes it. A task leaves its waker instead, and goes on only if it was woken meanwhile. A
+ * poll that ends the wait of its task (ENDS_TASK) doesn't sleep, since the end is due.
+ */
 COLD int ww_go_on(ww_seat *s, const struct ww_wait *wait, bool sleeps)
 {
 	int r;
@@ -169,7 +168,9 @@ COLD int ww_go_on(ww_seat *s, const struct ww_wait *wait, bool sleeps)
 	if (s->pool->gone)
 		return -EBUSY;
 	do {
-		if (sleeps && sleep_or_leave_waker(s, wait))
+		if (sleeps && wait->how->who == THREAD)
+			ww_park(s, wait->awake, wait->how->until);
+		if (sleeps && wait->how->who == TASK && ww_arm(s, wait->how->waker))
 			return -EINPROGRESS;
 		stop_if_due(s, wait);
 		r = go_on_awake(s, wait);

@@ -21,6 +21,9 @@ struct ww_how {
 	struct ww_poller *poller;	/* who makes the poll, if that has something which ends with the poll's wait; or NULL */
 };
 
+/* The number of the seat that owns a lock, plus 1, in what ww_look_ returned of the lock; or 0, if nobody owns the lock. */
+static inline uint32_t owner_in(int32_t seen) { return (uint32_t)seen & (WW_OLDER_ - 1); }
+
 struct ww_wait {
 	const struct ww_how *how;
 	uint64_t from, awake;		/* when the wait began, and until when the thread stays awake */

@@ -291,7 +291,7 @@ TABLE = {
     "loop": {"ww_arm": "store rlx", "ww_leave_token": "load rlx"},
     "task": {"ww_arm": "store rlx", "ww_leave_token": "load rlx"},
     # Said before the waiter is woken, which looks at it after it took its token away.
-    "cancelled": {"of_seat": "store rlx", "is_due": "load sc", "ww_acquire_cancel": "exchange sc", "lock_ends": "exchange sc"},
+    "cancelled": {"of_seat": "store rlx", "stop_if_due": "load sc", "ww_acquire_cancel": "exchange sc", "lock_ends": "exchange sc"},
     # A canceller may look while a context begins or ends: a cancel that isn't ordered after ww_acquire_init is no right call.
     "own": {"of_seat": "store rlx", "no_more": "store rlx", "ww_acquire_cancel": "load rlx", "ww_mutex_is_held_by": "load rlx"},
     # A mutex's holder alone writes these, and the lock orders holders; whoever else looks has only a glance, or takes the lock.
@@ -331,11 +331,11 @@ TABLE = {
     # What was read comes before a mark that is gone. Others than its own thread look at marks alone.
     "marks": {
         "mark": "load rlx, exchange sc", "unmark": "load rlx, store rel", "clear_marks": "store rel", "await_slot": "load sc",
-        "ww_is_read_by": "load acq", "is_vain_write": "load sc", "has_mark": "load rlx",
+        "ww_slot_reads": "load acq", "is_vain_write": "load sc", "has_mark": "load rlx",
     },
     # Whoever sees a read sees that the marks from before it are gone.
     "reads": {
-        "take_slot": "store rlx", "add_read": "store rel", "ww_is_read_by": "load acq", "is_reading": "load acq",
+        "take_slot": "store rlx", "add_read": "store rel", "ww_slot_reads": "load acq",
         "leave_reads": "store rlx",
     },
     # All of an open class; and of a mutex the number, which its first lock may just have given it.
@@ -392,7 +392,7 @@ TABLE = {
     "target": {"note_meeting": "store rlx", "note_asked": "store rlx", "asked_by": "load rlx"},
     "label": {"forget_age": "store rlx", "ww_acquire_label": "store rlx", "user_by": "load acq"},
     # Counts for limiters.
-    "given": {"return_otherwise": "store rlx", "given": "load rlx"},
+    "given": {"return_otherwise": "store rlx", "contexts_ended": "load rlx"},
     "begun": {"begin_crowd": "store rlx", "look_whether_of_use": "load rlx", "ww_await_permit": "fetch_add rlx"},
     # How many processors and threads there are, hints.
     "processors": {"open_seats_of": "store rlx", "ww_processors": "store rlx", "processors_of": "load rlx"},
@@ -407,11 +407,11 @@ TABLE = {
     "seekers": {"has_seekers": "load sc", "take_out": "fetch_sub sc", "put_into": "fetch_add sc", "waiters_of": "load rlx, load rlx"},
     # When to look at a limiter next, which is asked again under its lock.
     "due": {
-        "look_at_crowd": "store rlx", "goes_on": "load rlx", "ww_reset_crowd": "store rlx", "open_seats_of": "store rlx", "look_at_limiter": "store rlx",
+        "look_at_crowd": "store rlx", "go_on_in_lease": "load rlx", "ww_reset_crowd": "store rlx", "open_seats_of": "store rlx", "look_at_limiter": "store rlx",
         "look_if_due": "load rlx",
     },
     # Changed under the lock of numbers; whoever frees a class at 0 sees all that those wrote who had one.
-    "taken": {"find_number": "fetch_add rlx", "ww_give_locked": "fetch_sub rel", "taken_numbers": "load acq", "make_slot": "fetch_sub rel"},
+    "taken": {"find_number": "fetch_add rlx", "ww_give_locked": "fetch_sub rel", "taken_numbers": "load acq"},
     # How many wait for a permit, changed under the lock of the queue but by who has entered; whoever frees the class sees who does.
     "waiting": {"wait_for_permit": "fetch_add sc", "stop_waiting": "fetch_sub sc", "waiting_threads": "load sc"},
     # The seat that is handed over, and all that goes with it.
@@ -431,7 +431,7 @@ TABLE = {
     "faults": {"ww_fault": "fetch_add rlx"},
     "seen": {"ww_times": "compare_exchange rlx/rlx"},
     "times": {"ww_times": "add_fetch rlx"},
-    "warnings": {"ww_warn": "fetch_add rlx"},
+    "warnings": {"ww_end_warning": "fetch_add rlx"},
     "stamps": {"ww_watch_begin": "add_fetch rlx"},
     "endless_waits": {"ww_wait_begins": "add_fetch rlx"},
     "about": {"line_at": "compare_exchange rlx/rlx"},
@@ -514,8 +514,8 @@ PLAIN = {
     "crowd->waited": "queue: ",
     "crowd->leased": "queue: ",
     "crowd->backed_off": "queue: ",
-    "it->seat": "queue: is_over",
-    "it->ends": "queue: is_over",
+    "it->seat": "queue: ",
+    "it->ends": "queue: ",
     "it->next": "by: ww_event_wake",
     # Before others see the class, by its pool.
     "p->seats": "by: make_pool",
@@ -545,14 +545,12 @@ PLAIN = {
     # Of a slot: before others see it, by its list; and what only who has it accesses.
     "mutex->number": "by: ",
     "slot->seat": "by: ",
-    "slot->next": "by: make_slot",
-    "slot->bit": "by: make_slot",
     "slot->reads": "by: ",
     # Before others see the mutex.
     "m->readers_": "by: ww_shared_mutex_init ww_shared_mutex_init_checked",
-    "n->of_slots": "numbers: ww_open_numbers",
+    "n->of_slots": "numbers: ww_open_numbers ww_take_locked",
     "numbers->of_slots": "slots: ",
-    "p->slots": "slots: free_slots",
+    "p->slots": "slots: free_pool",
     "s->slot": "by: make_slot",
     "x->own": "by: ",
     "x->puts": "by: lock_ends",
@@ -568,7 +566,7 @@ PLAIN = {
     "met->waits": "by: note_meeting",
     "met->back_offs": "by: note_meeting",
     "of->set_aside": "queue: ",
-    "n->taken": "numbers: ",
+    "n->taken": "numbers: ww_take_locked",
     "n->left": "numbers: bytes_of_bits ww_close_numbers ww_open_numbers",
     "n->used": "numbers: free_from used_of ww_open_numbers",
     "n->lies_at": "by: ww_open_numbers",

@@ -4,7 +4,8 @@
 # and `check-plain` what needs neither them nor Python.
 #
 # Each run of a test is a target, OUT/NAME.ran, which is made anew whenever it is asked for: so `make -j` runs as many at once
-# as it may, and with -k a test that fails hides no other. What a run says is kept in OUT/NAME.ran.log, and printed if it fails.
+# as it may, and with -k a test that fails hides no other. (Scripts of our own would have to do that again; Meson would be a second
+# way to build.) What a run says is kept in OUT/NAME.ran.log, and printed if it fails.
 
 # A test stands in the folder of the layer that it guards; those of tests/debug are linked with the debug library.
 GUARDS = base admit lock doors whole
@@ -44,6 +45,7 @@ export WW_RUN = $(RUN)
 WORDS_abuse_sanitized = 500000
 WORDS_number_storm_sanitized = 4000
 WORDS_number_storm_threads = 1000
+WORDS_numbers_threads = 1000
 WORDS_storm_sanitized = 3000
 WORDS_storm_threads = 1000
 WORDS_shared_storm_sanitized = 3000
@@ -54,6 +56,7 @@ WORDS_many_threads = 200 5
 WORDS_many_unseen = 200 5
 WORDS_many_shaken = 100 5
 WORDS_torture_shaken = 400
+WORDS_moves_threads = 21
 WORDS_moves_shaken = 100
 WORDS_drawn_calls_debug = 3
 WORDS_table_any_sanitized = 4000
@@ -102,7 +105,7 @@ TESTED = $(wildcard tests/*.h) $(WITHIN)
 # call into its caller.)
 FLAGS_sanitized = -O1 -g -fsanitize=address,undefined -fno-sanitize-recover=all
 FLAGS_debug_sanitized = $(FLAGS_sanitized) -DWW_DEBUG
-FLAGS_threads = -g -fsanitize=thread
+FLAGS_threads = -O1 -g -fsanitize=thread
 FLAGS_shaken = -include tests/shake.h
 define objects
 $(OUT)/%_$(1).o: %.c tests/shake.h $(WITHIN)
@@ -185,7 +188,9 @@ one: $(OUT)/$(T)
 # All that needs no sanitizer and no Python, as programs of another processor too: without those in C++ where its compiler isn't here.
 HERE = $(filter-out $(if $(shell command -v $(CXX)),,$(IN_CXX)),$(PLAIN))
 SANITIZED = $(patsubst %,%_sanitized,$(TESTS) $(DEBUG_TESTS) examples/paths examples/mesh)
-THREADED = $(patsubst %,%_threads,$(filter-out abuse wide,$(TESTS)) hpp tables $(filter-out $(patsubst %,examples/%,port asleep demo),$(EXAMPLES)) examples/mesh race)
+THREADED = $(patsubst %,%_threads,$(filter-out abuse wide $(ONE_THREAD),$(TESTS)) hpp tables $(filter-out $(patsubst %,examples/%,port asleep demo),$(EXAMPLES)) examples/mesh race)
+# Where one thread does all no two can race.
+ONE_THREAD := $(notdir $(basename $(shell grep -LE 'pthread_create|in_threads|begin_thread|\<fork\>' /dev/null $(wildcard $(GUARDS:%=tests/%/*.c)))))
 # Storms whose atomic accesses come behind drawn pauses (tests/shake.h); and what the debug library tells of each wrong argument, of
 # mutexes by their numbers, of tasks and of readers, and of drawn calls.
 SHAKEN = $(patsubst %,%_shaken,any seats torture pool many moves shared_storm)

@@ -2,7 +2,7 @@
  * numbers.c - the numbers of a class with so many mutexes, for mutexes at any address, whatever was taken before.
  *
  * splits: free_from:60,note_taken:20,note_free:20
- * defines: MUTEXES=0 MUTEXES=1 MUTEXES=17 MUTEXES=1024 MUTEXES=1025 MUTEXES=5000 MUTEXES=65537 MUTEXES=16777216
+ * defines: MUTEXES=0 MUTEXES=1 MUTEXES=17 MUTEXES=1024 MUTEXES=1025 MUTEXES=5000 MUTEXES=65537 MUTEXES=16773121
  */
 #include <__fc_builtin.h>
 #define ww_likely_ in_128_bits
@@ -60,7 +60,7 @@ void main(void)
 	static struct ww_mutex m;
 	static uint32_t number; /* that it is written where 0 is returned isn't asked here */
 
-	if (!ww_open_numbers(&n, MUTEXES) || !n.left || !n.lies_at || !n.puts ||
+	if (!ww_open_numbers(&n, MUTEXES, 1280) || !n.left || !n.lies_at || !n.puts ||
 	    !n.used[0] || !n.used[1] || !n.used[2] || !n.used[3] || !n.used[4])
 		return;
 	while (Frama_C_interval(0, 1)) {

@@ -208,12 +208,13 @@ static inline bool unlist(struct ww_acquire_ctx *x, const struct ww_mutex *m);
     ensures kept: \result != 0 ==> same{Old, Here} && \result == r; */
 int ww_release_on(ww_seat *s, int r);
 
-/*@ requires is_mutex(m) && is_seat(s) && \separated(m, s, s->pool);
+/* Of any mutex. */
+/*@ requires \valid(m) && is_seat(s) && \separated(m, s, s->pool);
     assigns OF_SEAT(s), CORE;
-    ensures released: \result == 0 ==> s->pool->gone || (core_has == 0 && core_holds == \old(core_holds) - 1 && rests);
+    ensures released: \result == 0 ==> s->pool->gone || (less_held{Old, Here}(m->number) && rests);
     ensures kept: \result != 0 ==> same{Old, Here};
-    ensures held: \old(core_has) == 1 && rests{Old} ==> \result == 0;
-    ensures exact: \result == 0 || (\result == -EINVAL && core_has == 0) || (\result == -EBUSY && !rests); */
+    ensures held: m->number == the_lock && \old(core_has) == 1 && rests{Old} ==> \result == 0;
+    ensures exact: \result == 0 || (\result == -EINVAL && lacks(m->number)) || (\result == -EBUSY && !rests); */
 static inline int unlock_by(struct ww_mutex *m, ww_seat *s);
 
 /* Of any mutex, by a context whose list doesn't have it, or has it no more. */
@@ -249,9 +250,11 @@ static inline int unlock_unlisted(struct ww_mutex *m, struct ww_acquire_ctx *x);
     ensures child: IS_LISTED(x, m) && !rests{Old} && x->own->pool->gone ==> \result == 0; */
 int ww_unlock_of(struct ww_mutex *m, struct ww_acquire_ctx *x);
 
-/*@ requires is_seat(s) && number == the_lock;
+/* Of any lock; in a forked child, too, whose seat may have a call that can't end. */
+/*@ requires is_seat(s);
     assigns \nothing;
-    ensures rests ==> (\result <==> core_has == 1); */
+    ensures owns: \result && (rests || s->pool->gone) ==> holds(number) && rests;
+    ensures lacks: !\result && rests ==> lacks(number); */
 bool ww_owns(ww_seat *s, uint32_t number);
 /*@ requires is_seat(s); assigns \nothing; */
 static inline uint32_t place_among(const ww_seat *s);

@@ -120,15 +120,17 @@ bool ww_is_gone(const struct ww_pool *p, const struct ww_mutex *m, uint32_t puts
 #define HAS_FIRST(came, x, m) \
 	ensures owes: came && (x->state & IS_PRELOCKED) != 0 ==> x->prelocked == m; \
 	ensures lists: came && (x->state & IS_PRELOCKED) != 0 ==> x->newest == m && m->older == \null; \
-	ensures has: came && (x->state & IS_PRELOCKED) != 0 ==> core_has == 1; \
-	ensures released: came && (x->state & IS_PRELOCKED) == 0 ==> core_has == 0 || GONE(x); \
+	ensures has: came && (x->state & IS_PRELOCKED) != 0 && m->number == the_lock ==> core_has == 1; \
+	ensures released: came && (x->state & IS_PRELOCKED) == 0 ==> lacks(m->number) || GONE(x); \
+	ensures others: core_has == \old(core_has) || m->number == the_lock || GONE(x); \
+	ensures rests: came ==> rests || GONE(x); \
 	ensures eased: came ==> (x->state & WAITS_FIRST) == 0 && (x->state & HAS_TO_BACK_OFF) == 0
 /*@ requires user: is_user_of(x);
     requires loops: loops(x);
     requires rests: rests || GONE(x);
-    requires mutex: is_mutex(m) && m != \null;
+    requires mutex: \valid(m) && m != \null;
     requires apart: apart(m, x, x->own);
-    requires has: core_has == 1;
+    requires has: m->number == the_lock ==> core_has == 1;
     requires listed: !visits ==> x->newest == m && m->older == \null;
     assigns x->state, x->pool, x->prelocked, x->newest, x->acquired, m->ctx, OF_SEAT(x->own), CORE;
     HAS_FIRST(\true, x, m);

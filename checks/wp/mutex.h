@@ -86,13 +86,15 @@ bool ww_mutex_is_locked(struct ww_mutex *m);
 /* ---- lock calls that succeed without a step, and what a loop has to do then ---- */
 
 #define OWED(x, m) \old((x->state & IS_PRELOCKED) != 0 && x->prelocked == m)
-#define IN_LOOP(x, m) is_user_of(x) && is_mutex(m) && m != \null && \separated(m, x, x->own, x->own->pool) && rests && (loops(x) ==> is_list(x))
+/* Of any mutex. */
+#define IN_LOOP(x, m) is_user_of(x) && \valid(m) && m != \null && \separated(m, x, x->own, x->own->pool) && rests && (loops(x) ==> is_list(x))
 /* What becomes of the list, if the mutex is one that is owed. */
 #define OF_OWED(x, m) x->pool, x->state, x->newest, m->older, { node(k)->older | integer k; loops(x) && 0 <= k < nodes }
 /*@ requires IN_LOOP(x, m);
     assigns OF_OWED(x, m);
     ensures outside: !loops{Old}(x) ==> !\result && x->pool == \old(x->pool) && m->older == \old(m->older);
-    ensures has: \result ==> core_has == 1 && loops{Old}(x);
+    ensures has: \result ==> holds(m->number) && loops{Old}(x);
+    ensures none: !\result && loops{Old}(x) && OWED(x, m) ==> lacks(m->number);
     ensures asked: \result ==> may_repeat || OWED(x, m);
     ensures state: \result && OWED(x, m) ==> x->state == (\old(x->state) & ~IS_PRELOCKED);
     ensures fails: !\result || !OWED(x, m) ==> x->state == \old(x->state) && x->newest == \old(x->newest);
@@ -100,9 +102,9 @@ bool ww_mutex_is_locked(struct ww_mutex *m);
     ensures stays: same{Old, Here} && x->acquired == \old(x->acquired) && x->own == \old(x->own); */
 bool ww_accept_held(struct ww_acquire_ctx *x, struct ww_mutex *m, bool may_repeat);
 
-/*@ requires IN_LOOP(x, m) && (r == 0 ==> core_has == 1);
+/*@ requires IN_LOOP(x, m) && (r == 0 ==> holds(m->number));
     assigns OF_OWED(x, m);
-    ensures took: \result == 0 ==> core_has == 1;
+    ensures took: \result == 0 ==> holds(m->number);
     ensures exact: \result == r || (r == -EALREADY && \result == 0);
     ensures told: r == -EDEADLK ==> (x->state & HAS_TO_BACK_OFF) != 0;
     ensures asked: r == 0 && OWED(x, m) ==> x->state == (\old(x->state) & ~(TRIES | IS_PRELOCKED));

@@ -2,7 +2,7 @@
  * wait.h - the steps of a wait.
  *
  * source: lock/wait.c
- * proves: ww_try_awake is_due stop_if_due go_on_awake sleep_or_leave_waker wake ww_go_on ww_give_back
+ * proves: ww_try_awake stop_if_due go_on_awake wake ww_go_on ww_give_back
  */
 #include "core.h"
 
@@ -38,16 +38,10 @@ static inline bool ww_ends_waits(const struct ww_pool *p);
 
 /*@ assigns \nothing; */
 static bool has_to_queue(ww_seat *s, int32_t seen);
-/*@ requires is_wait(wait); assigns \nothing; */
-static bool is_due(const ww_seat *s, const struct ww_wait *wait);
 /*@ requires is_seat(s) && (wait != \null ==> is_wait(wait)); assigns s->handle.mode, s->handle.below; */
 static void stop_if_due(ww_seat *s, const struct ww_wait *wait);
 /*@ requires is_seat(s); assigns s->handle.mode, s->handle.below; */
 static void wake(ww_seat *s);
-/*@ requires is_seat(s) && is_wait(wait) && away(wait, s);
-    assigns s->token, s->armed, s->waker;
-    ensures task: \result ==> wait->how->who == TASK; */
-static bool sleep_or_leave_waker(ww_seat *s, const struct ww_wait *wait);
 
 /* What a call that is on its way comes to, made by further steps. */
 /*@ predicate ends{A, B}(int r) =

@@ -322,7 +322,7 @@ impl RawClass {
     /// How many mutexes a class may have at a time, unless [`class!`](crate::class!) says another number.
     pub const MUTEXES: u32 = 65_536;
     /// How many mutexes a class may have at a time at most.
-    pub const MOST_MUTEXES: u32 = 1 << 24;
+    pub const MOST_MUTEXES: u32 = (1 << 24) - 4_095;
     /// How many contexts a class has at a time at least. If [`class!`](crate::class!) says another number, it has exactly
     /// as many, and each costs more.
     pub const CONTEXTS: u32 = 1_024;
@@ -335,7 +335,7 @@ impl RawClass {
     #[must_use]
     pub const fn by_class_(kind: Kind, name: &'static str, mutexes: u32, contexts: u32) -> Self {
         let Ok(name) = CStr::from_bytes_with_nul(name.as_bytes()) else { panic!("a name has one zero, at its end") };
-        assert!(mutexes >= 1 && mutexes <= Self::MOST_MUTEXES, "a class has 1 to 16,777,216 mutexes");
+        assert!(mutexes >= 1 && mutexes <= Self::MOST_MUTEXES, "a class has 1 to 16,773,121 mutexes");
         assert!(contexts >= 1 && contexts <= Self::MOST_CONTEXTS, "a class has 1 to 4,094 contexts");
         RawClass {
             raw: UnsafeCell::new(ffi::ww_class {
@@ -519,10 +519,10 @@ impl fmt::Debug for RawClass {
 /// }
 /// ```
 ///
-/// Limits outside 1 to 16,777,216 mutexes and 1 to 4,094 contexts don't compile:
+/// Limits outside 1 to 16,773,121 mutexes and 1 to 4,094 contexts don't compile:
 ///
 /// ```compile_fail,E0080
-/// ww_mutex::class!(struct Ports: WaitDie, mutexes = 16_777_217);
+/// ww_mutex::class!(struct Ports: WaitDie, mutexes = 16_773_122);
 /// ```
 ///
 /// ```compile_fail,E0080
@@ -559,4 +559,7 @@ macro_rules! class {
     };
     (@limit $usual:ident) => { $crate::RawClass::$usual };
     (@limit $usual:ident $limit:expr) => { $limit };
+    ($($other:tt)*) => {
+        ::core::compile_error!("a class is written `struct Accounts: WoundWait`, or `WaitDie`, then `, mutexes = 1_000` or `, contexts = 8`, or both");
+    };
 }

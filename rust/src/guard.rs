@@ -5,17 +5,20 @@ use std::sync::Arc;
 
 /// The owner of a lock: the address of a context, or, without one, that of the library's mutex plus one.
 #[derive(Clone, Copy)]
-pub(crate) struct Holder(*mut ww_acquire_ctx);
+pub(crate) struct Holder(*mut OnlyItsThreadUnlocks);
+
+/// The compiler names it where another thread would drop a guard.
+enum OnlyItsThreadUnlocks {}
 
 impl Holder {
     #[inline]
     pub(crate) fn context(context: *mut ww_acquire_ctx) -> Self {
-        Holder(context)
+        Holder(context.cast())
     }
 
     #[inline]
     pub(crate) fn alone(mutex: *mut ww_mutex) -> Self {
-        Holder(mutex.cast::<ww_acquire_ctx>().wrapping_byte_add(1))
+        Holder(mutex.cast::<OnlyItsThreadUnlocks>().wrapping_byte_add(1))
     }
 
     /// # Safety
@@ -29,7 +32,7 @@ impl Holder {
             if is_alone {
                 ffi::ww_mutex_unlock(self.0.wrapping_byte_sub(1).cast());
             } else {
-                ffi::unlock(index, self.0);
+                ffi::unlock(index, self.0.cast());
             }
         }
     }
@@ -41,7 +44,7 @@ impl Holder {
     /// It is a context, of this thread, and writes this shared mutex.
     pub(crate) unsafe fn downgrade(self, mutex: *mut ww_shared_mutex) {
         // SAFETY: as asked for here.
-        unsafe { ffi::downgrade(mutex, self.0) };
+        unsafe { ffi::downgrade(mutex, self.0.cast()) };
     }
 }
 

@@ -45,6 +45,9 @@
 //! certain. No deadlock is detected that involves another class, another kind of lock, a channel or a thread that is
 //! waited for.
 //!
+//! There is no condition variable, no mapped guard, and no `lock_api`, whose locks know no class. [`typed`] has neither readers,
+//! lists nor limits, and tasks have no upgrade.
+//!
 //! It isn't promised that a waiting call returns, or in which order; there is no fairness. In a
 //! forked child a class goes on unless it was in use at the fork: a mutex was locked, a context had begun, or a thread was
 //! amid a call. Then each use panics there. Signal handlers may use nothing of it. A wait blocks its thread, except the

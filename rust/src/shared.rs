@@ -30,13 +30,13 @@ use std::sync::Arc;
 /// # Ok::<(), Error>(())
 /// ```
 ///
-/// Of the mutexes of its class each transaction that reads takes one more, which a thread keeps for its next ones:
+/// Readers take no mutexes of their class:
 ///
 /// ```
-/// # use ww_mutex::{class, Class, Error, SharedMutex};
+/// # use ww_mutex::{class, Class, SharedMutex};
 /// class!(struct Few: WoundWait, mutexes = 2);
 /// static BOTH: [SharedMutex<Few, u64>; 2] = [SharedMutex::new(1), SharedMutex::new(2)];
-/// assert_eq!(Few::run(|tx| Ok(*tx.read(&BOTH[0])? + *tx.read(&BOTH[1])?)), Err(Error::Exhausted));
+/// assert_eq!(Few::run(|tx| Ok(*tx.read(&BOTH[0])? + *tx.read(&BOTH[1])?)), Ok(3));
 /// ```
 ///
 /// What it may come to write it reads by a guard ([`Tx::read_upgradable`](crate::Tx::read_upgradable)).

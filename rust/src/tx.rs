@@ -195,7 +195,7 @@ impl<C: Class> Tx<C> {
     /// # Errors
     ///
     /// As [`lock`](Self::lock); `Duplicate` while it has a guard of this mutex. The first read of a context of the class
-    /// takes a mutex of that, so it may get `Exhausted`, and memory (`OutOfMemory`).
+    /// takes memory, so it may get `OutOfMemory`.
     ///
     /// # Panics
     ///

@@ -5,7 +5,7 @@ use std::mem;
 use std::panic::{catch_unwind, AssertUnwindSafe};
 use std::sync::atomic::{AtomicBool, Ordering};
 use std::sync::mpsc::channel;
-use std::sync::Barrier;
+use std::sync::{Arc, Barrier};
 use std::thread;
 use std::time::{Duration, Instant};
 use ww_mutex::typed::{Context, Refused};
@@ -34,6 +34,34 @@ fn a_panic_is_of_the_callers_line() {
 
 fn panics<R>(what: impl FnOnce() -> R) -> bool {
     catch_unwind(AssertUnwindSafe(|| drop(what()))).is_err()
+}
+
+/// At once, by each guard: where no context ends, or before that ends.
+#[test]
+fn a_panic_releases_what_its_guards_hold() {
+    class!(struct Boxes: WoundWait);
+    let [alone, inside]: [Mutex<Boxes, u64>; 2] = [Mutex::new(1), Mutex::new(2)];
+    let (shared, at) = (Arc::new(SharedMutex::<Boxes, u64>::new(3)), Arc::new(Mutex::<Boxes, u64>::new(4)));
+    let are_free = || !(alone.is_locked() || inside.is_locked() || shared.is_locked() || at.is_locked());
+    assert!(panics(|| {
+        let _held = alone.lock();
+        panic!()
+    }));
+    assert!(are_free());
+    let told = Boxes::run(|tx| {
+        assert!(panics(|| {
+            let _held = (tx.lock(&inside).unwrap(), tx.write(&shared).unwrap(), tx.lock_arc(&at).unwrap());
+            panic!()
+        }));
+        assert!(are_free());
+        assert!(panics(|| {
+            let _held = (tx.write_arc(&shared).unwrap(), tx.guards().lock(&inside).map(|_| ()));
+            panic!()
+        }));
+        assert!(are_free());
+        Ok(())
+    });
+    assert_eq!(told, Ok(()));
 }
 
 /// Until the body has returned, and runs again, whatever it returned.

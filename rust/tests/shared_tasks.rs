@@ -7,6 +7,7 @@ mod executor;
 use executor::{at_most, block_on, poll, times, yield_now, Draws, Flag, Pool};
 use std::future::Future;
 use std::mem;
+use std::panic::{self, AssertUnwindSafe};
 use std::pin::{pin, Pin};
 use std::sync::atomic::{AtomicU64, Ordering::Relaxed};
 use std::sync::Arc;
@@ -462,4 +463,24 @@ fn storm<C: Class>() {
 
 async fn transact_alone<C: Class>(cell: &SharedMutex<C, (u64, u64)>) -> u64 {
     transaction!(C, |tx| Ok::<_, Error>(tx.read(cell).await?.0)).unwrap()
+}
+
+/// At once, though their context goes on.
+#[test]
+fn a_panic_releases_what_its_guards_hold() {
+    class!(struct Boxes: WoundWait, contexts = 4);
+    let [one, alone] = [1, 2].map(Mutex::<Boxes, u64>::new);
+    let (at, shared) = (Arc::new(Mutex::<Boxes, u64>::new(3)), SharedMutex::<Boxes, u64>::new(4));
+    let told: Result<[bool; 5], Error> = block_on(async {
+        transaction!(Boxes, |tx| {
+            let lone = alone.lock_by_task().await?;
+            let held = (tx.lock(&one).await?, tx.lock_arc(&at).await?, tx.write(&shared).await?, lone);
+            let panics = panic::catch_unwind(AssertUnwindSafe(|| {
+                let _held = held;
+                panic::resume_unwind(Box::new(()));
+            }));
+            Ok([panics.is_ok(), one.is_locked(), at.is_locked(), shared.is_locked(), alone.is_locked()])
+        })
+    });
+    assert_eq!(told, Ok([false; 5]));
 }

@@ -19,7 +19,9 @@ _DEBUGS = os.environ.get("WW_DEBUG", "") not in ("", "0")
 
 def unexpected(what: str, it: object) -> TypeError:
     """The error of a value that is of another kind than this."""
-    return TypeError(f"{what} is expected, not {it!r}" + ": unpack it by *" * isinstance(it, (tuple, list, set)))
+    is_time = isinstance(it, (int, float)) and what in ("a ww.Mutex", "a ww.SharedMutex")
+    hint = ": unpack it by *" if isinstance(it, (tuple, list, set)) else f": a time limit is timeout={it}" if is_time else ""
+    return TypeError(f"{what} is expected, not {it!r}{hint}")
 
 
 def whole(what: str, it: Any, end: int) -> int:
@@ -43,12 +45,13 @@ def check_body(body: Any, result: Any, is_async: bool = False) -> None:
     import inspect
 
     what = f"{'an async' if is_async else 'a plain'} function of the context"
-    is_wrong = inspect.iscoroutinefunction(body) or inspect.isgeneratorfunction(body) or inspect.isasyncgenfunction(body)
+    kinds = {"an async function": inspect.iscoroutinefunction, "a generator": inspect.isgeneratorfunction, "an async generator": inspect.isasyncgenfunction}
+    is_of = next((f", which is {it}" for it, is_one in kinds.items() if is_one(body)), "")
     if is_async:
-        is_wrong = result is not ... and not inspect.isawaitable(result)
-    if is_wrong or not callable(body):
+        is_of = f", which returned {result!r}" if result is not ... and not inspect.isawaitable(result) else ""
+    if is_of or not callable(body):
         getattr(result, "close", bool)()
-        raise unexpected(what, body) from None
+        raise TypeError(f"{unexpected(what, body)}{is_of}") from None
 
 
 class Single:
@@ -188,7 +191,7 @@ def _short(library: Library, name: str) -> Any:
 
 
 def _was_locked(code: int, *_: object) -> int:
-    told(code, "it isn't locked")
+    told(code, "it isn't locked by acquire or by its own block")
     return code
 
 
@@ -258,12 +261,13 @@ _WHY = {
 }
 
 
-def told(code: int, why: Optional[str] = None) -> None:
-    """Raises the error that a call returned, if that isn't 0, with the usual reason or this one."""
+def told(code: int, why: Optional[str] = None, at: object = None) -> None:
+    """Raises the error that a call returned, if that isn't 0, with the usual reason or this one, and what it came at."""
     if code:
         kinds: Dict[int, Any] = {-errno.EALREADY: Already, -errno.EDEADLK: Deadlock}
         kind = kinds.get(code, OSError)
-        raise kind(-code, why or _WHY.get(-code) or os.strerror(-code))
+        why = why or _WHY.get(-code) or os.strerror(-code)
+        raise kind(-code, why if at is None or kind is Deadlock else f"{why}: {at!r}")
 
 
 _files: Dict[str, ctypes.c_char_p] = {}  # As the debug library keeps their names.

@@ -112,8 +112,13 @@ class _Thread(threading.local):
 _mine = _Thread()
 
 
-def _wrong(why: str) -> OSError:
-    return OSError(errno.EINVAL, why)
+# Why a call of a context or of a transaction is refused here and now.
+_UNBEGUN = "it hasn't begun, or has ended, and is used in its block, `with .. as it`"
+_ANOTHERS = "it belongs to another thread, and each thread begins its own"
+
+
+def _wrong(why: str, at: object = None) -> OSError:
+    return OSError(errno.EINVAL, why if at is None else f"{why}: {at!r}")
 
 
 @functools.lru_cache(maxsize=None)
@@ -175,7 +180,7 @@ class Class(Single):
 
     def __init__(self, kind: int = WOUND_WAIT, mutexes: int = 0, contexts: int = 0, library: Optional[str] = None, name: str = "") -> None:
         if kind not in (WOUND_WAIT, WAIT_DIE):
-            raise _wrong("a class is WOUND_WAIT or WAIT_DIE")
+            raise _wrong(f"a class is ww.WOUND_WAIT or ww.WAIT_DIE, not {kind!r}")
         if not isinstance(name, str):
             raise unexpected("a name that is a str", name)
         for it in mutexes, contexts:
@@ -186,7 +191,7 @@ class Class(Single):
         self._at = _memory(self._library.ww_class_size())
         self._its_end = _ending(functools.partial(self._library.ww_class_free, self._at), c_name)
         self._library.ww_class_init(self._at, kind, c_name)
-        told(self._library.ww_class_limit(self._at, mutexes, contexts), "a class has at most 16,777,216 mutexes and 4,094 contexts")
+        told(self._library.ww_class_limit(self._at, mutexes, contexts), "a class has at most 16,773,121 mutexes and 4,094 contexts")
         self._nobody: Any = types.SimpleNamespace(_at=self._library.context())  # a context that never begins
 
     def __repr__(self) -> str:
@@ -237,7 +242,7 @@ class Class(Single):
             if not isinstance(mutex, Mutex):
                 raise unexpected("a ww.Mutex", mutex)
             if mutex._class is not self:
-                raise _wrong(f"the mutex is of another class than the context's, {self.name!r}: {mutex!r}")
+                raise _wrong(f"the mutex is of another class than the context's, {self.name!r}", mutex)
 
     def run(self, body: Callable[[Context], _T], timeout: Optional[float] = None) -> _T:
         """Returns what body(context) returns. If body gets Deadlock, everything is released, and it is called again: so
@@ -286,7 +291,7 @@ class Suspended(Single):
         if not isinstance(self, Suspended):
             raise unexpected("a ww.Suspended", self)
         if self._class is not of:
-            raise _wrong("what is suspended is of another class")
+            raise _wrong(f"it is of another class than {of!r}", self)
 
     def _suspend(self, context: Any) -> bool:
         """Whether it has the age of this context, which then has ended."""
@@ -346,7 +351,10 @@ class Mutex(Single):
         # A number of the class, and where the library's mutex of this number is: it keeps no address of ours.
         self._number = number = ctypes.c_uint32(_NONE)
         self._its_end = _ending(functools.partial(self._library.ww_number_leave, number, of._at), of._its_end)
-        told(self._library.ww_number_take(ctypes.byref(number), of._at))
+        code = self._library.ww_number_take(ctypes.byref(number), of._at)
+        if code:
+            _ends[self._its_end] = bool  # It has no number to put back.
+        told(code, None, of)
         self._at = self._library.ww_number_at(number, of._at)
 
     def _call(self, name: str) -> Any:
@@ -359,7 +367,7 @@ class Mutex(Single):
 
     def __enter__(self, timeout: Optional[float] = None) -> Mutex:
         if timeout is None and _mine.holds(self):
-            raise Already(errno.EALREADY, "this thread holds it already")
+            raise Already(errno.EALREADY, f"this thread holds it already: {self!r}")
         context, until = Context(self._class), _until(timeout)
         try:
             context._begin(until)
@@ -399,7 +407,10 @@ class Mutex(Single):
 
     def release(self) -> None:
         """Releases it, in whichever thread. EINVAL: it isn't locked by acquire or a block."""
-        self.__exit__()
+        try:
+            self.__exit__()
+        except OSError as error:
+            raise _wrong(error.strerror, self) from None
 
     def locked(self) -> bool:
         """Whether somebody holds or reads it: that may be out of date when it returns."""
@@ -436,10 +447,10 @@ class Holder(Single):
         """Whether it was asked for, and is held: the library's mutexes with a number are all shared ones."""
         return bool(self._library.ww_shared_mutex_is_written_by(mutex._at, self._at))
 
-    def _told(self, code: int) -> None:
+    def _told(self, code: int, mutex: Mutex) -> None:
         """As told, of a lock call."""
         is_misuse = code == -errno.EINVAL and self._is_contended()
-        told(code, "the context got Deadlock and still holds a mutex: release all, or let the body return" if is_misuse else None)
+        told(code, "the context got Deadlock and still holds a mutex: release all, or let the body return" if is_misuse else None, mutex)
 
     def __contains__(self, mutex: object) -> bool:
         """Whether it holds this mutex."""
@@ -457,7 +468,7 @@ class Holder(Single):
         """Releases it; of a SharedMutex ends its read, too."""
         self._check(mutex)
         if mutex not in self:
-            raise _wrong("the context doesn't hold it")
+            raise _wrong("the context doesn't hold it", mutex)
         if self._has(mutex):
             told(self._library.ww_number_unlock(mutex._number, self._at))
         self._end_reads({mutex._number.value})
@@ -564,7 +575,7 @@ class Context(Holder):
     def _check(self, *mutexes: Mutex) -> None:
         """Raises if a call of this thread would be misuse."""
         if self._thread != threading.get_ident() or self._is_over:
-            raise _wrong("the context belongs to another thread, or its `with` block isn't running")
+            raise _wrong(_UNBEGUN if self._is_over else _ANOTHERS, self)
         self._class._check(*mutexes)
 
     def _is_contended(self) -> bool:
@@ -603,7 +614,7 @@ class Context(Holder):
                     if name == "lock_shared_until":
                         read.add(mutex._number.value)
                         self._reads |= read  # Before it is read: so it is for as long as that goes on.
-                    self._told(self._answer(mutex, until, mutex._call(name)))
+                    self._told(self._answer(mutex, until, mutex._call(name)), mutex)
                 return
             except BaseException as error:
                 if mark:
@@ -618,7 +629,7 @@ class Context(Holder):
         """Of a SharedMutex that it holds: from now on it reads it, and others may; nobody writes it in between."""
         self._check(mutex)
         if not (isinstance(mutex, SharedMutex) and self._has(mutex)):
-            raise _wrong("the context doesn't hold it")
+            raise _wrong("the context doesn't write it", mutex)
         self._reads.add(mutex._number.value)
         if self._library.ww_shared_mutex_is_read_by(mutex._at, self._at):
             told(self._library.ww_number_unlock(mutex._number, self._at))
@@ -668,10 +679,10 @@ class Context(Holder):
     def done(self) -> None:
         """Says that it has all its mutexes. EINVAL: this was said before."""
         self._check()
-        told(self._library.ww_acquire_done_checked(self._at), "this was said before")
+        told(self._library.ww_acquire_done_checked(self._at), "done was called before", self)
 
     def cancel(self) -> None:
         """Ends its wait, the current one or the next; any thread may call it. Already: a cancel is pending; EINVAL: the
         context hasn't begun, or has ended."""
         code = self._library.ww_acquire_cancel(self._at)
-        told(code, "a cancel is pending already" if code == -errno.EALREADY else "the context hasn't begun, or has ended")
+        told(code, "a cancel is pending already" if code == -errno.EALREADY else _UNBEGUN, self)

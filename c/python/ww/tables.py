@@ -9,7 +9,7 @@ import threading
 from typing import Any, Callable, Dict, List, NamedTuple, Optional, TypeVar, Union
 
 from .library import UNRUN, Deadlock, Library, Single, Time, at_caller, check_body, told, unexpected, whole
-from .mutexes import Class, Suspended, _Call, _ending, _Exit, _in_slices, _is_main, _until, _wrong
+from .mutexes import _ANOTHERS, _UNBEGUN, Class, Suspended, _Call, _ending, _Exit, _in_slices, _is_main, _until, _wrong
 
 _T = TypeVar("_T")
 Key = Union[bytes, str]
@@ -179,8 +179,9 @@ class Transaction(Single):
 
     def _check(self) -> None:
         """Raises if a call of this thread would be misuse."""
-        if self._thread != threading.get_ident() or self._library.ww_acquire_end_wait(self._at):
-            raise _wrong("the transaction belongs to another thread, or its `with` block isn't running")
+        is_over = self._library.ww_acquire_end_wait(self._at)
+        if self._thread != threading.get_ident() or is_over:
+            raise _wrong(_UNBEGUN if is_over else _ANOTHERS, self)
 
     def _ask(self, key: bytes, mode: int, by: int, until: Optional[int]) -> int:
         """What this lock call returns in the end."""
@@ -203,7 +204,7 @@ class Transaction(Single):
             try:
                 for key in keys:
                     code = self._ask(key, mode, 0, until)
-                    told(code, _FULL if code == -errno.ENOSPC else None)
+                    told(code, _FULL if code == -errno.ENOSPC else None, key)
                 return
             except BaseException as error:
                 self.unlock_to(mark)
@@ -225,7 +226,7 @@ class Transaction(Single):
         self._check()
         code = self._ask(_bytes(key), mode, _TRIES, None)
         if code != -errno.EBUSY:
-            told(code, _FULL if code == -errno.ENOSPC else None)
+            told(code, _FULL if code == -errno.ENOSPC else None, key)
         return not code
 
     def try_lock(self, key: Key) -> bool:
@@ -240,7 +241,7 @@ class Transaction(Single):
         """Releases the key. EINVAL: the transaction doesn't have it."""
         self._check()
         words = _bytes(key)
-        told(self._library.ww_table_unlock(self._table._at, self._at, words, len(words)), "the transaction doesn't have the key")
+        told(self._library.ww_table_unlock(self._table._at, self._at, words, len(words)), "the transaction doesn't have the key", key)
         self._got_deadlock &= bool(self.mark())
 
     def mark(self) -> int:

@@ -235,7 +235,7 @@ class TaskContext(Holder):
         while around:
             it = around[0]()
             if it and it._task == context._task and mutex in it:
-                raise Already(errno.EALREADY, "this task holds it already")
+                raise Already(errno.EALREADY, f"this task holds it already: {mutex!r}")
             around = around[1]
         try:
             await context.begin()
@@ -334,7 +334,7 @@ class TaskContext(Holder):
         if mutex._call("trylock" + shared)(mutex._at, self._at) != 1:
             code = await self._wait(functools.partial(mutex._call(f"lock{shared}_poll"), mutex._at, self._at), until)
             self._got_deadlock |= code == -errno.EDEADLK
-            self._told(code)
+            self._told(code, mutex)
 
     async def lock(self, *mutexes: Mutex, timeout: Optional[float] = None) -> None:
         """Acquires all of them, and waits for them; at most for `timeout` seconds (TimeoutError). One that is free is acquired,

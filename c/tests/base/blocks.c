@@ -2,8 +2,9 @@
  * The heap of the proved library by itself: blocks that grow, shrink and are freed, and pages that go back.
  *
  * A block that grows or shrinks keeps what was written, and nothing behind it is read or written; what is freed goes
- * back, whichever thread frees it.  Of what a world wrote as it opened each whole page of zeros is returned to the
- * system, and no other page.  The heap's memset writes what memset writes, and takes no memory for zeros over zeros.
+ * back, whichever thread frees it.  Of the large blocks that a world has when it is open, those of zeros are returned to the
+ * system, and no other.  The copies that it makes meanwhile lie side by side.  The heap's memset writes what memset writes, and takes no
+ * memory for zeros.
  */
 #define _GNU_SOURCE
 #include "../resident.h"
@@ -63,25 +64,43 @@ static void *maps(void *at, size_t size, int prot, int flags, int file, off_t of
 	return takes(size, page);
 }
 
+/* A part goes: what lies before and behind it stays. */
 static int unmaps(void *at, size_t size)
 {
-	(void)size;
-	gives(at);
+	char *from = at, *end = from + size;
+	unsigned k = 0, behind = 0;
+
+	pthread_mutex_lock(&changes);
+	while (!there[k].at || from < there[k].at || from >= there[k].end)
+		MUST(++k < MOST);
+	MUST(size && end <= there[k].end);
+	while (there[behind].at)
+		MUST(++behind < MOST);
+	if (end < there[k].end) {
+		there[behind].at = there[behind].from = end;
+		there[behind].end = there[k].end;
+	}
+	there[k].end = from;
+	if (from == there[k].at)
+		there[k].at = NULL;
+	pthread_mutex_unlock(&changes);
+	MUST(mmap(at, size, PROT_NONE, MAP_PRIVATE | MAP_ANONYMOUS | MAP_FIXED, -1, 0) == at);
 	return 0;
 }
 
-/* What was returned, page by page. */
-static bool was_returned[4096];
-static char *first; /* of the pages that are looked at */
+/* How many bytes were returned, and for how many large pages were asked for; and what has small pages from now on. */
+static size_t returned, enlarged;
+static char *small_from, *small_end;
 
 static int advises(void *at, size_t size, int advice)
 {
-	char *from = at;
-
-	MUST(!((uintptr_t)from % page));
-	for (size_t k = 0; advice == MADV_DONTNEED && k < size; k += page)
-		if (first && from + k >= first && from + k < first + sizeof was_returned / sizeof *was_returned * page)
-			was_returned[(size_t)(from + k - first) / page] = true;
+	MUST(!((uintptr_t)at % page));
+	returned += advice == MADV_DONTNEED ? size : 0;
+	enlarged += advice == MADV_HUGEPAGE ? size : 0;
+	if (advice == MADV_NOHUGEPAGE && !small_from) {
+		small_from = at;
+		small_end = small_from + size;
+	}
 	return madvise(at, size, advice);
 }
 
@@ -163,36 +182,62 @@ static void freed_amid(void)
 	MUST(!blocks());
 }
 
-/* Of each page that isn't zero one byte isn't.  A block with large pages begins with one, and its first page goes back too. */
+/* Of a block that isn't zero one byte isn't. */
 static void zeros_go(size_t size)
 {
-	size_t pages, kept[] = { 1, 2, 5, 9, 12, 15 };
-	char *p, *byte[sizeof kept / sizeof *kept];
+	const size_t bytes[] = { 0, 1, size / 2, size - 1 };
 
-	memset(was_returned, 0, sizeof was_returned);
+	for (unsigned k = 0; k <= sizeof bytes / sizeof *bytes; k++) {
+		bool stays_zero = k == sizeof bytes / sizeof *bytes;
+		char *p;
+
+		ww_heap_opens();
+		p = block(size);
+		memset(p, 0, size);
+		if (!stays_zero)
+			p[bytes[k]] = 1;
+		returned = 0;
+		MUST(ww_heap_opened() >= size);
+		MUST(stays_zero ? returned >= size : !returned);
+		MUST(stays_zero || p[bytes[k]] == 1);
+		rattle_dealloc(p);
+		MUST(!blocks());
+	}
+}
+
+/*
+ * As a world does: it makes blocks of zeros, a copy of each, and frees them. The last copy, which has the wait lists, has small pages from
+ * then on. The copies are freed when the world is closed.
+ */
+static void copies(size_t one, size_t other, bool apart)
+{
+	char *zeros[2], *copy[2];
+	size_t all;
+
+	enlarged = 0;
 	ww_heap_opens();
-	p = block(size);
-	memset(p, 0, size);
-	first = size < LARGE_PAGE ? p - (uintptr_t)p % page + page : p;
-	MUST(size < LARGE_PAGE || !((uintptr_t)p % LARGE_PAGE));
-	pages = (size_t)(p + size - first) / page;
-	for (unsigned k = 0; k < sizeof kept / sizeof *kept; k++) {
-		byte[k] = first + kept[k] * page + (k % 3 == 0 ? page - 1 : k % 3 == 1 ? 0 : page / 2);
-		if (kept[k] < pages)
-			*byte[k] = 1;
+	for (unsigned k = 0; k < 2; k++) {
+		zeros[k] = block(k ? other : one);
+		ww_heap_set(zeros[k], 0, k ? other : one);
 	}
-	ww_heap_opened();
-	for (size_t at = 0; at < pages; at++) {
-		bool keeps = false;
-
-		for (unsigned k = 0; k < sizeof kept / sizeof *kept; k++)
-			keeps |= kept[k] == at;
-		MUST(was_returned[at] == !keeps);
-	}
-	for (unsigned k = 0; k < sizeof kept / sizeof *kept; k++)
-		MUST(kept[k] >= pages || *byte[k] == 1);
-	first = NULL;
-	rattle_dealloc(p);
+	copy[1] = block(other);
+	copy[0] = block(one);
+	memcpy(copy[1], zeros[1], other);
+	memcpy(copy[0], zeros[0], one);
+	for (unsigned k = 0; k < 2; k++)
+		rattle_dealloc(zeros[k]);
+	returned = 0;
+	small_from = NULL;
+	all = ww_heap_opened();
+	MUST(small_from == copy[0] - AHEAD && small_end >= copy[0] + one);
+	MUST(all >= one + other && all < one + other + 4 * page && returned == all && blocks() == (apart ? 2 : 1));
+	MUST(apart ? !enlarged : enlarged >= one + other);
+	MUST(apart || (copy[0] > copy[1] && copy[0] < copy[1] + other + 2 * page && !(((uintptr_t)copy[1] - AHEAD) % LARGE_PAGE)));
+	memset(copy[0], 1, one);
+	memset(copy[1], 1, other);
+	rattle_dealloc(copy[0]);
+	copy[1][other - 1] = 2;
+	rattle_dealloc(copy[1]);
 	MUST(!blocks());
 }
 
@@ -231,6 +276,9 @@ int main(void)
 	for (size_t size = LARGE; size < LARGE + 2 * page; size += page / 2)
 		zeros_go(size);
 	zeros_go(LARGE_PAGE + 3 * page + 1);
-	puts("blocks: blocks grow, shrink and go, and only pages of zeros are returned");
+	copies(LARGE_PAGE + 100, LARGE_PAGE / 2, false);
+	copies(LARGE_PAGE - LARGE, LARGE_PAGE / 2, false);
+	copies(5 * LARGE, 2 * LARGE, true);
+	puts("blocks: blocks grow, shrink and go, and only those of zeros are returned");
 	return 0;
 }

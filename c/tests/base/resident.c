@@ -2,7 +2,7 @@
  * A class of a million mutexes has next to no memory resident until they are used.
  *
  * What is zero once it is open is returned to the system.  Afterwards all of them work, those that wait for one or read
- * make little resident, and the class opens again.
+ * make little resident, and the class opens again.  The same of smaller classes of which one mutex is used.
  */
 #include "../resident.h"
 #include "ww_shared.h"
@@ -133,13 +133,41 @@ static void opens(bool told)
 	exit(1);
 }
 
+/* One context has a mutex for which another one waits, in a class of so many mutexes. */
+static void uses_one(uint32_t mutexes, bool told)
+{
+	const struct timespec past = { 0, 0 };
+	struct ww_acquire_ctx x, y;
+	long before = resident();
+	struct ww_class few;
+	struct ww_mutex m;
+
+	ww_class_init(&few, 0, "few");
+	MUST(!ww_class_limit(&few, mutexes, 16) && !ww_class_open(&few));
+	ww_mutex_init(&m, &few);
+	ww_acquire_init(&x, &few);
+	ww_acquire_init(&y, &few);
+	MUST(!ww_mutex_lock(&m, &x) && ww_mutex_lock_until(&m, &y, &past) == -ETIMEDOUT);
+	ww_mutex_unlock(&m);
+	ww_acquire_fini(&y);
+	ww_acquire_fini(&x);
+	before = resident() - before;
+	if (told && before >= MiB)
+		printf("%ld KiB resident of a class of %u mutexes, of which one is used\n", before / 1024, mutexes);
+	MUST(!told || before < MiB);
+	MUST(!ww_mutex_destroy(&m) && !ww_class_free(&few));
+}
+
 int main(void)
 {
+	const uint32_t sizes[] = { 1000, 30000, 40000, 49000, 65536, 100000, 150000 };
 	struct ww_class *classes[] = { &wound_wait, &wait_die, &wound_wait };
 	bool told = is_told();
 
 	if (!told)
 		printf("what is resident can't be told here\n");
+	for (unsigned k = 0; k < sizeof sizes / sizeof *sizes; k++)
+		uses_one(sizes[k], told);
 	MUST(!pthread_barrier_init(&turns, NULL, 2));
 	for (unsigned k = 0; k < 3; k++) {
 		c = classes[k];

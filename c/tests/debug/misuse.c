@@ -513,8 +513,8 @@ int main(int count, char **words)
 	}
 	tells(wrong_class, "ww_mutex_lock: the mutex is of another class, or isn't initialized@");
 	tells_how_often("ww_mutex_lock: the mutex is of another class, or isn't initialized@");
-	tells(after_done, "ww_mutex_lock: class \"c\": the context is done@");
-	tells(tries_after_done, "ww_mutex_lock: class \"c\": the context is done@");
+	tells(after_done, "ww_mutex_lock: class \"c\": the context is done: ww_acquire_done comes after its last lock@");
+	tells(tries_after_done, "ww_mutex_lock: class \"c\": the context is done: ww_acquire_done comes after its last lock@");
 	tells(done_twice, "ww_acquire_done: class \"c\": the context is done, or has ended");
 	tells(fini_with_a_mutex, "ww_acquire_fini: class \"c\": the context still holds a mutex (unlock it before, or end by ww_acquire_end)@");
 	tells(fini_while_it_reads, "ww_acquire_fini: class \"c\": the context still reads a mutex (ww_acquire_end_reads ends that)@");
@@ -546,7 +546,7 @@ int main(int count, char **words)
 	tells(overwrites_a_context, "libww_debug: a context" NO_STATE "*");
 	tells(overwrites_a_seat, "libww_debug: a seat" NO_STATE "*");
 	tells(limits_late, "ww_class_crowd: class \"c\": the class is open: this comes before its first use");
-	tells(limits_beyond, "ww_class_limit: class \"c\": a class has at most 16,777,216 mutexes and 4,094 contexts");
+	tells(limits_beyond, "ww_class_limit: class \"c\": a class has at most 16,773,121 mutexes and 4,094 contexts");
 	tells(unlocks_in_vain, "ww_mutex_unlock: nobody holds the mutex, or it is a copy of that which is held@");
 	tells(unlocks_what_nobody_holds, "ww_mutex_unlock: class \"c\": " NOT_LOOKED_AT " $@");
 	tells(unlocks_anothers, "ww_mutex_unlock: class \"c\": " NOT_LOOKED_AT " $@");

@@ -70,8 +70,7 @@ static void leaves(void)
 	ww_number_leave(n[0], c);
 	MUST(ww_number_take(&other, c) == -ENOSPC && ww_class_free(c) == -EBUSY && ww_shared_mutex_is_written_by(shared_at(n[0]), &x));
 	MUST(!ww_number_unlock(n[0], &x) && !ww_number_take(&other, c) && other == n[0] && ww_number_take(&other, c) == -ENOSPC);
-	/* The last one is that by which it reads. */
-	MUST(!ww_number_put(n[3], c) && !ww_shared_mutex_lock_shared_until(shared_at(n[0]), &x, NULL) && !ww_shared_mutex_lock_shared_until(shared_at(n[1]), &x, NULL));
+	MUST(!ww_shared_mutex_lock_shared_until(shared_at(n[0]), &x, NULL) && !ww_shared_mutex_lock_shared_until(shared_at(n[1]), &x, NULL));
 	ww_number_leave(n[0], c);
 	MUST(ww_number_take(&other, c) == -ENOSPC && ww_shared_mutex_is_read_by(shared_at(n[0]), &x));
 	ww_acquire_end_reads(&x);
@@ -82,7 +81,7 @@ static void leaves(void)
 	ww_number_leave(n[0], c);
 	ww_acquire_end_reads(&x);
 	ww_acquire_fini(&x);
-	MUST(!ww_number_put(n[1], c) && !ww_number_put(n[2], c) && !ww_class_free(c));
+	MUST(!ww_number_put(n[1], c) && !ww_number_put(n[2], c) && !ww_number_put(n[3], c) && !ww_class_free(c));
 }
 
 /* By the calls of shared mutexes contexts read it beside each other, and none writes it meanwhile. */
@@ -336,6 +335,32 @@ static void is_left_amid_a_wait(void)
 	MUST(!ww_number_take(&n[0], c));
 	ww_acquire_fini(&x);
 	ww_acquire_fini(&y);
+}
+
+/* A number that was put back, or left, and that another one has by now, is nothing for which a loop waits that backed off at it. */
+static void is_anothers_after(bool by_leaving)
+{
+	uint32_t again;
+
+	begins(&y);
+	begins(&x);
+	MUST(!ww_number_lock(n[0], &y));
+	ww_acquire_begin_tries(&x);
+	MUST(!ww_number_lock(n[1], &x) && ww_number_lock(n[0], &x) == -EDEADLK && ww_acquire_end_try(&x));
+	if (by_leaving)
+		ww_number_leave(n[0], c);
+	MUST(!ww_number_unlock(n[0], &y) && (by_leaving || !ww_number_put(n[0], c)));
+	MUST(!ww_number_take(&again, c) && again == n[0] && !ww_number_lock(again, &y));
+	MUST(!ww_mutex_lock_until(mutex_at(n[1]), &x, &past) && x.acquired == 1 && !ww_acquire_end_try(&x));
+	MUST(!ww_number_unlock(again, &y));
+	ww_acquire_fini(&x);
+	ww_acquire_fini(&y);
+}
+
+static void is_anothers(void)
+{
+	is_anothers_after(false);
+	is_anothers_after(true);
 }
 
 /* It waits for n[0], which another holds, with n[1] held. */
@@ -641,6 +666,8 @@ static void all_of(struct ww_class *class_)
 		tells(another_comes_first, 1);
 	if (c == &wait_die)
 		tells(is_left_amid_a_wait, 0);
+	if (c == &wait_die)
+		tells(is_anothers, 0);
 	tells(in_a_child, 0);
 	puts_back();
 	MUST(!ww_class_free(c) && !ww_class_limit(c, COUNT, THREADS));

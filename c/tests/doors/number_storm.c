@@ -247,8 +247,8 @@ static void *work(void *arg)
 		ww_acquire_fini(&ctx);
 	}
 	__atomic_fetch_add(&backs, mine, __ATOMIC_RELAXED);
-	for (uint32_t n = 0; n < range; n++)
-		__atomic_fetch_add(&added[n], own[n].added, __ATOMIC_RELAXED);
+	for (uint32_t k = 0; k < size; k++)
+		__atomic_fetch_add(&added[numbers[k]], own[numbers[k]].added, __ATOMIC_RELAXED);
 	free(own);
 	return NULL;
 }

@@ -1180,29 +1180,34 @@ static void deadlocks_name_readers(void)
 
 /* ---- limits ---- */
 
-static void readers_take_mutexes_of_the_class(void)
+/* A class of so many mutexes has as many, whoever reads: half of them are made before all contexts read, and half after that. */
+static void readers_take_no_mutexes(uint32_t mutexes, uint32_t contexts)
 {
+	enum { ALL = 1024 + 1 }; /* and this thread's own */
+	static struct ww_acquire_ctx readers[ALL];
+	struct ww_shared_mutex *all = calloc(mutexes, sizeof *all);
 	struct ww_class few;
-	struct ww_shared_mutex only;
 	struct ww_mutex other;
+	unsigned count = 0;
 
 	ww_class_init(&few, 0, "few");
-	MUST(!ww_class_limit(&few, 1, 1) && !ww_shared_mutex_init_checked(&only, &few));
-	ww_acquire_init(&x, &few);
-	MUST(reads(&only, &x) == -ENOSPC && !ww_shared_mutex_trylock_shared(&only, &x) && !writes(&only, &x));
-	ww_shared_mutex_downgrade(&only, &x);
-	MUST(ww_shared_mutex_is_written_by(&only, &x));
-	unlocks(&only, &x);
-	ww_acquire_fini(&x);
-	MUST(!ww_shared_mutex_destroy(&only) && !ww_class_free(&few));
-	MUST(!ww_class_limit(&few, 2, 1) && !ww_shared_mutex_init_checked(&only, &few));
-	for (unsigned k = 0; k < 3; k++) {
-		ww_acquire_init(&x, &few);
-		MUST(!reads(&only, &x) && ww_class_free(&few) == -EBUSY && ww_mutex_init_checked(&other, &few) == -ENOSPC);
-		unlocks(&only, &x);
-		ww_acquire_fini(&x);
+	MUST(all && !ww_class_limit(&few, mutexes, contexts));
+	for (uint32_t k = 0; k < mutexes; k++) {
+		if (k == mutexes / 2)
+			for (; count < ALL && !ww_acquire_init_checked(&readers[count], &few); count++)
+				MUST(ww_shared_mutex_trylock_shared(&all[count % k], &readers[count]) == 1);
+		MUST(!ww_shared_mutex_init_checked(&all[k], &few));
 	}
-	MUST(!ww_shared_mutex_destroy(&only) && !ww_class_free(&few)); /* its slot doesn't keep it open */
+	MUST(count == (contexts ? contexts : ALL) && ww_mutex_init_checked(&other, &few) == -ENOSPC);
+	while (count--) {
+		ww_acquire_end_reads(&readers[count]);
+		ww_acquire_fini(&readers[count]);
+	}
+	MUST(ww_mutex_init_checked(&other, &few) == -ENOSPC);
+	for (uint32_t k = 0; k < mutexes; k++)
+		MUST(!ww_shared_mutex_destroy(&all[k]));
+	MUST(!ww_class_free(&few)); /* slots don't keep it open */
+	free(all);
 }
 
 /* ---- children of a fork ---- */
@@ -1432,7 +1437,9 @@ int main(void)
 	reads_end_one_by_one();
 	of(&wound_wait);
 	of(&wait_die);
-	readers_take_mutexes_of_the_class();
+	readers_take_no_mutexes(2, 1);
+	readers_take_no_mutexes(3, 70);
+	readers_take_no_mutexes(64, 0);
 	all_of_a_class_are_read(190);
 	all_of_a_class_are_read(MOST);
 	puts("shared_calls: readers beside each other, or one writer");

@@ -40,6 +40,7 @@ static void reads_within(struct ww_acquire_ctx *x)
 	MUST(!ww_shared_mutex_lock_shared(&m, x) && is_written(x) && ww_shared_mutex_is_read_by(&m, x));
 	MUST(!ww_shared_mutex_unlock_shared(&m, x) && is_written(x));
 	MUST(ww_shared_mutex_trylock_shared(&m, x) == 1 && !ww_shared_mutex_unlock_shared(&m, x) && is_written(x));
+	MUST(!ww_shared_mutex_lock_shared(&m, x) && !ww_shared_mutex_end_read(&m, x) && is_written(x) && !ww_shared_mutex_is_read_by(&m, x));
 	MUST(ww_shared_mutex_unlock_shared(&m, x) == -EINVAL && is_written(x));
 }
 

@@ -129,6 +129,27 @@ static void three_meet(void)
 	end_all();
 }
 
+/* The mutex of number 0 is one like any other, and its holder knows who waits for it. */
+static void waits_for_the_first(void)
+{
+	uint32_t number;
+	struct call call = { &old, NULL };
+	pthread_t thread;
+
+	MUST(!ww_number_take(&number, &c) && !number);
+	call.m = &ww_number_at(number, &c)->mutex_;
+	begin_all();
+	MUST(!ww_number_lock(number, &young) && !ww_acquire_why(&young, &why) && !why.wanted.mutex);
+	thread = begin_thread(locks, &call);
+	for (unsigned k = 0; k < 5000 && !why.wanted.mutex; k++)
+		MUST(!usleep(1000) && !ww_acquire_why(&young, &why));
+	MUST(is(&why.wanted, call.m, OLD, WW_WAITS) && users(call.m, OLD, WW_WAITS) == 2);
+	MUST(!ww_number_unlock(number, &young));
+	end_thread(thread);
+	MUST(!ww_number_unlock(number, &old) && !ww_number_put(number, &c));
+	end_all();
+}
+
 /* Readers are named, though each waits for the other's slot. */
 static void readers_meet(void)
 {
@@ -226,6 +247,7 @@ int main(void)
 	two_meet(); /* by the same seats, but of what others counted by these nothing counts */
 		if (!kind)
 			three_meet();
+		waits_for_the_first();
 		readers_meet();
 		labels_end();
 		if (c.is_wait_die)

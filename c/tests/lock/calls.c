@@ -305,7 +305,7 @@ static void numbers(struct ww_class *c)
 {
 	struct ww_mutex list[9];
 
-	MUST(ww_class_limit(c, WW_MAX_LOCKS + 1, 1) == -EINVAL && ww_class_limit(c, 1, WW_MAX_SEATS + 1) == -EINVAL);
+	MUST(ww_class_limit(c, WW_MAX_LOCKS - WW_MAX_SEATS + 1, 1) == -EINVAL && ww_class_limit(c, 1, WW_MAX_SEATS + 1) == -EINVAL);
 	MUST(!ww_class_limit(c, 8, 2));
 	for (unsigned round = 0; round < 3; round++) {
 		for (unsigned k = 0; k < 8; k++) {
@@ -326,12 +326,12 @@ static void numbers(struct ww_class *c)
 	MUST(ww_mutex_init_checked(&list[8], c) == -ENOSPC && ww_class_free(c) == -EBUSY);
 }
 
-/* As many keys as it asks for, and a mutex for each reader besides; and it says what it takes. */
+/* As many keys as it asks for; and it says what it takes. */
 static void servers(void)
 {
 	static struct ww_class c, larger;
 	struct ww_acquire_ctx x[4];
-	uint32_t number[104];
+	uint32_t number[101];
 	size_t bytes = 0, more = 0;
 
 	MUST(ww_class_open_for(&c, WW_MAX_SEATS, 1, &bytes) == -EINVAL && ww_class_open_for(&c, 1, WW_MAX_LOCKS, NULL) == -EINVAL);
@@ -340,10 +340,10 @@ static void servers(void)
 	for (unsigned k = 0; k < 3; k++)
 		MUST(!ww_acquire_init_checked(&x[k], &c));
 	MUST(ww_acquire_init_checked(&x[3], &c) == -EAGAIN);
-	for (unsigned k = 0; k < 103; k++)
+	for (unsigned k = 0; k < 100; k++)
 		MUST(!ww_number_take(&number[k], &c));
-	MUST(ww_number_take(&number[103], &c) == -ENOSPC);
-	for (unsigned k = 0; k < 103; k++)
+	MUST(ww_number_take(&number[100], &c) == -ENOSPC);
+	for (unsigned k = 0; k < 100; k++)
 		MUST(!ww_number_put(number[k], &c));
 	for (unsigned k = 0; k < 3; k++)
 		ww_acquire_fini(&x[k]);

@@ -66,7 +66,6 @@ static void *asks_by_context(void *arg)
 
 int main(void)
 {
-	alarm(20);
 	ww_mutex_init(&held, &boxes);
 	ww_mutex_init(&alone, &boxes);
 	ww_mutex_init(&free_, &boxes);

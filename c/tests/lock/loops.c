@@ -181,6 +181,14 @@ static void breaks(void)
 		abort();
 	}
 	has_both(&outer);
+	is_in_the_way(&outer);
+	ww_until_all_locked(&outer.x, by_hand) {
+		outer.bodies++;
+		if (!locks(&outer, 0) && locks(&outer, 1))
+			ww_mutex_unlock(&outer.a); /* it holds nothing, and still has to back off */
+		break;
+	}
+	has_both(&outer);
 	ww_until_all_locked(&outer.x, third) {
 		outer.bodies++;
 		break;

@@ -608,10 +608,10 @@ static void goes_while_it_is_read()
 	for (int round = 0; round < 20; round++) {
 		context x(few);
 
-		for (int k = 0; k < 8; k++) {
+		for (int k = 0; k < 9; k++) {
 			ww::shared_mutex goes(few);
 
-			MUST(x.lock_shared(goes) == (k < 7 ? 0 : -ENOSPC)); // one is its slot's
+			MUST(x.lock_shared(goes) == (k < 8 ? 0 : -ENOSPC)); // it reads all that there are
 		}
 	}
 	MUST(!ww_class_free(&static_cast<struct ww_class &>(few)));

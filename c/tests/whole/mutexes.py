@@ -81,14 +81,28 @@ def says_why():
 
     its = ww.Class(mutexes=1, contexts=4, library=sys.argv[1], name="accounts")
     a = ww.Mutex(its)
-    assert "16,777,216" in why_of(made, mutexes=2**24 + 1) and "Class(mutexes=" in why_of(ww.Mutex, its)
+    assert "16,773,121" in why_of(made, mutexes=16_773_122)
+    assert why_of(ww.Mutex, its) == f"all mutexes of the class are in use: 65,536, or as many as Class(mutexes=..) says: {its!r}"
     assert repr(its) == "<ww.Class 'accounts'>" and repr(a).startswith("<unlocked ww.Mutex object of 'accounts' at 0x")
     with its.context() as one:
         one.lock(a)
-        assert why_of(one.lock, a) == "the context holds this mutex already" and "1 mutexes" in repr(one) and repr(a).startswith("<locked ")
+        assert "1 mutexes" in repr(one) and repr(a).startswith("<locked ")
+        assert why_of(one.lock, a) == f"the context holds this mutex already: {a!r}"
+        assert why_of(a.__enter__) == f"this thread holds it already: {a!r}" and why_of(one.downgrade, a) == f"the context doesn't write it: {a!r}"
+        assert beside(lambda: why_of(one.lock, a)) == f"it belongs to another thread, and each thread begins its own: {one!r}"
+        with its.context() as two:
+            assert why_of(two.lock, a, timeout=0) == f"the time limit came first: {a!r}"
+            assert why_of(two.unlock, a) == f"the context doesn't hold it: {a!r}"
         one.cancel()
-        assert why_of(one.cancel) == "a cancel is pending already"
-    assert its.stats() == ww.Counts(0, 0, 0, 0, 0, 0, 4) and ww.__version__.count(".") == 2
+        assert why_of(one.cancel) == f"a cancel is pending already: {one!r}"
+        one.done()
+        assert why_of(one.done) == f"done was called before: {one!r}"
+    for it in (one, its.context()):
+        for call in (lambda: it.lock(a), it.cancel):
+            assert why_of(call) == f"it hasn't begun, or has ended, and is used in its block, `with .. as it`: {it!r}"
+    assert why_of(a.release) == f"it isn't locked by acquire or by its own block: {a!r}"
+    assert why_of(made, "wound-wait") == "a class is ww.WOUND_WAIT or ww.WAIT_DIE, not 'wound-wait'"
+    assert its.stats() == ww.Counts(0, 1, 0, 0, 0, 0, 4) and ww.__version__.count(".") == 2
 
 
 def is_a_lock():
@@ -170,6 +184,18 @@ def debugs():
     told = subprocess.run(words, env=environment, stderr=subprocess.PIPE, text=True, check=True).stderr
     assert '<string>:4: ww_acquire_init: class "its": two contexts' in told and "began at <string>:3" in told and "-DWW_DEBUG" not in told
     assert told.count("\n") == 1, told  # no backtrace of the interpreter's calls
+    # What couldn't be made, or hasn't begun, has no end that is reported.
+    program = """import sys, ww
+few = ww.Class(mutexes=2, contexts=1, library=sys.argv[1])
+held = [ww.Mutex(few), ww.SharedMutex(few)]
+for call in (lambda: ww.Mutex(few), lambda: ww.SharedMutex(few), lambda: few.context().lock(held[0]), few.context().cancel, held[0].release):
+    try:
+        call()
+    except OSError as error:
+        print(error.errno)
+"""
+    it = subprocess.run([sys.executable, "-c", program, sys.argv[1]], env=environment, capture_output=True, text=True, check=False)
+    assert not it.returncode and not it.stderr and it.stdout.split() == ["28", "28", "22", "22", "22"], it
 
 
 def is_typed():
@@ -228,8 +254,9 @@ def says_what_came():
         raise AssertionError(f"{call} raises no {kind}")
 
     for run in buffers.run, table.run:
-        for body in (3, None, asynchronous, yields, yields_by_turns, functools.partial(yields)):
-            assert why_of(TypeError, run, body) == f"a plain function of the context is expected, not {body!r}"
+        for body, its_kind in ((3, ""), (None, ""), (asynchronous, ", which is an async function"), (yields, ", which is a generator"),
+                               (yields_by_turns, ", which is an async generator"), (functools.partial(yields), ", which is a generator")):
+            assert why_of(TypeError, run, body) == f"a plain function of the context is expected, not {body!r}{its_kind}"
         for seen in (fails, lambda _: len(3)):
             assert is_raised(TypeError, run, seen)
         assert list(run(returns_one)) == [None] and run(lambda _: 8) == 8
@@ -237,7 +264,8 @@ def says_what_came():
     with buffers.context() as context:
         for call in (context.lock, context.try_lock, context.unlock, context.read, context.downgrade):
             for wrong in ((a, a), [a], ww.Mutex, ww.Mutex.lock if hasattr(ww.Mutex, "lock") else len, 5, None):
-                assert why_of(TypeError, call, wrong) == f"a ww.Mutex is expected, not {wrong!r}" + ": unpack it by *" * isinstance(wrong, (tuple, list))
+                hint = ": unpack it by *" if isinstance(wrong, (tuple, list)) else ": a time limit is timeout=5" if wrong == 5 else ""
+                assert why_of(TypeError, call, wrong) == f"a ww.Mutex is expected, not {wrong!r}{hint}"
             assert f"another class than the context's, '': {b!r}" in why_of(OSError, call, b)
         assert "of another class" in why_of(OSError, context.lock, a, b) and a not in context
         assert why_of(TypeError, context.read, a) == f"a ww.SharedMutex is expected, not {a!r}"
@@ -418,7 +446,7 @@ def loses_no_number():
                     context.unlock(once)
                 del once
                 gc.collect()
-    all_at_once = [ww.Mutex(buffers) for _ in range(6)]
+    all_at_once = [ww.Mutex(buffers) for _ in range(7)]
     assert fault_of(ww.Mutex, buffers) == errno.ENOSPC
     library.ww_class_free = lambda at: told.append(free(at))
     freed = ww.Class(library=sys.argv[1])

@@ -230,12 +230,12 @@ async def says_what_came():
     async def fails(_):
         raise TypeError("its own")
 
-    for body in (3, plain, yields, lambda context: [context]):
+    for body, came in ((3, ""), (plain, ", which returned None"), (yields, ", which returned <async_generator"), (lambda _: [3], ", which returned [3]")):
         try:
             await buffers.run_async(body)
             assert False
         except TypeError as error:
-            assert str(error) == f"an async function of the context is expected, not {body!r}", error
+            assert str(error).startswith(f"an async function of the context is expected, not {body!r}{came}"), error
     for body, why in ((fails, "its own"), (lambda: None, "takes 0 positional arguments")):
         try:
             await buffers.run_async(body)

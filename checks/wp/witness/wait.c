@@ -45,10 +45,8 @@ M:	w_core(NO_CALL, 0, 1, 0);
 	/*@ check never: \false; */
 }
 void witness_try_awake(void) { w_waits(NO_CALL); /*@ check never: \false; */ ww_try_awake(&w_seat, 7, &w_wait); }
-void witness_is_due(void) { w_waits(NO_CALL); /*@ check never: \false; */ is_due(&w_seat, &w_wait); }
 void witness_stop_if_due(void) { w_waits(LOCKS); /*@ check never: \false; */ stop_if_due(&w_seat, &w_wait); }
 void witness_go_on_awake(void) { w_waits(LOCKS); /*@ check never: \false; */ go_on_awake(&w_seat, &w_wait); }
-void witness_sleep(void) { w_waits(LOCKS); /*@ check never: \false; */ sleep_or_leave_waker(&w_seat, &w_wait); }
 void witness_wake(void) { w_waits(LOCKS); /*@ check never: \false; */ wake(&w_seat); }
 void witness_go_on(void) { w_waits(LOCKS); /*@ check never: \false; */ ww_go_on(&w_seat, &w_wait, true); }
 void witness_give_back(void) { w_waits(NO_CALL); w_core(NO_CALL, 1, 1, 0); /*@ ghost the_lock = 7; */ /*@ check never: \false; */ ww_give_back(&w_seat, 7); }

@@ -43,22 +43,22 @@ pub record IsAboutToTell (q : Desks) (w : Sight) : Type 0 where
 
 module _ {kind : Kind} {p : Picture} {a : At (small kind) p} {q : Desks} (g : Shown a q) (v w : Sight) (d : IsAboutToDie kind p v w)
     (h : IsAboutToTell q w) where
-  abbrev desks : ℕ → Desks
+  abbrev pub desks : ℕ → Desks
   desks zero = q
   desks (suc zero) = q
   desks (suc (suc zero)) = q
   desks (suc (suc (suc i))) = answered q 1 (Deadlk 1) (told_by q w)
 
-  abbrev stage : ℕ → Stage (small kind)
+  abbrev pub stage : ℕ → Stage (small kind)
   stage i = staged (moment a v w d i) (desks i)
 
-  abbrev deed : ℕ → Deed
+  abbrev pub deed : ℕ → Deed
   deed zero = steps 1 (Some (performs (Die 1 0)))
   deed (suc zero) = steps 1 (Some (performs (Unguard 1 0)))
   deed (suc (suc zero)) = answers 1 go_on (Deadlk 1)
   deed (suc (suc (suc i))) = halts
 
-  goes_on : (i : ℕ) → Does (stage i) (stage (suc i)) (deed i)
+  pub goes_on : (i : ℕ) → Does (stage i) (stage (suc i)) (deed i)
   goes_on zero = steps_does a q (dies a v w d) h.calling (sym h.alike.1 ∙ d.rested)
   goes_on (suc zero) = steps_does (dies a v w d).at q (comes_out a v w d) h.calling (sym h.alike.1 ∙ d.rested)
   goes_on (suc (suc zero)) = answers_does (comes_out a v w d).at q 0 1 (died_out w) (sit_out a v w d).second h.calling go_on (Deadlk 1)

@@ -15,14 +15,14 @@ use Rattle.ww_callers.specs.Deeds.{go_on}
 use Rattle.ww_callers.proofs.Shown.{Desks, Shown, answered, steps_then, answers_then, parks_then}
 use Rattle.ww_callers.proofs.Pair.{q_6, g_6}
 use Rattle.ww_callers.proofs.Sleeping.{has_no_mark, wakes_none, unmarked, once_asleep, falls_asleep}
-use Rattle.ww_callers.proofs.Doomed.{has_deadlock}
+use Rattle.ww_callers.proofs.Doomed.{IsAboutToTell, has_deadlock}
 use Rattle.ww_callers.specs.Witness.{HasDeadlockDriven}
 
 -- it finds that it has no sign, comes out, is told to sleep, and falls asleep
-abbrev older_1 : Situation
+abbrev pub older_1 : Situation
 older_1 = once_asleep ((q_6 WaitDie).desk 0) 1 unmarked aged_out.part.core
 
-abbrev q_7 : Desks
+abbrev pub q_7 : Desks
 q_7 = answered (q_6 WaitDie) 0 Sleeps older_1
 
 g_7 : Shown aged_exits.at q_7
@@ -37,14 +37,14 @@ g_7 = answers_then (steps_then (steps_then (g_6 WaitDie) finds_unsigned refl ref
       cancelled = refl;
     })
 
-g_8 : Shown aged_sleeps.at q_7
+pub g_8 : Shown aged_sleeps.at q_7
 unfolding put ℕ_discrete
 g_8 = parks_then g_7 0 aged_sleeps (omega arith) refl refl refl (λ u has. true≢false (sym has ∙ has_no_mark u)) (λ u. refl)
 
 -- the younger dies
-pub has_deadlock_dying : HasDeadlockDriven WaitDie
+pub tells_dying : IsAboutToTell q_7 (b_3 WaitDie)
 unfolding put ℕ_discrete lock_at
-has_deadlock_dying = has_deadlock g_8 aged_out (b_3 WaitDie) is_dying (record {
+tells_dying = record {
   calling = refl;
   turn = refl;
   backs_off = record {
@@ -64,4 +64,8 @@ has_deadlock_dying = has_deadlock g_8 aged_out (b_3 WaitDie) is_dying (record {
   cancelled = refl;
   unmarked = (has_no_mark, has_no_mark);
   unnamed = (λ s. refl, λ s. refl);
-})
+}
+
+pub has_deadlock_dying : HasDeadlockDriven WaitDie
+unfolding put ℕ_discrete lock_at
+has_deadlock_dying = has_deadlock g_8 aged_out (b_3 WaitDie) is_dying tells_dying

@@ -17,15 +17,15 @@ use Rattle.ww_callers.specs.Deeds.{go_on}
 use Rattle.ww_callers.proofs.Shown.{Desks, Shown, answered, naming, rid_of, steps_then, answers_then, names_then, wakes_then, parks_then}
 use Rattle.ww_callers.proofs.Pair.{q_6, g_6}
 use Rattle.ww_callers.proofs.Sleeping.{marked, cleared, has_no_mark_then, is_taken, wakes_one, once_asleep, falls_asleep, has_no_mark}
-use Rattle.ww_callers.proofs.Doomed.{has_deadlock}
+use Rattle.ww_callers.proofs.Doomed.{IsAboutToTell, has_deadlock}
 use Rattle.ww_callers.specs.Witness.{HasDeadlockDriven, DeadlocksAreInEndlessDrives}
 use Rattle.ww_callers.proofs.Dying.{has_deadlock_dying}
 
 -- it signs the younger, finds that it has no sign, comes out, and is told to sleep
-abbrev older_1 : Situation
+abbrev pub older_1 : Situation
 older_1 = once_asleep ((q_6 WoundWait).desk 0) 1 marked wounded_out.part.core
 
-abbrev q_7 : Desks
+abbrev pub q_7 : Desks
 q_7 = answered (q_6 WoundWait) 0 Sleeps older_1
 
 g_7 : Shown wounded_exits.at q_7
@@ -42,17 +42,17 @@ g_7 = answers_then
     })
 
 -- it names the younger, gives it a token, and falls asleep
-abbrev older_2 : Situation
+abbrev pub older_2 : Situation
 older_2 = record older_1 { wakes = cleared }
 
-abbrev q_8 : Desks
+abbrev pub q_8 : Desks
 q_8 = naming q_7 0 1 older_2
 
 g_8 : Shown wounded_exits.at q_8
 unfolding put ℕ_discrete
 g_8 = names_then g_7 0 1 (omega arith) refl refl older_2 (λ inside. absurd (true≢false (sym inside)), λ _. (is_taken, refl))
 
-abbrev q_9 : Desks
+abbrev pub q_9 : Desks
 q_9 = rid_of q_8 0 1
 
 g_9 : Shown wounded_wakes.at q_9
@@ -68,15 +68,15 @@ named_none u = subst (λ (f : ℕ → Bool). f u ≡ false) (sym (put_here q_8.n
         (put_else (q_7.named 0) 1 true u isnt)
 
 -- then the younger reads its sign
-g_10 : Shown finds_sign.at q_9
+pub g_10 : Shown finds_sign.at q_9
 unfolding put ℕ_discrete
 g_10 = steps_then (parks_then g_9 0 wounded_sleeps (omega arith) refl refl refl
     (λ u has. true≢false (sym has ∙ has_no_mark_then u)) named_none) finds_sign refl refl
 
 -- ... and dies
-pub has_deadlock_wounding : HasDeadlockDriven WoundWait
+pub tells_wounded : IsAboutToTell q_9 b_4
 unfolding put ℕ_discrete lock_at
-has_deadlock_wounding = has_deadlock g_10 wounded_out b_4 is_wounded (record {
+tells_wounded = record {
   calling = refl;
   turn = refl;
   backs_off = record {
@@ -96,7 +96,11 @@ has_deadlock_wounding = has_deadlock g_10 wounded_out b_4 is_wounded (record {
   cancelled = refl;
   unmarked = (has_no_mark_then, has_no_mark);
   unnamed = (named_none, λ s. refl);
-})
+}
+
+pub has_deadlock_wounding : HasDeadlockDriven WoundWait
+unfolding put ℕ_discrete lock_at
+has_deadlock_wounding = has_deadlock g_10 wounded_out b_4 is_wounded tells_wounded
 
 -- ---- in each kind
 

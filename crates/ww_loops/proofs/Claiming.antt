@@ -3,12 +3,15 @@ use Rattle.std.proofs.Common.{◌≡◌, inl, ℕ, zero, suc, ◌+◌, ◌<◌, 
 use native.Mathlib.Decide.{ℕ_discrete}
 use Rattle.ww_queue.specs.declared.kind.Kind.{Kind}
 use Rattle.ww_model.specs.State.{put}
+use Rattle.ww_invariant.specs.declared.cells.Sight.{Sight}
 use Rattle.ww_invariant.specs.Layout.{lock_at}
 use Rattle.ww_refines.proofs.Pictures.{seated}
 use Rattle.ww_refines.proofs.Small.{small, waiter_1, first_locks}
+use Rattle.ww_seat.specs.Calls.{HasStayedOut}
 use Rattle.ww_seat.specs.declared.waits.Waits.TheVariants.{ToTheEnd}
 use Rattle.ww_steps.specs.declared.turn.Answer.TheVariants.{Done}
 use Rattle.ww_steps.specs.Situations.{Situation}
+use Rattle.ww_steps.specs.Answers.{IsTryable}
 use Rattle.ww_callers.specs.Stages.{Stage}
 use Rattle.ww_callers.specs.Deeds.{Deed, calls, answers, halts, lock, Does}
 use Rattle.ww_callers.proofs.Shown.{Desks, staged, called, answered, IsAnswer, calls_does, answers_does}
@@ -16,6 +19,12 @@ use Rattle.ww_callers.proofs.Starting.{is_of_world, q_3, g_3}
 use Rattle.ww_callers.proofs.Turns.{once_locked}
 use Rattle.ww_loops.specs.Calls.{LockCall}
 use Rattle.ww_loops.specs.Witness.{ClaimsAreFalseWithoutSeats}
+
+-- the answer that it has the lock, of a desk that may want it, by what its seat knows then
+pub says_locked : (s : Situation) (v : Sight) (n : ℕ) → IsTryable s n → HasStayedOut s.view v.part.core →
+    v.part.core.inside ≡ 0 → s.cancelled ≡ v.part.counts.cancelled →
+    IsAnswer s v (lock n ToTheEnd) Done (once_locked s n v.part.core)
+says_locked s v n may stays out same = record { done = (may, (stays, refl)); outside = λ _. out; sees = refl; cancelled = same }
 
 abbrev q_4 : Kind → Desks
 q_4 kind = called (q_3 kind) 1
@@ -29,15 +38,9 @@ q_5 kind = answered (q_4 kind) 1 Done (claims kind)
 
 is_claimed : (kind : Kind) → IsAnswer ((q_4 kind).desk 1) (waiter_1 kind) (lock 1 ToTheEnd) Done (claims kind)
 unfolding put ℕ_discrete lock_at
-is_claimed kind = record {
-  done = (
-    record { rests = refl; lacks = refl; there = omega arith; wants = refl },
-    (record { attempts = refl; debts = refl; naps = refl; deaf = refl }, refl),
-  );
-  outside = λ _. refl;
-  sees = refl;
-  cancelled = refl;
-}
+is_claimed kind = says_locked ((q_4 kind).desk 1) (waiter_1 kind) 1
+    (record { rests = refl; lacks = refl; there = omega arith; wants = refl })
+    (record { attempts = refl; debts = refl; naps = refl; deaf = refl }) refl refl
 
 abbrev deed : ℕ → Deed
 deed zero = calls 1

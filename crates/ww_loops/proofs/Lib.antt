@@ -5,6 +5,7 @@ pub mod Looping
 pub mod Rounds
 pub mod Oldest
 pub mod Two
+pub mod Told
 pub mod Wanting
 pub mod Idling
 pub mod Claiming

@@ -23,13 +23,13 @@ use Rattle.ww_callers.specs.Deeds.{Deed, steps}
 use Rattle.ww_callers.specs.Drives.{thread_move}
 use Rattle.ww_callers.proofs.Runs.{accounted_on, is_endless_by}
 use Rattle.ww_loops.specs.Contexts.{as_scenes, steps_by, AllAreServed}
-use Rattle.ww_loops.specs.Loops.{LoopState, outside, ProgramGoesOn, LoopEnds, AreLoops, WaitsForItsFirst, OldestLoopEnds}
+use Rattle.ww_loops.specs.Loops.{LoopState, outside, RoundsGoOn, LoopEnds, AreLoops, WaitsForItsFirst, OldestLoopEnds}
 use Rattle.ww_loops.proofs.Ending.{to_run, oldest_there, all_scheduled, event_at}
 use Rattle.ww_loops.proofs.Rounds.{run, same_between, round_over, runs_on, holders_release}
 
 module _ {key : Start} (stage : ℕ → Stage key) (deed : ℕ → Deed) (phase : ℕ → ℕ → LoopState) (asked : ℕ → ℕ → List ℕ)
     (h : AreLoops stage deed phase asked) (served : AllAreServed stage deed)
-    (goes : (d : ℕ) → d < key.seats → ProgramGoesOn stage deed phase asked d) (i d : ℕ)
+    (goes : (d : ℕ) → d < key.seats → RoundsGoOn stage deed phase asked d) (i d : ℕ)
     (kind : (core (stage i).moment).kind ≡ WoundWait) (old : IsOldestActive (as_scenes stage) (steps_by key deed) d i)
     (unsigned : (core (stage i).moment).sign d ≡ 0) where
   abbrev st : ℕ → Step
@@ -101,8 +101,8 @@ module _ {key : Start} (stage : ℕ → Stage key) (deed : ℕ → Deed) (phase 
         (cases_Bool w.0.holds)
 
 pub oldest_loop_ends : OldestLoopEnds
-oldest_loop_ends key stage deed phase asked h served goes i = λ d low kind old unsigned runs.
-    let e = round_over stage deed phase asked h d low (goes d low) i runs in let j = e.0 in
+oldest_loop_ends key stage deed phase asked h served goes i = λ d low kind is.
+    let old = is.oldest in let unsigned = is.unsigned in let runs = is.runs in let e = round_over stage deed phase asked h d low (goes d low) i runs in let j = e.0 in
     ⊎_elim (λ f. (f.at, f.from, inl f.holds))
     (λ on. ⊎_elim (λ out. absurd (on.0 out))
     (⊎_elim

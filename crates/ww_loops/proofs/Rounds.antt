@@ -28,7 +28,7 @@ use Rattle.ww_callers.specs.Stages.{Stage}
 use Rattle.ww_callers.specs.Deeds.{Call, begin, end, HasDone, Deed, steps, answers}
 use Rattle.ww_callers.specs.Drives.{thread_move}
 use Rattle.ww_loops.specs.Contexts.{as_scenes, steps_by, AllAreServed}
-use Rattle.ww_loops.specs.Loops.{lock_for, AnswersAt, LoopState, outside, ease, owes, told, first, is_owed, phase_after, MayCall, Goes, HoldsJust, FitsLoop, LoopsBy, IsRoundOver, LoopsNoMore, ProgramGoesOn, LoopEnds, AreLoops, LoopsEnd}
+use Rattle.ww_loops.specs.Loops.{lock_for, AnswersAt, LoopState, outside, ease, owes, told, first, is_owed, phase_after, MayCall, Goes, HoldsJust, FitsLoop, LoopsBy, IsRoundOver, LoopsNoMore, RoundsGoOn, ProgramGoesOn, LoopEnds, AreLoops, LoopsEnd}
 use Rattle.ww_callers.proofs.Runs.{accounted_on}
 use Rattle.ww_loops.proofs.Ending.{along, contexts_are_over_in_drives}
 use Rattle.ww_loops.proofs.Desks.{desk_stays, idle_then, is_current, taken_by, owned_by}
@@ -171,7 +171,7 @@ module _ {key : Start} (stage : ℕ → Stage key) (deed : ℕ → Deed) (phase 
   dies_waiting k d m is = let a = run in let may = subst (May (a.scene k)) is (a.run.may k) in
       subst (λ (c : State). Stands (c.queue m) d) (a.shown k).core may.possible.base.waits
 
-  module _ (d : ℕ) (low : d < key.seats) (g : ProgramGoesOn stage deed phase asked d) where
+  module _ (d : ℕ) (low : d < key.seats) (g : RoundsGoOn stage deed phase asked d) where
     abbrev pub Over : ℕ → Type 0
     Over = IsRoundOver stage deed phase asked d
 
@@ -235,21 +235,22 @@ module _ {key : Start} (stage : ℕ → Stage key) (deed : ℕ → Deed) (phase 
     Ends j = IsOver (as_scenes stage) (steps_by key deed) d j
         ⊎ (WaitsForEver (as_scenes stage) (steps_by key deed) d j ⊎ ((m : ℕ) × (steps_by key deed j ≡ performs (Die d m))))
 
-    -- ... once it is outside and begins no further loop
-    ends_outside : (i j x : ℕ) → i ≤ j → j ≤ x → 0 < stamp_at i d → IsLast i j → stamp_at x d ≡ stamp_at i d → phase x d ≡ outside →
-        InTheEnd i Ends
-    ends_outside i j x early late some last same out = let e = g.ends x (omega arith) (loops_no_more i j x early late some last same out) in
-        let more = e.1 in (e.0, omega arith, inl e.2)
+    -- ... if it begins no further loop
+    ends_after : ProgramGoesOn stage deed phase asked d → (x : ℕ) → 0 < stamp_at x d → LoopsNoMore stage deed phase asked d x →
+        InTheEnd x Ends
+    ends_after p x some no_more = let e = p.ends x some no_more in (e.0, e.1, inl e.2)
 
-    ends : (i : ℕ) → 0 < stamp_at i d → InTheEnd i Ends
-    ends i some = let f = g.few_loops i some in let j = f.0 in ⊎_elim
+    ends : ProgramGoesOn stage deed phase asked d → (i : ℕ) → 0 < stamp_at i d → InTheEnd i Ends
+    ends p i some = let f = p.few_loops i some in let j = f.0 in ⊎_elim
         (λ over. (over.at, over.from, inl (inl over.holds)))
         (λ same. ⊎_elim
-        (λ out. ends_outside i j j f.1 (omega arith) some f.2 same out)
+        (λ out. later_then i j f.1
+        (ends_after p j (omega arith) (loops_no_more i j j f.1 (omega arith) some f.2 same out)))
         (λ runs. let e = round_over j runs in ⊎_elim
         (λ out. ⊎_elim
         (λ over. let x = over.from in let y = f.1 in (over.at, omega arith, inl (inl over.holds)))
-        (λ still. ends_outside i j e.0 f.1 e.1 some f.2 (still ∙ same) out)
+        (λ still. let w = still ∙ same in let y = f.1 in let z = e.1 in later_then i e.0 (omega arith)
+        (ends_after p e.0 (omega arith) (loops_no_more i j e.0 f.1 e.1 some f.2 w out)))
         (goes_till j e.0 e.1 (omega arith)))
         (⊎_elim (λ dies. later_then i j f.1 (e.0, e.1, inr (inr (dies.0, ap (λ x. steps_by key (λ _. x) 0) dies.1))))
         (λ waits. later_then i j f.1 (e.0, e.1, inr (inl waits)))) e.2)
@@ -394,19 +395,19 @@ module _ {key : Start} (stage : ℕ → Stage key) (deed : ℕ → Deed) (phase 
         (λ on. ⊎_elim (λ ended. absurd (no_end j on.0 ended)) (λ rests. later_then i j later (rests_not j on.0 rests)) over)
         (runs_on i j later runs)
 
-  module _ (goes : (d : ℕ) → d < key.seats → ProgramGoesOn stage deed phase asked d) where
-    pub holders_release : HoldersRelease (as_scenes stage) (steps_by key deed)
-    holders_release i s n own = ⊎_elim (λ low. releases s low (goes s low) i n own)
-        (λ far. absurd (((stage i).moment.strangers s far).bare n own)) (cases_lt s key.seats)
+  pub holders_release : ((d : ℕ) → d < key.seats → RoundsGoOn stage deed phase asked d) → HoldersRelease (as_scenes stage) (steps_by key deed)
+  holders_release goes i s n own = ⊎_elim (λ low. releases s low (goes s low) i n own)
+      (λ far. absurd (((stage i).moment.strangers s far).bare n own)) (cases_lt s key.seats)
 
-    contexts_end : ContextsEndOrDie (as_scenes stage) (steps_by key deed)
-    contexts_end i s some = ⊎_elim (λ low. ends s low (goes s low) i some)
-        (λ far. absurd (let none = ((stage i).moment.strangers s far).stamp in omega arith)) (cases_lt s key.seats)
+  contexts_end : ((d : ℕ) → d < key.seats → ProgramGoesOn stage deed phase asked d) → ContextsEndOrDie (as_scenes stage) (steps_by key deed)
+  contexts_end goes i s some = ⊎_elim (λ low. ends s low (goes s low).rounds (goes s low) i some)
+      (λ far. absurd (let none = ((stage i).moment.strangers s far).stamp in omega arith)) (cases_lt s key.seats)
 
 pub loops_end : LoopsEnd
 loops_end key stage deed phase asked h served goes i = λ d low kind runs.
     let back = loops_do_back_off stage deed phase asked h in
-    let over = contexts_are_over_in_drives key stage deed (accounted_on stage deed h.endless) served (holders_release stage deed phase asked h goes)
+    let rounds : (e : ℕ) → e < key.seats → RoundsGoOn stage deed phase asked e = λ e few. (goes e few).rounds in
+    let over = contexts_are_over_in_drives key stage deed (accounted_on stage deed h.endless) served (holders_release stage deed phase asked h rounds)
     (contexts_end stage deed phase asked h goes) back.backs_off back.takes_first i d kind
-    (context_at stage deed phase asked h d low (goes d low) i runs) in
-    ends_when_over stage deed phase asked h d low (goes d low) i over.0 over.1 runs over.2
+    (context_at stage deed phase asked h d low (rounds d low) i runs) in
+    ends_when_over stage deed phase asked h d low (rounds d low) i over.0 over.1 runs over.2

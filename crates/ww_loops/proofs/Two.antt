@@ -24,10 +24,12 @@ use Rattle.ww_refines.proofs.Following.{knows_there, who_there}
 use Rattle.ww_refines.proofs.Pictures.{Picture, At, Next, seated, acting, gives_as, gives_then, locks_as, locks_then}
 use Rattle.ww_refines.proofs.Small.{small, AreSeated, first_is, second_is, nothing_owed, holder_2, waiter_1, p_4, first_locks}
 use Rattle.ww_refines.proofs.CalledOff.{free}
+use Rattle.ww_seat.specs.Calls.{HasStayedOut}
 use Rattle.ww_seat.specs.declared.waits.Waits.TheVariants.{ToTheEnd}
 use Rattle.ww_steps.specs.declared.turn.Answer.{Answer}
 use Rattle.ww_steps.specs.declared.turn.Answer.TheVariants.{Done}
 use Rattle.ww_steps.specs.Situations.{Situation}
+use Rattle.ww_steps.specs.Answers.{IsHeldAtRest}
 use Rattle.ww_callers.specs.Stages.{Stage}
 use Rattle.ww_callers.specs.Deeds.{Call, Deed, calls, steps, answers, halts, lock, unlock, Does}
 use Rattle.ww_callers.specs.Drives.{IsDueBy, IsServed}
@@ -37,8 +39,9 @@ use Rattle.ww_callers.proofs.Starting.{is_of_world, q_3, g_3, owe_nobody}
 use Rattle.ww_callers.proofs.Turns.{once_locked}
 use Rattle.ww_loops.specs.Contexts.{as_scenes, steps_by}
 use Rattle.ww_loops.specs.Calls.{KnowsItsSeat, AllKnowTheirSeats, LockCall}
-use Rattle.ww_loops.specs.Loops.{lock_for, AnswersAt, KeepsToItsCalls, LoopState, outside, ease, told, AnswersInLoop, StaysInLoop, GoesInLoop, LoopsBy, ProgramGoesOn}
+use Rattle.ww_loops.specs.Loops.{lock_for, AnswersAt, KeepsToItsCalls, LoopState, outside, ease, told, AnswersInLoop, StaysInLoop, GoesInLoop, LoopsBy, RoundsGoOn, ProgramGoesOn, IsOldestInLoop}
 use Rattle.ww_loops.specs.Witness.{LoopsAreInDrives}
+use Rattle.ww_loops.proofs.Claiming.{says_locked}
 use Rattle.ww_loops.proofs.Looping.{or_none}
 
 -- ---- the steps at the table
@@ -76,8 +79,16 @@ second_gives kind = gives_then (second_locks kind).at 0 1 (owner_1 kind) (acting
 
 -- ---- the desks
 
+-- it has released this lock, by what its seat knows then
+abbrev once_freed : Situation → ℕ → Sight → Situation
+once_freed s n v = record s { held = without n s.held; view = v.part.core }
+
+says_freed : (s : Situation) (v : Sight) (n : ℕ) → IsHeldAtRest s n → HasStayedOut s.view v.part.core → v.part.core.inside ≡ 0 →
+    s.cancelled ≡ v.part.counts.cancelled → IsAnswer s v (unlock n) Done (once_freed s n v)
+says_freed s v n has stays out same = record { done = (has, (stays, refl)); outside = λ _. out; sees = refl; cancelled = same }
+
 abbrev freed : Kind → Situation
-freed kind = let s = (q_3 kind).desk 0 in record s { held = without 0 s.held; view = (free kind).part.core }
+freed kind = once_freed ((q_3 kind).desk 0) 0 (free kind)
 
 abbrev q_4 : Kind → Desks
 q_4 kind = called (q_3 kind) 0
@@ -98,46 +109,26 @@ abbrev q_8 : Kind → Desks
 q_8 kind = called (q_7 kind) 1
 
 abbrev freed_1 : Kind → Situation
-freed_1 kind = let s = (q_8 kind).desk 1 in record s { held = without 0 s.held; view = (free_1 kind).part.core }
+freed_1 kind = once_freed ((q_8 kind).desk 1) 0 (free_1 kind)
 
 abbrev q_9 : Kind → Desks
 q_9 kind = answered (q_8 kind) 1 Done (freed_1 kind)
 
 is_freed : (kind : Kind) → IsAnswer ((q_4 kind).desk 0) (free kind) (unlock 0) Done (freed kind)
 unfolding put ℕ_discrete
-is_freed kind = record {
-  done = (
-    record { rests = refl; holds = refl },
-    (record { attempts = refl; debts = refl; naps = refl; deaf = refl }, refl),
-  );
-  outside = λ _. refl;
-  sees = refl;
-  cancelled = refl;
-}
+is_freed kind = says_freed ((q_4 kind).desk 0) (free kind) 0 (record { rests = refl; holds = refl })
+    (record { attempts = refl; debts = refl; naps = refl; deaf = refl }) refl refl
 
 is_locked : (kind : Kind) → IsAnswer ((q_6 kind).desk 1) (owner_1 kind) (lock 0 ToTheEnd) Done (locked kind)
 unfolding put ℕ_discrete lock_at
-is_locked kind = record {
-  done = (
-    record { rests = refl; lacks = refl; there = omega arith; wants = refl },
-    (record { attempts = refl; debts = refl; naps = refl; deaf = refl }, refl),
-  );
-  outside = λ _. refl;
-  sees = refl;
-  cancelled = refl;
-}
+is_locked kind = says_locked ((q_6 kind).desk 1) (owner_1 kind) 0
+    (record { rests = refl; lacks = refl; there = omega arith; wants = refl })
+    (record { attempts = refl; debts = refl; naps = refl; deaf = refl }) refl refl
 
 is_freed_1 : (kind : Kind) → IsAnswer ((q_8 kind).desk 1) (free_1 kind) (unlock 0) Done (freed_1 kind)
 unfolding put ℕ_discrete
-is_freed_1 kind = record {
-  done = (
-    record { rests = refl; holds = refl },
-    (record { attempts = refl; debts = refl; naps = refl; deaf = refl }, refl),
-  );
-  outside = λ _. refl;
-  sees = refl;
-  cancelled = refl;
-}
+is_freed_1 kind = says_freed ((q_8 kind).desk 1) (free_1 kind) 0 (record { rests = refl; holds = refl })
+    (record { attempts = refl; debts = refl; naps = refl; deaf = refl }) refl refl
 
 -- ---- the drive, and its loops
 
@@ -186,7 +177,7 @@ late i = suc (suc (suc (suc (suc (suc (suc (suc (suc i))))))))
 
 -- ---- what the desks hold
 
-none_there : (k n : ℕ) → slice_index_or (replicate k false) n false ≡ false
+pub none_there : (k n : ℕ) → slice_index_or (replicate k false) n false ≡ false
 none_there zero n = refl
 none_there (suc k) zero = refl
 none_there (suc k) (suc n) = none_there k n
@@ -195,7 +186,7 @@ none_at_all : (n : ℕ) → slice_index_or (false ∷ replicate 64 false) n fals
 none_at_all zero = refl
 none_at_all (suc n) = none_there 64 n
 
-one_there : (n : ℕ) → slice_index_or (true ∷ replicate 64 false) n false ≡ is_among n (0 ∷ [])
+pub one_there : (n : ℕ) → slice_index_or (true ∷ replicate 64 false) n false ≡ is_among n (0 ∷ [])
 one_there zero = refl
 one_there (suc n) = none_there 64 n ∙ sym (let e : (0 == suc n) ≡ false = grind (arith, nat_tests) in ap (λ b. b || false) e)
 
@@ -538,15 +529,13 @@ module _ (kind : Kind) where
   contexts_end : ContextsEndOrDie (as_scenes stage) (steps_by (small kind) deed)
   contexts_end i s some = (late i, omega arith, inl (inr (rests s i)))
 
-  goes_0 : ProgramGoesOn stage deed phase asked 0
-  goes_0 = record {
+  rounds_0 : RoundsGoOn stage deed phase asked 0
+  rounds_0 = record {
     most = 1;
     finite = few;
     asks = λ i runs untold. (late i, omega arith, inr (inl refl));
     backs_off = λ i m is. absurd (never i m is);
     releases = λ i n out has. (late i, omega arith, owns_none 0 (omega arith) n);
-    few_loops = λ i some. (late i, omega arith, λ k later same out. refl);
-    ends = λ i some none. (late i, omega arith, inr (rests 0 i));
   }
     where
       few : (i : ℕ) → length (asked i 0) ≤ 1
@@ -557,15 +546,20 @@ module _ (kind : Kind) where
       never zero m is = cc
       never (suc i) m is = cc
 
-  goes_1 : ProgramGoesOn stage deed phase asked 1
-  goes_1 = record {
+  goes_0 : ProgramGoesOn stage deed phase asked 0
+  goes_0 = record {
+    rounds = rounds_0;
+    few_loops = λ i some. (late i, omega arith, λ k later same out. refl);
+    ends = λ i some none. (late i, omega arith, inr (rests 0 i));
+  }
+
+  rounds_1 : RoundsGoOn stage deed phase asked 1
+  rounds_1 = record {
     most = 1;
     finite = few;
     asks = λ i runs untold. (late i, omega arith, inr (inl refl));
     backs_off = λ i m is. absurd (never i m is);
     releases = λ i n out has. (late i, omega arith, owns_none 1 (omega arith) n);
-    few_loops = λ i some. (late i, omega arith, λ k later same out. late_case (λ x. phase (suc x) 1 ≡ outside) (λ _. refl) k (omega arith));
-    ends = λ i some none. (late i, omega arith, inr (rests 1 i));
   }
     where
       few : (i : ℕ) → length (asked i 1) ≤ 1
@@ -576,10 +570,31 @@ module _ (kind : Kind) where
       never (suc (suc (suc (suc (suc (suc (suc i))))))) m is = cc
       never _ m is = cc
 
+  goes_1 : ProgramGoesOn stage deed phase asked 1
+  goes_1 = record {
+    rounds = rounds_1;
+    few_loops = λ i some. (late i, omega arith, λ k later same out. late_case (λ x. phase (suc x) 1 ≡ outside) (λ _. refl) k (omega arith));
+    ends = λ i some none. (late i, omega arith, inr (rests 1 i));
+  }
+
   programs_go_on : (d : ℕ) → d < 2 → ProgramGoesOn stage deed phase asked d
   programs_go_on zero low = goes_0
   programs_go_on (suc zero) low = goes_1
   programs_go_on (suc (suc d)) low = absurd (omega arith)
+
+  -- ---- the context of the first is the oldest
+
+  first_is_oldest : IsOldestInLoop stage deed phase 0 0
+  unfolding put ℕ_discrete
+  first_is_oldest = let one = ap (λ (c : State). c.stamp 0) (first_locks kind).at.is_core in record {
+    runs = λ is. cc;
+    oldest = record { context = has_context 0 (omega arith); older = λ t some less. absurd (omega arith) };
+    unsigned = ap (λ (c : State). c.sign 0) (first_locks kind).at.is_core;
+  }
+
+  is_of_kind : (core (first_locks kind).at.moment).kind ≡ kind
+  unfolding put ℕ_discrete
+  is_of_kind = ap (λ (c : State). c.kind) (first_locks kind).at.is_core
 
   -- ---- drivers are scheduled: nobody waits, sleeps, or has anybody to wake
 
@@ -685,6 +700,7 @@ loops_are_in_drives kind = record {
   phase = phase;
   asked = asked;
   of_kind = refl;
+  core_kind = is_of_kind kind;
   world = is_of_world kind;
   some = omega arith;
   are = record {
@@ -698,6 +714,7 @@ loops_are_in_drives kind = record {
   release = holders_release kind;
   end_or_die = contexts_end kind;
   begun = λ d low. both_begun d low;
+  oldest = (0, omega arith, first_is_oldest kind);
   call = (1, 0, 3, 5, omega arith, locks_0 kind);
 }
   where

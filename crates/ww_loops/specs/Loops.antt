@@ -179,9 +179,8 @@ module _ {key : Start} (stage : ℕ → Stage key) (deed : ℕ → Deed) (phase 
   LoopsNoMore d i = (k : ℕ) → i ≤ k → (core (stage k).moment).stamp d ≡ (core (stage i).moment).stamp d → phase k d ≡ outside
 
   -- No round asks for more than so many locks; a round asks for one more in the end, or is over; a context that has to back off does
-  -- so in the end; once its loop has ended it releases in the end each lock that it has; it begins finitely many loops; and it is
-  -- over in the end if it begins no further one.
-  pub record ProgramGoesOn (d : ℕ) : Type 0 where
+  -- so in the end; and once its loop has ended it releases in the end each lock that it has.
+  pub record RoundsGoOn (d : ℕ) : Type 0 where
     pub most : ℕ
     pub finite : (i : ℕ) → length (asked i d) ≤ most
     pub asks : (i : ℕ) → phase i d ≢ outside → ((m : ℕ) → phase i d ≢ told m) →
@@ -189,6 +188,10 @@ module _ {key : Start} (stage : ℕ → Stage key) (deed : ℕ → Deed) (phase 
     pub backs_off : (i m : ℕ) → phase i d ≡ told m → InTheEnd i (λ j. phase j d ≡ first m)
     pub releases : (i n : ℕ) → phase i d ≡ outside → (core (stage i).moment).owner n ≡ Taken d →
         InTheEnd i (λ j. (core (stage j).moment).owner n ≢ Taken d)
+
+  -- Besides, a context begins finitely many loops, and is over in the end if it begins no further one.
+  pub record ProgramGoesOn (d : ℕ) : Type 0 where
+    pub rounds : RoundsGoOn d
     pub few_loops : (i : ℕ) → 0 < (core (stage i).moment).stamp d →
         InTheEnd i (λ j. (k : ℕ) → j ≤ k → (core (stage k).moment).stamp d ≡ (core (stage i).moment).stamp d →
         phase k d ≡ outside → phase (suc k) d ≡ outside)
@@ -233,13 +236,17 @@ abbrev pub WaitsForItsFirst : {key : Start} → (ℕ → Stage key) → (ℕ →
 WaitsForItsFirst {key = key} stage deed d j =
     OwnsNone (core (stage j).moment) d × WaitsForEver (as_scenes stage) (steps_by key deed) d j
 
--- In Wound-Wait the loop of the oldest context of those that don't rest on ends, if that has no sign, unless it waits forever for its
--- first lock, or is cancelled.
+-- The desk is in a loop, its context is the oldest of those that don't rest on, and nobody has signed that context.
+pub record IsOldestInLoop {key : Start} (stage : ℕ → Stage key) (deed : ℕ → Deed) (phase : ℕ → ℕ → LoopState) (d i : ℕ) : Type 0 where
+  pub runs : phase i d ≢ outside
+  pub oldest : IsOldestActive (as_scenes stage) (steps_by key deed) d i
+  pub unsigned : (core (stage i).moment).sign d ≡ 0
+
+-- In Wound-Wait the loop of such a desk ends, unless its context waits forever for its first lock, or is cancelled.
 abbrev pub OldestLoopEnds : Type 0
 OldestLoopEnds = (key : Start) (stage : ℕ → Stage key) (deed : ℕ → Deed) (phase : ℕ → ℕ → LoopState) (asked : ℕ → ℕ → List ℕ) →
     AreLoops stage deed phase asked → AllAreServed stage deed →
-    ((d : ℕ) → d < key.seats → ProgramGoesOn stage deed phase asked d) → (i d : ℕ) → d < key.seats →
-    (core (stage i).moment).kind ≡ WoundWait → IsOldestActive (as_scenes stage) (steps_by key deed) d i →
-    (core (stage i).moment).sign d ≡ 0 → phase i d ≢ outside →
+    ((d : ℕ) → d < key.seats → RoundsGoOn stage deed phase asked d) → (i d : ℕ) → d < key.seats →
+    (core (stage i).moment).kind ≡ WoundWait → IsOldestInLoop stage deed phase d i →
     InTheEnd i (λ j. LoopEnds stage deed phase asked d j ⊎ (WaitsForItsFirst stage deed d j
     ⊎ ((n : ℕ) × (deed j ≡ steps d (Some (performs (Leave d n)))))))

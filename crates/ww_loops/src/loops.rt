@@ -12,8 +12,8 @@ pub fn loops_end()
     ensures { LoopsEnd }
 {}
 
-/// In Wound-Wait the loop of the oldest context of those that don't rest on ends, if that has no sign, unless it waits forever for
-/// its first lock, or is cancelled.
+/// In Wound-Wait the loop of the oldest context of those that don't rest on ends, if nobody has signed that context, unless it waits
+/// forever for its first lock, or is cancelled.
 pub fn oldest_loop_ends()
     ensures { OldestLoopEnds }
 {}

@@ -1,9 +1,9 @@
 -- Runs with data under a shared lock: one writes, and another reads what that wrote; or, without one look, what was there before.
-use Rattle.std.proofs.Common.{◌≡◌, ◌≢◌, ◌⊎◌, ⊎_elim, inl, inr, ℕ, zero, suc, ◌<◌, refl, sym, ap, ◌∙◌, subst, arith}
+use Rattle.std.proofs.Common.{◌≡◌, ◌≢◌, ◌⊎◌, ⊎_elim, inl, inr, ℕ, zero, suc, ◌<◌, ◌≤◌, refl, sym, ap, ◌∙◌, subst, arith}
 use Rattle.ww_protocols.specs.Hall.{Layout, Hall, first_hall, sits, locks, unlocks, sets_bit, sets_mark, finds_free, finds_bit, finds_free_again, finds_no_bit, begins_to_write, hall_after, opens}
 use Rattle.ww_protocols.specs.Readers.{IsReading, IsWriting, Omission, first_look, look_at_bit, last_look, look_at_marks, look_at_owner, IsReachedWithout, HasBothAtOnce, IsNeeded}
 use Rattle.ww_protocols.specs.Memory.{writes, reads, none, IsVisible, wrote}
-use Rattle.ww_protocols.specs.SharedData.{HallAct, moves, accesses, access_in, IsDoneIn, LeadsOn, HappensBeforeIn, in_order, of_mutex, of_desk, of_mark, through, ReadsOfARun, SharedDataIsHandedOver, HasStaleSharedRead, SharedDataNeedsEachLook}
+use Rattle.ww_protocols.specs.SharedData.{HallAct, moves, accesses, access_in, IsDoneIn, LeadsOn, HappensBeforeIn, in_order, of_mutex, of_desk, of_mark, through, ReadsOfARun, ReadsUntil, SharedDataIsHandedOver, HasStaleSharedRead, SharedDataNeedsEachLook}
 use Rattle.ww_protocols.proofs.HallRuns.{two, but_one, bit_is_found, each_look_is_needed}
 use Rattle.ww_protocols.proofs.SharedData.{comes_first_in}
 
@@ -15,7 +15,7 @@ abbrev halls : (ℕ → HallAct) → ℕ → Hall
 halls act zero = first_hall
 halls act (suc i) = next (halls act i) (act i)
 
--- ---- context 1 writes, and then context 0 reads
+-- ---- context 1 writes, then context 0 reads, and then context 1 too, while context 0 reads on
 
 abbrev act : ℕ → HallAct
 act zero = moves 1 (locks 0)
@@ -30,7 +30,14 @@ act (suc (suc (suc (suc (suc (suc (suc (suc zero)))))))) = moves 0 (finds_free 0
 act (suc (suc (suc (suc (suc (suc (suc (suc (suc zero))))))))) = moves 0 (finds_bit 0)
 act (suc (suc (suc (suc (suc (suc (suc (suc (suc (suc zero)))))))))) = moves 0 (finds_free_again 0)
 act (suc (suc (suc (suc (suc (suc (suc (suc (suc (suc (suc zero))))))))))) = accesses (reads 0 0 7)
-act (suc (suc (suc (suc (suc (suc (suc (suc (suc (suc (suc (suc i)))))))))))) = accesses none
+act (suc (suc (suc (suc (suc (suc (suc (suc (suc (suc (suc (suc zero)))))))))))) = moves 1 sits
+act (suc (suc (suc (suc (suc (suc (suc (suc (suc (suc (suc (suc (suc zero))))))))))))) = moves 1 (sets_bit 0)
+act (suc (suc (suc (suc (suc (suc (suc (suc (suc (suc (suc (suc (suc (suc zero)))))))))))))) = moves 1 (sets_mark 0)
+act (suc (suc (suc (suc (suc (suc (suc (suc (suc (suc (suc (suc (suc (suc (suc zero))))))))))))))) = moves 1 (finds_free 0)
+act (suc (suc (suc (suc (suc (suc (suc (suc (suc (suc (suc (suc (suc (suc (suc (suc zero)))))))))))))))) = moves 1 (finds_bit 0)
+act (suc (suc (suc (suc (suc (suc (suc (suc (suc (suc (suc (suc (suc (suc (suc (suc (suc zero))))))))))))))))) = moves 1 (finds_free_again 0)
+act (suc (suc (suc (suc (suc (suc (suc (suc (suc (suc (suc (suc (suc (suc (suc (suc (suc (suc zero)))))))))))))))))) = accesses (reads 1 0 7)
+act (suc (suc (suc (suc (suc (suc (suc (suc (suc (suc (suc (suc (suc (suc (suc (suc (suc (suc (suc i))))))))))))))))))) = accesses none
 
 goes_on : (i : ℕ) → LeadsOn two (halls act i) (act i) (halls act (suc i))
 goes_on zero = (omega arith, refl, refl)
@@ -45,7 +52,14 @@ goes_on (suc (suc (suc (suc (suc (suc (suc (suc zero)))))))) = (omega arith, (re
 goes_on (suc (suc (suc (suc (suc (suc (suc (suc (suc zero))))))))) = (omega arith, (refl, refl), refl)
 goes_on (suc (suc (suc (suc (suc (suc (suc (suc (suc (suc zero)))))))))) = (omega arith, (refl, refl), refl)
 goes_on (suc (suc (suc (suc (suc (suc (suc (suc (suc (suc (suc zero))))))))))) = refl
-goes_on (suc (suc (suc (suc (suc (suc (suc (suc (suc (suc (suc (suc i)))))))))))) = refl
+goes_on (suc (suc (suc (suc (suc (suc (suc (suc (suc (suc (suc (suc zero)))))))))))) = (omega arith, refl, refl)
+goes_on (suc (suc (suc (suc (suc (suc (suc (suc (suc (suc (suc (suc (suc zero))))))))))))) = (omega arith, tt, refl)
+goes_on (suc (suc (suc (suc (suc (suc (suc (suc (suc (suc (suc (suc (suc (suc zero)))))))))))))) = (omega arith, (refl, refl), refl)
+goes_on (suc (suc (suc (suc (suc (suc (suc (suc (suc (suc (suc (suc (suc (suc (suc zero))))))))))))))) = (omega arith, (refl, refl), refl)
+goes_on (suc (suc (suc (suc (suc (suc (suc (suc (suc (suc (suc (suc (suc (suc (suc (suc zero)))))))))))))))) = (omega arith, (refl, refl), refl)
+goes_on (suc (suc (suc (suc (suc (suc (suc (suc (suc (suc (suc (suc (suc (suc (suc (suc (suc zero))))))))))))))))) = (omega arith, (refl, refl), refl)
+goes_on (suc (suc (suc (suc (suc (suc (suc (suc (suc (suc (suc (suc (suc (suc (suc (suc (suc (suc zero)))))))))))))))))) = refl
+goes_on (suc (suc (suc (suc (suc (suc (suc (suc (suc (suc (suc (suc (suc (suc (suc (suc (suc (suc (suc i))))))))))))))))))) = refl
 
 writes_fourth : (k t x value : ℕ) → access_in (act k) ≡ writes t x value → k ≡ 3
 writes_fourth zero t x value is = absurd (cc)
@@ -60,32 +74,58 @@ writes_fourth (suc (suc (suc (suc (suc (suc (suc (suc zero)))))))) t x value is 
 writes_fourth (suc (suc (suc (suc (suc (suc (suc (suc (suc zero))))))))) t x value is = absurd (cc)
 writes_fourth (suc (suc (suc (suc (suc (suc (suc (suc (suc (suc zero)))))))))) t x value is = absurd (cc)
 writes_fourth (suc (suc (suc (suc (suc (suc (suc (suc (suc (suc (suc zero))))))))))) t x value is = absurd (cc)
-writes_fourth (suc (suc (suc (suc (suc (suc (suc (suc (suc (suc (suc (suc i)))))))))))) t x value is = absurd (cc)
+writes_fourth (suc (suc (suc (suc (suc (suc (suc (suc (suc (suc (suc (suc zero)))))))))))) t x value is = absurd (cc)
+writes_fourth (suc (suc (suc (suc (suc (suc (suc (suc (suc (suc (suc (suc (suc zero))))))))))))) t x value is = absurd (cc)
+writes_fourth (suc (suc (suc (suc (suc (suc (suc (suc (suc (suc (suc (suc (suc (suc zero)))))))))))))) t x value is = absurd (cc)
+writes_fourth (suc (suc (suc (suc (suc (suc (suc (suc (suc (suc (suc (suc (suc (suc (suc zero))))))))))))))) t x value is = absurd (cc)
+writes_fourth (suc (suc (suc (suc (suc (suc (suc (suc (suc (suc (suc (suc (suc (suc (suc (suc zero)))))))))))))))) t x value is = absurd (cc)
+writes_fourth (suc (suc (suc (suc (suc (suc (suc (suc (suc (suc (suc (suc (suc (suc (suc (suc (suc zero))))))))))))))))) t x value is = absurd (cc)
+writes_fourth (suc (suc (suc (suc (suc (suc (suc (suc (suc (suc (suc (suc (suc (suc (suc (suc (suc (suc zero)))))))))))))))))) t x value is = absurd (cc)
+writes_fourth (suc (suc (suc (suc (suc (suc (suc (suc (suc (suc (suc (suc (suc (suc (suc (suc (suc (suc (suc i))))))))))))))))))) t x value is = absurd (cc)
 
-reads_twelfth : (k t x value : ℕ) → access_in (act k) ≡ reads t x value → k ≡ 11
-reads_twelfth zero t x value is = absurd (cc)
-reads_twelfth (suc zero) t x value is = absurd (cc)
-reads_twelfth (suc (suc zero)) t x value is = absurd (cc)
-reads_twelfth (suc (suc (suc zero))) t x value is = absurd (cc)
-reads_twelfth (suc (suc (suc (suc zero)))) t x value is = absurd (cc)
-reads_twelfth (suc (suc (suc (suc (suc zero))))) t x value is = absurd (cc)
-reads_twelfth (suc (suc (suc (suc (suc (suc zero)))))) t x value is = absurd (cc)
-reads_twelfth (suc (suc (suc (suc (suc (suc (suc zero))))))) t x value is = absurd (cc)
-reads_twelfth (suc (suc (suc (suc (suc (suc (suc (suc zero)))))))) t x value is = absurd (cc)
-reads_twelfth (suc (suc (suc (suc (suc (suc (suc (suc (suc zero))))))))) t x value is = absurd (cc)
-reads_twelfth (suc (suc (suc (suc (suc (suc (suc (suc (suc (suc zero)))))))))) t x value is = absurd (cc)
-reads_twelfth (suc (suc (suc (suc (suc (suc (suc (suc (suc (suc (suc zero))))))))))) t x value is = refl
-reads_twelfth (suc (suc (suc (suc (suc (suc (suc (suc (suc (suc (suc (suc i)))))))))))) t x value is = absurd (cc)
+-- each read is of what context 1 wrote, by one that reads then
+record IsReadSo (k t x value : ℕ) : Type 0 where
+  later : 3 < k
+  place : 0 ≡ x
+  same : 7 ≡ value
+  reading : IsReading (halls act k) t 0
+
+reads_so : (k t x value : ℕ) → access_in (act k) ≡ reads t x value → IsReadSo k t x value
+reads_so zero t x value is = absurd (cc)
+reads_so (suc zero) t x value is = absurd (cc)
+reads_so (suc (suc zero)) t x value is = absurd (cc)
+reads_so (suc (suc (suc zero))) t x value is = absurd (cc)
+reads_so (suc (suc (suc (suc zero)))) t x value is = absurd (cc)
+reads_so (suc (suc (suc (suc (suc zero))))) t x value is = absurd (cc)
+reads_so (suc (suc (suc (suc (suc (suc zero)))))) t x value is = absurd (cc)
+reads_so (suc (suc (suc (suc (suc (suc (suc zero))))))) t x value is = absurd (cc)
+reads_so (suc (suc (suc (suc (suc (suc (suc (suc zero)))))))) t x value is = absurd (cc)
+reads_so (suc (suc (suc (suc (suc (suc (suc (suc (suc zero))))))))) t x value is = absurd (cc)
+reads_so (suc (suc (suc (suc (suc (suc (suc (suc (suc (suc zero)))))))))) t x value is = absurd (cc)
+reads_so (suc (suc (suc (suc (suc (suc (suc (suc (suc (suc (suc zero))))))))))) t x value is = let own : 0 ≡ t = cc in record {
+  later = omega arith;
+  place = let e : 0 ≡ x = cc in e;
+  same = let e : 7 ≡ value = cc in e;
+  reading = subst (λ y. IsReading (halls act 11) y 0) own refl;
+}
+reads_so (suc (suc (suc (suc (suc (suc (suc (suc (suc (suc (suc (suc zero)))))))))))) t x value is = absurd (cc)
+reads_so (suc (suc (suc (suc (suc (suc (suc (suc (suc (suc (suc (suc (suc zero))))))))))))) t x value is = absurd (cc)
+reads_so (suc (suc (suc (suc (suc (suc (suc (suc (suc (suc (suc (suc (suc (suc zero)))))))))))))) t x value is = absurd (cc)
+reads_so (suc (suc (suc (suc (suc (suc (suc (suc (suc (suc (suc (suc (suc (suc (suc zero))))))))))))))) t x value is = absurd (cc)
+reads_so (suc (suc (suc (suc (suc (suc (suc (suc (suc (suc (suc (suc (suc (suc (suc (suc zero)))))))))))))))) t x value is = absurd (cc)
+reads_so (suc (suc (suc (suc (suc (suc (suc (suc (suc (suc (suc (suc (suc (suc (suc (suc (suc zero))))))))))))))))) t x value is = absurd (cc)
+reads_so (suc (suc (suc (suc (suc (suc (suc (suc (suc (suc (suc (suc (suc (suc (suc (suc (suc (suc zero)))))))))))))))))) t x value is = let own : 1 ≡ t = cc in record {
+  later = omega arith;
+  place = let e : 0 ≡ x = cc in e;
+  same = let e : 7 ≡ value = cc in e;
+  reading = subst (λ y. IsReading (halls act 18) y 0) own refl;
+}
+reads_so (suc (suc (suc (suc (suc (suc (suc (suc (suc (suc (suc (suc (suc (suc (suc (suc (suc (suc (suc i))))))))))))))))))) t x value is = absurd (cc)
 
 writes_there : (i c x value : ℕ) → access_in (act i) ≡ writes c x value → IsWriting (halls act i) c 0
 writes_there i c x value is = let at = writes_fourth i c x value is in
     let there : writes 1 0 7 ≡ writes c x value = ap (λ k. access_in (act k)) (sym at) ∙ is in let own : 1 ≡ c = cc in
     subst (λ k. IsWriting (halls act k) c 0) (sym at) (subst (λ y. IsWriting (halls act 3) y 0) own refl)
-
-reads_there : (i c x value : ℕ) → access_in (act i) ≡ reads c x value → IsReading (halls act i) c 0
-reads_there i c x value is = let at = reads_twelfth i c x value is in
-    let there : reads 0 0 7 ≡ reads c x value = ap (λ k. access_in (act k)) (sym at) ∙ is in let own : 0 ≡ c = cc in
-    subst (λ k. IsReading (halls act k) c 0) (sym at) (subst (λ y. IsReading (halls act 11) y 0) own refl)
 
 is_visible : (x j : ℕ) → 3 < j → IsVisible (HappensBeforeIn two act) (λ i. access_in (act i)) x 3 j
 is_visible x j later = record {
@@ -94,10 +134,22 @@ is_visible x j later = record {
 }
 
 memory : ReadsOfARun two act (λ _. 0)
-memory j c x value is = let at = reads_twelfth j c x value is in
-    let there : reads 0 0 7 ≡ reads c x value = ap (λ k. access_in (act k)) (sym at) ∙ is in
-    let place : 0 ≡ x = cc in let same : 7 ≡ value = cc in
-    inl (3, 1, ap (λ y. writes 1 y 7) place ∙ ap (writes 1 x) same, is_visible x j (omega arith))
+memory j c x value is = let r = reads_so j c x value is in
+    inl (3, 1, ap (λ y. writes 1 y 7) r.place ∙ ap (writes 1 x) r.same, is_visible x j r.later)
+
+-- context 0 reads on until context 1 reads
+reads_still : (k : ℕ) → 11 ≤ k → k < 18 → IsReading (halls act k) 0 0
+reads_still (suc (suc (suc (suc (suc (suc (suc (suc (suc (suc (suc zero))))))))))) low high = refl
+reads_still (suc (suc (suc (suc (suc (suc (suc (suc (suc (suc (suc (suc zero)))))))))))) low high = refl
+reads_still (suc (suc (suc (suc (suc (suc (suc (suc (suc (suc (suc (suc (suc zero))))))))))))) low high = refl
+reads_still (suc (suc (suc (suc (suc (suc (suc (suc (suc (suc (suc (suc (suc (suc zero)))))))))))))) low high = refl
+reads_still (suc (suc (suc (suc (suc (suc (suc (suc (suc (suc (suc (suc (suc (suc (suc zero))))))))))))))) low high = refl
+reads_still (suc (suc (suc (suc (suc (suc (suc (suc (suc (suc (suc (suc (suc (suc (suc (suc zero)))))))))))))))) low high = refl
+reads_still (suc (suc (suc (suc (suc (suc (suc (suc (suc (suc (suc (suc (suc (suc (suc (suc (suc zero))))))))))))))))) low high = refl
+reads_still _ low high = absurd (omega arith)
+
+reads_on : ReadsUntil (λ _. 0) (halls act) act 0 0 11 18
+reads_on k low high = (reads_still k low high, λ value is. let at = writes_fourth k 0 0 value is in omega arith)
 
 pub shared_data_is_handed_over : SharedDataIsHandedOver
 shared_data_is_handed_over = record {
@@ -107,9 +159,14 @@ shared_data_is_handed_over = record {
   act = act;
   first = λ _. 0;
   begins = opens;
-  keeps = record { goes_on = goes_on; writing = writes_there; reading = λ i c x value is. inl (reads_there i c x value is) };
+  keeps = record {
+    goes_on = goes_on;
+    writing = writes_there;
+    reading = λ i c x value is. inl (let r = reads_so i c x value is in r.reading);
+  };
   memory = memory;
   handed_over = (3, 11, 1, 0, 0, 7, refl, refl, refl, (λ is. omega arith), λ is. omega arith);
+  read_beside = (11, 18, 0, 1, 0, 7, omega arith, reads_on, refl, refl, refl, λ is. omega arith);
 }
 
 -- ---- two at once in one hall: the one writes there, and directly after that the other reads

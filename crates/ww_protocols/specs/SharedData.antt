@@ -79,12 +79,16 @@ ReadersGetTheLastWrite = (l : Layout) (mutex_of : ℕ → ℕ) (hall : ℕ → H
     IsReachedHall l (hall 0) → KeepsSharedData l mutex_of hall act → (first : ℕ → ℕ) → ReadsOfARun l act first →
     (j c x value : ℕ) → access_in (act j) ≡ reads c x value → value ≡ wrote first (λ i. access_in (act i)) j x
 
--- While a context reads a mutex, all reads of a place of that, by it or others, are of one value, if it writes nothing there itself.
+-- from i until j context c reads the place's mutex, and writes nothing there itself
+abbrev pub ReadsUntil : (ℕ → ℕ) → (ℕ → Hall) → (ℕ → HallAct) → (c x i j : ℕ) → Type 0
+ReadsUntil mutex_of hall act c x i j =
+    (k : ℕ) → i ≤ k → k < j → IsReading (hall k) c (mutex_of x) × ((value : ℕ) → access_in (act k) ≢ writes c x value)
+
+-- While a context reads so, all reads of the place, by it or others, are of one value.
 abbrev pub ReadsStayTheSame : Type 0
 ReadsStayTheSame = (l : Layout) (mutex_of : ℕ → ℕ) (hall : ℕ → Hall) (act : ℕ → HallAct) →
     IsReachedHall l (hall 0) → KeepsSharedData l mutex_of hall act →
-    (first : ℕ → ℕ) → ReadsOfARun l act first → (i j c d e x v w : ℕ) → i ≤ j →
-    ((k : ℕ) → i ≤ k → k < j → IsReading (hall k) c (mutex_of x) × ((value : ℕ) → access_in (act k) ≢ writes c x value)) →
+    (first : ℕ → ℕ) → ReadsOfARun l act first → (i j c d e x v w : ℕ) → i ≤ j → ReadsUntil mutex_of hall act c x i j →
     access_in (act i) ≡ reads d x v → access_in (act j) ≡ reads e x w → v ≡ w
 
 -- ---- why the clearing of a mark comes before each later look that doesn't find it
@@ -110,7 +114,8 @@ MarksAreStoredInOrder = (l : Layout) (hall : ℕ → Hall) (act : ℕ → HallAc
 
 -- ---- none of this speaks of nothing
 
--- One context writes, and later another, which reads the mutex, reads what that wrote, and not what was there at first.
+-- One context writes, and later another, which reads the mutex, reads what that wrote, and not what was there at first. And while one
+-- reads on, another that reads the mutex, too, reads the same.
 pub record HasSharedDataHandedOver : Type 0 where
   pub layout : Layout
   pub mutex_of : ℕ → ℕ
@@ -122,6 +127,8 @@ pub record HasSharedDataHandedOver : Type 0 where
   pub memory : ReadsOfARun layout act first
   pub handed_over : (i j c d x value : ℕ) × (access_in (act i) ≡ writes c x value) × (access_in (act j) ≡ reads d x value)
       × IsReading (hall j) d (mutex_of x) × (c ≢ d) × (value ≢ first x)
+  pub read_beside : (i j c e x value : ℕ) × (i ≤ j) × ReadsUntil mutex_of hall act c x i j × (access_in (act i) ≡ reads c x value)
+      × (access_in (act j) ≡ reads e x value) × IsReading (hall j) e (mutex_of x) × (c ≢ e)
 
 abbrev pub SharedDataIsHandedOver : Type 0
 SharedDataIsHandedOver = HasSharedDataHandedOver

@@ -38,7 +38,7 @@ pub fn reads_stay_the_same()
     ensures { ReadsStayTheSame }
 {}
 
-/// In one run a context writes, and another comes to read what that wrote.
+/// In one run a context writes, another comes to read what that wrote, and then both read it at once.
 pub fn shared_data_is_handed_over()
     ensures { SharedDataIsHandedOver }
 {}
