@@ -43,8 +43,8 @@
  * Threads.  A context belongs to no thread: one thread at a time uses it, and any thread may go on with it, unlock what it holds and end
  * it, also after the thread that began it has ended, if the program orders the calls of the two, as by a lock of its own.  If a thread
  * goes on with a context, and its first call is ww_mutex_unlock, which names no context, it calls ww_acquire_here before.  A thread
- * unlocks what it locked without a context (NULL), before it ends.  No call may come from a signal handler.  Which calls may run at the
- * same time in different threads:
+ * unlocks what it locked without a context (NULL), before it ends.  No call but ww_class_print may come from a signal handler.  Which
+ * calls may run at the same time in different threads:
  *
  *	call                              at the same time
  *	lock, trylock, unlock,            these of the same mutex, and one ww_mutex_destroy, as long as that returns
@@ -71,7 +71,7 @@
  *
  * Several copies.  Each copy of the library, as in a plugin that is linked with the archive, has classes of its own: the program ends
  * with a message where a copy uses a class that another one opened, also before it was closed and loaded again.  Each loaded copy of the
- * shared library takes 232 bytes of static thread-local storage: a process can load about seven.
+ * shared library takes 216 bytes of static thread-local storage: a process can load about seven.
  *
  * The lock protocol underneath is formally verified; the code of this interface is tested.
  */
