@@ -110,9 +110,15 @@ class _Thread(threading.local):
         return any(mutex in it for it in self._go_on())
 
     def check_wait(self, context: Context, mutex: Mutex, reads: bool) -> None:
-        """Already, where this context waits for another one of the thread; a read waits for who writes."""
-        if any(mutex in it and (it._has(mutex) or not reads) for it in self._go_on() if it is not context):
-            raise Already(errno.EALREADY, f"another context of this thread holds it: {mutex!r}")
+        """Already, where this context waits for another one of the thread, at this mutex or first at what is contended; a read waits for
+        who writes."""
+        library, place, at = context._library, context.why().at, mutex._at
+        if place and not place.is_at(mutex):
+            at, reads = library.ww_number_at(place.number, context._class._at), True  # It may be no more than a read.
+        for it in self._go_on():
+            if it is not context and it._class is context._class:
+                if library.ww_shared_mutex_is_written_by(at, it._at) or not reads and library.ww_shared_mutex_is_read_by(at, it._at):
+                    raise Already(errno.EALREADY, f"another context of this thread holds it, or what is contended: {mutex!r}")
 
 
 _mine = _Thread()

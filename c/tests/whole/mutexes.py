@@ -323,10 +323,10 @@ def refuses_again(kind):
 
 
 def refuses_itself(kind):
-    """A wait without a limit for another context of the thread, also for what that reads; but a read beside that, and an upgrade while
-    another thread reads, are none."""
+    """A wait without a limit for another context of the thread, also for what that reads, and first for what is contended; but a read
+    beside that, and an upgrade while another thread reads, are none."""
     buffers, long = made(kind), ww.mutexes._LONG
-    a, b = ww.Mutex(buffers), ww.SharedMutex(buffers)
+    a, b, other = ww.Mutex(buffers), ww.SharedMutex(buffers), ww.Mutex(buffers)
     ww.mutexes._LONG = ww.mutexes._SLICE
 
     def locks(mutex, call="lock"):
@@ -334,7 +334,7 @@ def refuses_itself(kind):
 
     def waits_for_itself():
         with a:
-            assert is_raised(ww.Already, locks, a)
+            assert is_raised(ww.Already, locks, a) and is_raised(ww.Already, buffers.run, lambda it: it.lock(other) or it.lock(a))
         with buffers.context() as context:
             context.read(b)
             assert not locks(b, "read") and is_raised(ww.Already, locks, b)
