@@ -79,7 +79,7 @@ public:
 	}
 	// How many threads begin contexts in a crowd, as by ww_class_crowd; it returns what limit does.
 	[[nodiscard]] int crowd(std::uint32_t permits WW_AND_FROM_) noexcept { return ww_class_crowd(&it_, permits); }
-	// Allocates all memory now. -ENOMEM.
+	// Opens it now, as ww_class_open does. -ENOMEM.
 	[[nodiscard]] int open() noexcept { return ww_class_open(&it_); }
 	// What ww_class_stats tells.
 	struct ww_class_counts stats() noexcept

@@ -13,6 +13,7 @@
 #include <sys/wait.h>
 
 /* As in crowd.c, in nanoseconds; and longer than this test may take. */
+_Static_assert(LEASE == 1000000, "a permit lasts a millisecond, as the headers say of it, and of contexts of tasks");
 enum { TIMER_SLACK = 50000, GRACE = 16000000, REST = 16000000, LONGEST_REST = 512000000, MEETING = 1000, AWAKE = 2, MOST_BEGINS = 16 };
 #define FAR ((uint64_t)1 << 50)
 

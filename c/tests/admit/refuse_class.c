@@ -186,6 +186,9 @@ static void reads_all(void)
 		uint32_t number;
 
 		ww_shared_mutex_init(&m, c);
+		refused = made;
+		MUST(ww_number_take(&number, c) == -ENOMEM);
+		refused = -1;
 		MUST(!ww_number_take(&number, c));
 		ww_acquire_init(&x, c);
 		refused = made;

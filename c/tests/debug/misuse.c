@@ -34,6 +34,11 @@ static void wrong_class_again_and_again(void)
 		wrong_class();
 	MUST(ww_debug_faults() == 9);
 }
+static void of_each_class(void)
+{
+	for (unsigned k = 0; k < 2; k++)
+		MUST(HERE(ww_class_limit(k ? &other : &c, 8, 8)) == -EBUSY);
+}
 static void after_done(void)
 {
 	ww_acquire_done(&x);
@@ -373,6 +378,13 @@ static void tells_how_often(const char *message)
 	MUST(!*rest);
 }
 
+/* At one line, of each class for the first time. */
+static void tells_of_each_class(void)
+{
+	hear(false, of_each_class);
+	MUST(strstr(said, "class \"c\": ") && strstr(said, "class \"other\": ") && !strstr(said, "times by now"));
+}
+
 /* A release of all that a context holds, its keys too, is no fault. */
 static void releases_keys(void)
 {
@@ -522,6 +534,7 @@ int main(int count, char **words)
 		return 0;
 	}
 	tells(wrong_class, "ww_mutex_lock: the mutex is of another class, or isn't initialized@");
+	tells_of_each_class();
 	tells_how_often("ww_mutex_lock: the mutex is of another class, or isn't initialized@");
 	tells(after_done, "ww_mutex_lock: class \"c\": the context is done: ww_acquire_done comes after its last lock@");
 	tells(tries_after_done, "ww_mutex_lock: class \"c\": the context is done: ww_acquire_done comes after its last lock@");

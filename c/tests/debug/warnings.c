@@ -185,6 +185,8 @@ static void stays_open(void)
 	ww_mutex_name(&a, "which was destroyed");
 	MUST(!ww_mutex_destroy(&a));
 	ww_mutex_init(&a, &c);
+	ww_mutex_name(&a, "which was taken away");
+	ww_mutex_name(&a, NULL);
 	AT(0, ww_acquire_init(&x, &c));
 	AT(1, ww_mutex_lock(&a, NULL));
 	for (unsigned k = 0; k < 2; k++)
@@ -266,16 +268,37 @@ static void *in_a_ring(void *place)
 	return NULL;
 }
 
+enum { INTERVAL = 20 }; /* in milliseconds, between two checks */
 static void deadlocked(unsigned threads, void *(*work)(void *), unsigned long warnings)
 {
-	ww_debug_check_interval(20);
+	ww_debug_check_interval(INTERVAL);
 	MUST(!pthread_barrier_init(&all_hold, NULL, threads));
 	for (size_t k = 0; k < threads; k++)
 		MUST(!pthread_detach(begin_thread(work, (void *)k)));
 	awaits_warnings(warnings);
 }
 
-static void two_classes(void) { deadlocked(2, by_two_classes, 1); }
+/* By its second check. */
+static void two_classes(void)
+{
+	struct timespec second = in_ms(2 * INTERVAL), now;
+
+	deadlocked(2, by_two_classes, 1);
+	now = in_ms(0);
+	MUST(now.tv_sec > second.tv_sec || (now.tv_sec == second.tv_sec && now.tv_nsec >= second.tv_nsec));
+}
+/* Where nobody checks nothing is told. */
+static void without_checks(void)
+{
+	ww_debug_check_interval(0);
+	MUST(!pthread_barrier_init(&all_hold, NULL, 2));
+	for (size_t k = 0; k < 2; k++)
+		MUST(!pthread_detach(begin_thread(by_two_classes, (void *)k)));
+	awaits_waiter(&a);
+	awaits_waiter(&other);
+	usleep(100000);
+	MUST(!ww_debug_warnings());
+}
 static void two_with_names(void)
 {
 	ww_mutex_name(&a, "another");
@@ -843,6 +866,7 @@ int main(void)
 	tells(4, 2, for_a_while, "$1: ww_mutex_lock: class \"c\": " BESIDE "$0@\n");
 	tells(2, 2, one_is_awake, "$1: ww_mutex_lock: class \"c\": " BESIDE "$0@\n"
 				  "$1: a wait for a context: class \"c\": " NONE_LEFT "$0\n");
+	hear(2, 2, without_checks);
 	hear(4, 2, one_is_woken);
 	hear(4, 2, no_deadlock);
 	MUST(!strstr(said, "no class detects this deadlock"));

@@ -188,8 +188,8 @@ static void uses_other(struct ww_acquire_ctx *z)
 
 static void writes(void *to, const char *message) { MUST(dprintf(*(int *)to, "%s\n", message) > 0); }
 
-/* Runs it in a child, and reads what that says, to standard error or by a function. */
-static int in_child(bool function, void (*what)(void), char *said, size_t room)
+/* Runs it in a child, and reads what that says: to standard error, by a function, or to standard error after one. */
+static int in_child(unsigned by, void (*what)(void), char *said, size_t room)
 {
 	int ends[2], status;
 	ssize_t count, all = 0;
@@ -197,9 +197,11 @@ static int in_child(bool function, void (*what)(void), char *said, size_t room)
 
 	MUST(!pipe(ends) && (child = fork()) >= 0);
 	if (!child) {
-		if (function)
-			ww_report_to(writes, &ends[1]);
-		else
+		if (by)
+			ww_report_to(writes, &ends[by == 1]);
+		if (by == 2)
+			ww_report_to(NULL, NULL);
+		if (by != 1)
 			dup2(ends[1], 2);
 		signal(SIGABRT, SIG_DFL);
 		what();
@@ -218,7 +220,7 @@ static void ends(void (*what)(void), const char *message)
 {
 	char said[4096];
 
-	for (unsigned by = 0; by < 2; by++) {
+	for (unsigned by = 0; by < 3; by++) {
 		int status = in_child(by, what, said, sizeof said);
 
 		if (!WIFSIGNALED(status) || WTERMSIG(status) != SIGABRT || strncmp(said, message, strlen(message))) {
@@ -277,7 +279,7 @@ static void forks(void)
 	for (unsigned k = 0; k < 4; k++)
 		threads[k] = begin_thread(works, NULL);
 	for (unsigned k = 0; k < 20; k++) {
-		int status = in_child(false, goes_on_in_a_child, said, sizeof said);
+		int status = in_child(0, goes_on_in_a_child, said, sizeof said);
 
 		MUST(!status && !said[0]);
 	}
