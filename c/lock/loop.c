@@ -53,7 +53,7 @@ void ww_acquire_flags(struct ww_acquire_ctx *x, unsigned int flags)
 	enum phase phase = phase_of(NEEDED(x));
 
 	if (phase == IN_POLL)
-		NOTE_MISUSE(NULL, "ww_acquire_flags", WAITS_BY_POLL);
+		NOTE_MISUSE(x->own->pool->class_, "ww_acquire_flags", WAITS_BY_POLL);
 	if (phase == IN_POLL || phase == HAS_ENDED)
 		return;
 	x->state = (x->state & ~(unsigned)FLAGS) | (flags & FLAGS);
@@ -229,7 +229,8 @@ int ww_lock_in_loop(struct ww_mutex *m, struct ww_acquire_ctx *x, const struct w
 COLD static void begin_loop_else(struct ww_acquire_ctx *x)
 {
 	if (!x->own || x->acquired || is_polled(x))
-		end("ww_until_all_locked", x->own && is_polled(x) ? WAITS_BY_POLL : "the context holds a mutex, or has ended");
+		end_of(x->own ? x->own->pool->class_ : NULL, "ww_until_all_locked",
+		       x->own && is_polled(x) ? WAITS_BY_POLL : "the context holds a mutex, or has ended");
 	let_be_older(x);
 	ww_become(x, TRIES | IS_PRELOCKED, 0);
 }
@@ -250,7 +251,7 @@ COLD void ww_back_off_(struct ww_acquire_ctx *x)
 		return;
 	note_used(x);
 	if (is_polled(x))
-		end("ww_retry_on_contention", WAITS_BY_POLL);
+		end_of(x->own->pool->class_, "ww_retry_on_contention", WAITS_BY_POLL);
 	release_newest_first(x);
 	ww_become(x, HAS_TO_BACK_OFF | IS_PRELOCKED, WAITS_FIRST);
 }

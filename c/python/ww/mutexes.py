@@ -541,7 +541,8 @@ class Context(Holder):
         self._of_task.end()
 
     def __repr__(self) -> str:
-        return f"<ww.Context of {self._class.name!r} with {self._library.ww_acquire_mark(self._at)} mutexes>"
+        count = self._library.ww_acquire_mark(self._at)
+        return f"<ww.Context of {self._class.name!r} with {count} mutex{'es' * (count != 1)}>"
 
     def _begin(self, until: Optional[int] = None) -> None:
         if self._library.is_debug:

@@ -667,7 +667,7 @@ static void tells(uint32_t contexts, uint32_t others, void (*what)(void), const 
 
 #define OTHER_CONTEXT "two contexts of a thread can wait for each other forever; its other one, if it wasn't left without ww_acquire_fini, began at "
 #define BESIDE "deadlocks through locks without a context are not detected; the thread holds a mutex by what began at "
-#define ALL_IN_USE(n) "all " n " contexts have been in use for 10 seconds; one that isn't ended by ww_acquire_fini stays in use; the oldest began at "
+#define ALL_IN_USE(n) "all contexts (" n ") have been in use for 10 s; one that isn't ended by ww_acquire_fini stays in use; the oldest began at "
 #define NONE_LEFT "all are in use, and deadlocks through this wait are not detected; the thread has what began at "
 
 #define CLOCK "is it one of CLOCK_MONOTONIC, and no duration?\n"
@@ -681,8 +681,8 @@ static void tells_warnings(void)
 	tells(4, 4, without_context, "$2: ww_mutex_lock: class \"c\": " BESIDE "$1@\n");
 	tells(4, 4, without_context_beside_one, "$1: ww_mutex_lock: class \"c\": " BESIDE "$0@\n");
 	tells(2, 2, wait_for_context, "$1: a wait for a context: class \"c\": " NONE_LEFT "$0\n");
-	tells(2, 2, for_a_mutex, "$1: a wait: class \"c\": it has lasted 10 seconds; mutex 0 \"what was left\" is held by what began at $0\n");
-	tells(2, 2, for_what_a_thread_left, "$1: a wait: class \"c\": it has lasted 10 seconds; mutex 0 is held by what a thread that has "
+	tells(2, 2, for_a_mutex, "$1: a wait: class \"c\": it has lasted 10 s; mutex 0 \"what was left\" is held by what began at $0\n");
+	tells(2, 2, for_what_a_thread_left, "$1: a wait: class \"c\": it has lasted 10 s; mutex 0 is held by what a thread that has "
 					    "ended left; it began at $0\n");
 	tells(2, 2, of_another_clock, "$0: a time limit: the time is long past: " CLOCK "$1: a time limit: the time is more than a year away: " CLOCK);
 	tells(1, 2, contexts_come_back, "$1: a wait for a context: class \"c\": " ALL_IN_USE("1") "$1\n");

@@ -314,7 +314,7 @@ int main(void)
 	ends(locks_what_is_destroyed, "ww_mutex_lock: the mutex isn't initialized");
 	ends(one_mutex_too_many, "ww_mutex_init: class \"small\": all its mutexes are in use: 65,536, or as many as ww_class_limit set (one");
 	ends(class_of_nothing, "ww_acquire_init: class \"none\": it was in use at a fork, of which this is the child, or was never");
-	ends(loop_while_it_holds, "ww_until_all_locked: the context holds a mutex");
+	ends(loop_while_it_holds, "ww_until_all_locked: class \"c\": the context holds a mutex");
 	uses_other(&z);
 	ends(inits_in_a_child, "ww_mutex_init: class \"c\": it was in use at a fork, of which this is the child");
 	ends(begins_in_a_child, "ww_acquire_init: class \"c\": it was in use at a fork, of which this is the child");
@@ -322,12 +322,12 @@ int main(void)
 	ww_acquire_fini(&z);
 	MUST(!ww_mutex_lock(&b, &y) && ww_mutex_lock(&a, &y) == -EDEADLK);
 	ends(slow_while_it_holds, "ww_mutex_lock_slow: class \"c\": no -EDEADLK of this mutex came before");
-	ends(loop_amid_a_wait, "ww_until_all_locked: the context");
-	ends(unlock_amid_a_wait, "ww_mutex_unlock: its context waits by a poll, or is another one");
+	ends(loop_amid_a_wait, "ww_until_all_locked: class \"own\": the context waits by a poll");
+	ends(unlock_amid_a_wait, "ww_mutex_unlock: class \"own\": its context waits by a poll, or is another one");
 	ends(unlock_all_amid_a_wait, "ww_acquire_unlock_all: class \"own\": the context waits by a poll");
 	ends(fini_amid_a_wait, "ww_acquire_fini: class \"own\": the context waits by a poll");
-	ends(downgrade_amid_a_wait, "ww_shared_mutex_downgrade: the context waits by a poll");
-	ends(end_of_reads_amid_a_wait, "ww_acquire_end_reads: the context waits by a poll");
+	ends(downgrade_amid_a_wait, "ww_shared_mutex_downgrade: class \"own\": the context waits by a poll");
+	ends(end_of_reads_amid_a_wait, "ww_acquire_end_reads: class \"own\": the context waits by a poll");
 	forks();
 	ww_mutex_unlock(&a);
 	ww_mutex_unlock(&b);

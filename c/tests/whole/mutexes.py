@@ -86,7 +86,7 @@ def says_why():
     assert repr(its) == "<ww.Class 'accounts'>" and repr(a).startswith("<unlocked ww.Mutex object of 'accounts' at 0x")
     with its.context() as one:
         one.lock(a)
-        assert "1 mutexes" in repr(one) and repr(a).startswith("<locked ")
+        assert "with 1 mutex>" in repr(one) and repr(a).startswith("<locked ")
         assert why_of(one.lock, a) == f"the context holds this mutex already: {a!r}"
         assert why_of(a.__enter__) == f"this thread holds it already: {a!r}" and why_of(one.downgrade, a) == f"the context doesn't write it: {a!r}"
         assert beside(lambda: why_of(one.lock, a)) == f"it belongs to another thread, and each thread begins its own: {one!r}"
