@@ -57,8 +57,8 @@ struct of_seat {
 	struct entry *spare[SPARES];
 	uint32_t has, spares; /* how many keys the context has, and how many spare entries there are */
 	bool is_in;	      /* a call of the context locks a key, or its poll waits */
-	struct ww_mutex *told;	/* the mutex of the key at which the context got -EDEADLK last, and how often its number had been put back */
-	uint32_t told_at;
+	struct ww_mutex *told;	/* the mutex of the key at which the context got -EDEADLK last, */
+	uint32_t told_at;	/* and how often its number had been put back by then */
 	struct of_seat *other;	/* the next one in its list of owners */
 	uint64_t owner;
 	struct ww_retry retry;	/* the context of an owner that has left; `x` is that of one that hasn't */

@@ -49,8 +49,9 @@ struct ww_table_user {
 /*
  * How a lock call waits, and what the program decides before.  If the key is taken, `meets` is called with each other context that has
  * it, while that part of the table is locked: it calls nothing of the table.  If each call returns true, they keep their locks, but
- * who asks from then on doesn't wait for these: so locks expire.  Who waits already waits on, until its time passes.  Otherwise `waits` is called, with nothing locked.  It may change `until`; if it
- * returns an error, so does the lock call.  Whenever that time has passed, the call looks at the key anew, and asks `waits` again.
+ * who asks from then on doesn't wait for these: so locks expire.  Who waits already waits on, until its time passes.  Otherwise `waits`
+ * is called, with nothing locked.  It may change `until`; if it returns an error, so does the lock call.  Whenever that time has passed,
+ * the call looks at the key anew, and asks `waits` again.
  */
 struct ww_table_how {
 	uint64_t owner;			/* shown to others */

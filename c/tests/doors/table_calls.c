@@ -450,8 +450,8 @@ static void ended_otherwise(void)
 }
 
 /*
- * By Wait-Die. A context that got -EDEADLK doesn't wait for who has another key by now, though the one's mutex, or the other context's slot,
- * is the same; nor does who retries as an owner. And a key doesn't get a mutex that such a context waits for.
+ * By Wait-Die. A context that got -EDEADLK doesn't wait for who has another key by now, though that has the same mutex, or the same slot;
+ * nor does who retries as an owner. And a key doesn't get a mutex that such a context waits for.
  */
 static void not_for_another_key(enum ww_table_mode mode)
 {
