@@ -394,8 +394,10 @@ static int try_key(const struct asked *asked, const struct ww_table_how *how, st
 		r = new_entry(asked, at);
 	if (!r) {
 		u = begin_use(asked, *at, had);
-		r = has_to_release(asked->x, &u->of->lock->mutex_) ? -EDEADLK :
-			lock_entry(asked, u->of, (struct ww_how){ .who = NOBODY }) ? -EBUSY : 0;
+		if (has_to_release(asked->x, &u->of->lock->mutex_))
+			r = -EDEADLK;
+		else if ((r = lock_entry(asked, u->of, (struct ww_how){ .who = NOBODY })) && r != -ENOMEM)
+			r = -EBUSY;
 		if (r == -EBUSY && !had && agree(u->of, how)) {
 			unlist_entry(asked->of, u->of);
 			r = -ESTALE;
@@ -528,13 +530,15 @@ int ww_table_lock(struct ww_table *t, struct ww_acquire_ctx *x, const void *key,
 
 /* ---- unlocks ---- */
 
+/* In a forked child the uses stay, since a thread that isn't there may have a bucket's lock. */
 static void give_up(const struct asked *asked, struct use *u)
 {
 	*(u->later ? &u->later->earlier : &asked->me->newest) = u->earlier;
 	if (u->earlier)
 		u->earlier->later = u->later;
 	release(u, asked->x);
-	(void)settle(asked, u, -EINVAL);
+	if (LIKELY(!asked->of->pool->gone))
+		(void)settle(asked, u, -EINVAL);
 	if (asked->me->has == 1)
 		unlist_keys(asked);
 	note_has(asked->me, asked->me->has - 1);

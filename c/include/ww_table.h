@@ -28,7 +28,8 @@ enum ww_table_wait { WW_TABLE_WAITS, WW_TABLE_TRIES, WW_TABLE_POLLS };
 
 /*
  * Opens a table: at most `keys` keys are locked or waited for at a time, and kept; 0: as many as the class has mutexes.  -ENOMEM;
- * -EINVAL: the class was in use at a fork.  In a child of a fork the table isn't used.
+ * -EINVAL: the class was in use at a fork.  In a child of a fork a context may release its keys, and end; nothing else of the table is
+ * used.
  */
 WW_MUST_CHECK int ww_table_open(struct ww_table **table, struct ww_class *ww_class, uint32_t keys) WW_NONNULL_(1, 2);
 /*

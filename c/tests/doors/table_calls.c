@@ -553,16 +553,29 @@ static void half_of_the_owners(void)
 
 /* ---- what is refused ---- */
 
-/* In a child of a fork that came while the class was in use no table is opened. */
-static void forked(void)
+/*
+ * In a child of a fork that came while the class was in use no table is opened. Contexts release their keys there and end, though the fork
+ * came while a part of the table was locked.
+ */
+static void forks(void *data, const struct ww_table_user *user)
 {
 	struct ww_table *other;
 	int status;
 
-	begins();
-	if (!fork())
-		_exit(ww_table_open(&other, &rows, 0) == -EINVAL ? 7 : 1);
+	(void)data, (void)user;
+	if (!fork()) {
+		alarm(60);
+		ww_table_unlock_to(t, &b, 1);
+		MUST(ww_table_open(&other, &rows, 0) == -EINVAL && !ww_acquire_end(&a) && ww_table_mark(t, &b) == 1 && !ww_acquire_end(&b));
+		_exit(7);
+	}
 	MUST(wait(&status) > 0 && WIFEXITED(status) && WEXITSTATUS(status) == 7);
+}
+
+static void forked(void)
+{
+	begins();
+	MUST(!writes(&a, "1") && !reads(&a, "2") && !writes(&b, "3") && !reads(&b, "2") && ww_table_see(t, "1", 1, forks, NULL) == 1);
 	ends();
 }
 
@@ -669,6 +682,10 @@ static void memory(void)
 		refuses = -1;
 		MUST(refused >= 2 && ww_table_mark(t, &a) == n + 1); /* a use, and an entry */
 	}
+	MUST(!writes(&b, "8") && !unlock(&b, "8")); /* so all that a try to read lacks is the slot */
+	refuses = 0;
+	MUST(reads(&b, "8") == -ENOMEM && !ww_table_see(t, "8", 1, sees, NULL));
+	refuses = -1;
 	ends();
 	MUST(!ww_table_close(t));
 }
