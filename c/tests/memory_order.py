@@ -315,7 +315,7 @@ TABLE = {
         "lock_by_any": "fetch_add sc, fetch_sub sc", "put_number": "load sc, fetch_and sc", "ww_is_gone": "load sc",
         "wait_first": "fetch_add sc, fetch_sub sc", # as who waits: see ww_is_gone
         "count_at_contended": "fetch_add sc", "stop_counting": "fetch_sub sc", # likewise
-        "await_told_key": "fetch_add sc, fetch_sub sc", "retire": "fetch_or sc", "is_awaited": "load sc", # likewise, of a key
+        "await_told_key": "fetch_add sc, fetch_sub sc", "ww_await_contended": "fetch_add sc, fetch_sub sc", "retire": "fetch_or sc", "is_awaited": "load sc", # likewise, of a key
         "ww_number_take": "store rlx, fetch_add rel",
         "is_slot": "load rlx", # which it always is
         "is_of_number": "load rlx", # likewise
