@@ -59,6 +59,7 @@
  *	root uses ways is_dead	table		who has the lock of the bucket					table-tree
  *	joined other		table		who has the lock of the owners					table-owners
  *	entries			table		who makes or frees an entry					table-full
+ *	has is_in		table		the user of the seat; who closes the table reads them		table_any
  *	first_			event		who wakes a task, and the loop that takes them			poll_wakers
  *	last_thread		copy		each thread, once						contexts
  *	last_ticket		copy		each that suspends a context					retry

@@ -294,14 +294,16 @@ static void put_reads(struct ww_out *to, const struct seen *c, uint32_t number)
 	use = use_of(c, slot.seat);
 	put(to, "\n");
 	put_user(to, &use, slot.seat);
-	for (uint32_t n = 0; n < c->locks; n++) {
+	for (uint32_t n = 0; n < c->locks; n += MARKS_IN_A_WORD) {
 		uint64_t marks;
 
-		if (!SEES(marks, at->marks[n / MARKS_IN_A_WORD]) || !(marks & mark_of(n)))
+		if (!SEES(marks, at->marks[n / MARKS_IN_A_WORD]))
 			continue;
-		put(to, before);
-		put_mutex(to, c, n);
-		before = ", ";
+		for (; marks; marks &= marks - 1) {
+			put(to, before);
+			put_mutex(to, c, n + (uint32_t)__builtin_ctzll(marks));
+			before = ", ";
+		}
 	}
 	put_count(to, "; for that it holds mutex ", number);
 }

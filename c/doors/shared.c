@@ -614,19 +614,30 @@ void ww_acquire_end_reads(struct ww_acquire_ctx *x)
 
 /* ---- after -EDEADLK ---- */
 
-/* Waits for the mutex at which the context got -EDEADLK, and releases it at once. */
+/*
+ * Waits for the mutex at which the context got -EDEADLK, and releases it at once. If the mutex's number was put back since, there is
+ * nothing to wait for. As in wait_first (loop.c), the context counts as a waiter before it asks that.
+ */
 int ww_await_contended(struct ww_acquire_ctx *x, struct ww_how how)
 {
 	struct ww_mutex *m = x && x->own && x->state & IS_TOLD ? x->contending_lock : NULL;
-	int r;
+	bool asks = m && is_of_number(m) && !is_polled(x), counts = asks && !ww_is_gone(x->own->pool, m, x->puts), gone;
+	int r = 0;
 
 	how.visits = true;
-	if (how.who == THREAD)
+	if (counts)
+		__atomic_fetch_add(&m->waiters, 1, __ATOMIC_SEQ_CST);
+	gone = asks && ww_is_gone(x->own->pool, m, x->puts);
+	if (gone)
+		NOTE(LOCK_ENDS, .mutex = m, .context = x, .r = -EINTR); /* the debug library expects no wait any more */
+	else if (how.who == THREAD)
 		r = ww_lock_slowly(m, x, &how);
 	else if (!(r = ww_may_poll("ww_shared_mutex_await_poll", m, x, TO_AWAIT, how.poller)))
 		r = ww_poll_on(m, x, how);
-	if (!r)
+	if (!r && !gone)
 		(void)unlock_by(m, x->own);
+	if (counts)
+		__atomic_fetch_sub(&m->waiters, 1, __ATOMIC_SEQ_CST);
 	return r;
 }
 

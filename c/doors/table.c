@@ -47,7 +47,7 @@ struct entry {
 	struct use *uses;
 	struct ww_shared_mutex *lock;
 	size_t length, room;
-	bool is_dead;
+	bool is_dead, is_told; /* a context got -EDEADLK at it, and may come back to wait for its mutex */
 	uint8_t key[];
 };
 
@@ -55,7 +55,10 @@ struct of_seat {
 	struct ww_keys keys; /* comes first: see release_all_keys */
 	struct use *newest, *polled, *spare_uses; /* the uses by which the seat's context has keys, and by which its poll waits */
 	struct entry *spare[SPARES];
-	uint32_t count, spares; /* how many keys the context has, and how many spare entries there are */
+	uint32_t has, spares; /* how many keys the context has, and how many spare entries there are */
+	bool is_in;	      /* a call of the context locks a key, or its poll waits */
+	struct ww_mutex *told;	/* the mutex of the key at which the context got -EDEADLK last, */
+	uint32_t told_at;	/* and how often its number had been put back by then */
 	struct of_seat *other;	/* the next one in its list of owners */
 	uint64_t owner;
 	struct ww_retry retry;	/* the context of an owner that has left; `x` is that of one that hasn't */
@@ -173,6 +176,20 @@ static void free_entry(struct ww_table *t, struct entry *e)
 	__atomic_fetch_sub(&t->entries, 1, __ATOMIC_RELAXED);
 }
 
+/*
+ * The number is that of another key from now on. A context that got -EDEADLK at this one either counted itself as a waiter before this
+ * exchange, so that is_awaited finds it; or else it finds that the number was put back, and waits for neither (await_refused).
+ */
+COLD static void retire(struct ww_table *t, struct ww_mutex *m)
+{
+	count_put(&t->pool->numbers, m->number);
+	__atomic_fetch_or(&m->waiters, 0, __ATOMIC_SEQ_CST);
+}
+static bool is_awaited(const struct ww_mutex *m)
+{
+	return __atomic_load_n(&m->waiters, __ATOMIC_SEQ_CST) != (IS_TAKEN | IS_OF_NUMBER);
+}
+
 /* Puts a spare entry or a new one for the key at this place of the tree. The bucket is locked. */
 static int new_entry(const struct asked *asked, struct entry **at)
 {
@@ -182,7 +199,7 @@ static int new_entry(const struct asked *asked, struct entry **at)
 	struct entry *e = me->spares ? me->spare[me->spares - 1] : NULL;
 	uint32_t number;
 
-	if (e && e->room >= length) {
+	if (e && e->room >= length && LIKELY(!is_awaited(&e->lock->mutex_))) {
 		me->spares--;
 	} else {
 		int r = __atomic_fetch_add(&t->entries, 1, __ATOMIC_RELAXED) >= t->limit ? -ENOSPC : 0;
@@ -242,6 +259,8 @@ static void end_use(struct ww_table *t, struct of_seat *me, struct use *u)
 		return;
 	if (!e->is_dead)
 		unlist_entry(t, e);
+	if (e->is_told)
+		retire(t, &e->lock->mutex_);
 	if (me->spares < t->spares)
 		me->spare[me->spares++] = e;
 	else
@@ -268,6 +287,10 @@ static void list_keys(const struct asked *asked)
 	asked->x->state |= HAD_KEYS;
 }
 
+/* A thread that closes the table sees by these stores that the call accesses nothing of the table any more. */
+static void note_has(struct of_seat *me, uint32_t has) { __atomic_store_n(&me->has, has, __ATOMIC_RELEASE); }
+static void note_in(struct of_seat *me, bool is) { __atomic_store_n(&me->is_in, is, __ATOMIC_RELEASE); }
+
 static void unlist_keys(const struct asked *asked)
 {
 	struct ww_keys **link = &asked->x->own->keys;
@@ -289,8 +312,9 @@ static inline int end_attempt(const struct asked *asked, struct use *u, int r)
 		if (u->earlier)
 			u->earlier->later = u;
 		asked->me->newest = u;
-		if (!asked->me->count++)
+		if (!asked->me->has)
 			list_keys(asked);
+		note_has(asked->me, asked->me->has + 1);
 		return 0;
 	}
 	if (!r && u->raises) {
@@ -308,6 +332,11 @@ static int settle(const struct asked *asked, struct use *u, int r)
 {
 	struct bucket *b = lock_bucket(asked->of, u->of->hash);
 
+	if (UNLIKELY(r == -EDEADLK)) {
+		u->of->is_told = true;
+		asked->me->told = &u->of->lock->mutex_;
+		asked->me->told_at = puts_of(&asked->of->pool->numbers, asked->me->told->number);
+	}
 	r = end_attempt(asked, u, r);
 	pthread_mutex_unlock(&b->lock);
 	return r;
@@ -365,8 +394,10 @@ static int try_key(const struct asked *asked, const struct ww_table_how *how, st
 		r = new_entry(asked, at);
 	if (!r) {
 		u = begin_use(asked, *at, had);
-		r = has_to_release(asked->x, &u->of->lock->mutex_) ? -EDEADLK :
-			lock_entry(asked, u->of, (struct ww_how){ .who = NOBODY }) ? -EBUSY : 0;
+		if (has_to_release(asked->x, &u->of->lock->mutex_))
+			r = -EDEADLK;
+		else if ((r = lock_entry(asked, u->of, (struct ww_how){ .who = NOBODY })) && r != -ENOMEM)
+			r = -EBUSY;
 		if (r == -EBUSY && !had && agree(u->of, how)) {
 			unlist_entry(asked->of, u->of);
 			r = -ESTALE;
@@ -391,6 +422,7 @@ static void end_polled(struct ww_poller *it, ww_seat *s)
 	if (asked.me->polled)
 		(void)settle(&asked, asked.me->polled, -EINTR);
 	asked.me->polled = NULL;
+	note_in(asked.me, false);
 }
 
 /* How a lock call waits, unless it tries. A poll goes on, and ends, by the table alone: see end_polled. */
@@ -402,19 +434,45 @@ static struct ww_how way_of(const struct asked *asked, const struct ww_table_how
 				.waker = how->waker, .poller = &asked->of->poller };
 }
 
+/* The mutex of the key at which the context got its last -EDEADLK, or NULL if it wasn't one of this table; and whether nobody has it. */
+static struct ww_mutex *told_last(const struct of_seat *me, const ww_seat *s)
+{
+	return me->told && __atomic_load_n(&s->met.target, __ATOMIC_RELAXED) == me->told->number + 1 ? me->told : NULL;
+}
+static bool key_has_ended(const struct of_seat *me, const ww_seat *s)
+{
+	return told_last(me, s) && ww_is_gone(s->pool, me->told, me->told_at);
+}
+
 /*
- * Waits first for the mutex at which the context got -EDEADLK, if it has to. If the context gives up that wait, it may lock anything.
+ * Waits first for the mutex at which the context got -EDEADLK, but not if that is another key's by now, or a slot by which other keys are
+ * read. If the context gives up that wait, it may lock anything. It counts as a waiter of the key while it asks: see retire.
  */
-static int await_refused(const struct asked *asked, const struct ww_table_how *how)
+COLD static int await_told_key(const struct asked *asked, const struct ww_table_how *how)
 {
 	struct ww_acquire_ctx *x = asked->x;
-	int r = x->state & IS_TOLD && !x->acquired ? ww_await_contended(x, way_of(asked, how)) : -EALREADY;
+	bool ended = !is_polled(x) && key_has_ended(asked->me, x->own);
+	struct ww_mutex *m = is_polled(x) || ended ? NULL : told_last(asked->me, x->own);
+	int r = 0;
 
+	if (m)
+		__atomic_fetch_add(&m->waiters, 1, __ATOMIC_SEQ_CST);
+	ended |= m && key_has_ended(asked->me, x->own);
+	if (!ended)
+		r = ww_await_contended(x, way_of(asked, how));
+	else
+		NOTE(LOCK_ENDS, .mutex = x->contending_lock, .context = x, .r = -EINTR); /* the debug library expects no wait any more */
+	if (m)
+		__atomic_fetch_sub(&m->waiters, 1, __ATOMIC_SEQ_CST);
 	if (r == -EINPROGRESS || r == -EINTR)
 		return r;
-	if (r != -EALREADY)
-		x->state &= ~(unsigned)IS_TOLD;
+	x->state &= ~(unsigned)IS_TOLD;
 	return 0;
+}
+
+static inline int await_refused(const struct asked *asked, const struct ww_table_how *how)
+{
+	return UNLIKELY(asked->x->state & IS_TOLD) && !asked->x->acquired ? await_told_key(asked, how) : 0;
 }
 
 /*
@@ -456,6 +514,7 @@ int ww_table_lock(struct ww_table *t, struct ww_acquire_ctx *x, const void *key,
 	if (is_polled(x) && (h.by != WW_TABLE_POLLS || x->own->poller != &t->poller ||
 			     (u && (!is_of(u->of, &asked) || u->shown.mode != mode))))
 		return -EBUSY;
+	note_in(asked.me, true);
 	do {
 		r = u || h.by == WW_TABLE_TRIES ? 0 : await_refused(&asked, &h);
 		if (!r && !u)
@@ -464,20 +523,25 @@ int ww_table_lock(struct ww_table *t, struct ww_acquire_ctx *x, const void *key,
 			r = wait_for(&asked, u, &h);
 		u = NULL;
 	} while (r == -ESTALE);
+	if (r != -EINPROGRESS)
+		note_in(asked.me, false);
 	return r;
 }
 
 /* ---- unlocks ---- */
 
+/* In a forked child the uses stay, since a thread that isn't there may have a bucket's lock. */
 static void give_up(const struct asked *asked, struct use *u)
 {
 	*(u->later ? &u->later->earlier : &asked->me->newest) = u->earlier;
 	if (u->earlier)
 		u->earlier->later = u->later;
-	if (!--asked->me->count)
-		unlist_keys(asked);
 	release(u, asked->x);
-	(void)settle(asked, u, -EINVAL);
+	if (LIKELY(!asked->of->pool->gone))
+		(void)settle(asked, u, -EINVAL);
+	if (asked->me->has == 1)
+		unlist_keys(asked);
+	note_has(asked->me, asked->me->has - 1);
 }
 
 /* The context's use of the key is of the entry in the tree, or else of an entry that was disowned. */
@@ -504,7 +568,9 @@ int ww_table_unlock(struct ww_table *t, struct ww_acquire_ctx *x, const void *ke
 
 size_t ww_table_mark(struct ww_table *t, const struct ww_acquire_ctx *x)
 {
-	return NEEDED(x)->own && x->own->pool == NEEDED(t)->pool ? t->seats[place_among(x->own) - 1].count : 0;
+	const struct of_seat *me = NEEDED(x)->own && x->own->pool == NEEDED(t)->pool ? &t->seats[place_among(x->own) - 1] : NULL;
+
+	return me ? me->has : 0;
 }
 
 void ww_table_unlock_to(struct ww_table *t, struct ww_acquire_ctx *x, size_t mark)
@@ -513,7 +579,7 @@ void ww_table_unlock_to(struct ww_table *t, struct ww_acquire_ctx *x, size_t mar
 
 	if (is_polled(NEEDED(x)) || ask(&asked, "ww_table_unlock_to", t, x, NULL, 0))
 		return;
-	while (asked.me->count > mark)
+	for (size_t left = asked.me->has; left > mark; left--)
 		give_up(&asked, asked.me->newest);
 }
 
@@ -605,6 +671,8 @@ int ww_table_join(struct ww_table *t, uint64_t owner, uint64_t former, const str
 		NOTE(CONTEXT_RESUMED, .context = &seat->x); /* the context lies there from now on */
 		add_owner(t, owner, seat);
 	} else if (seat->retry.ticket_) {
+		if (key_has_ended(seat, &t->pool->seats[seat->retry.seat_]))
+			ww_retry_at_once(&seat->retry);
 		r = ww_acquire_resume(&seat->x, t->pool->class_, &seat->retry, until);
 		if (r == -ETIMEDOUT) {
 			ww_retry_at_once(&seat->retry);
@@ -665,10 +733,13 @@ int ww_table_open(struct ww_table **made, struct ww_class *c, uint32_t keys)
 
 int ww_table_close(struct ww_table *t)
 {
-	for (uint32_t k = 0; k < seats_of(NEEDED(t)->pool); k++)
-		if (t->seats[k].count || t->seats[k].polled)
+	struct of_seat *me, *last = NEEDED(t)->seats + seats_of(t->pool) - 1;
+
+	for (me = t->seats; me <= last; me++)
+		if (__atomic_load_n(&me->is_in, __ATOMIC_ACQUIRE) || __atomic_load_n(&me->has, __ATOMIC_ACQUIRE) ||
+		    me->x.acquired || is_polled(&me->x))
 			return -EBUSY;
-	for (struct of_seat *me = t->seats; me < &t->seats[seats_of(t->pool)]; me++) {
+	for (me = t->seats; me <= last; me++) {
 		(void)ww_retry_drop(&me->retry);
 		(void)!ww_acquire_fini_checked(&me->x);
 		while (me->spares)

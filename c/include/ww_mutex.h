@@ -347,8 +347,8 @@ void ww_class_stats(struct ww_class *ww_class, struct ww_class_counts *counts) W
  * Writes to the file descriptor what of the class is in use, or of all open classes if it is NULL: a line for each thread that has a
  * context, or locks without one, with what it waits for, since when, and who holds that; and a line for each mutex that is held.  Threads
  * have their numbers in the system (gettid); what is over by then may be there, too.  It takes no lock and allocates nothing, and may be
- * called in a signal handler.  It takes some 2 ms in a class of 65,536 mutexes, and longer in a larger one.  The debug library adds lines
- * of the program, and names of mutexes.
+ * called in a signal handler.  It takes some 2 ms in a class of 65,536 mutexes, and half a millisecond more for each context that reads;
+ * and longer in a larger class.  The debug library adds lines of the program, and names of mutexes.
  *
  * A program that is linked with libww.so or the debug library needn't call it: if the environment has WW_PRINT=SIGUSR2, or another
  * signal's number, that signal writes all classes to standard error.  One that is linked with libww.a has this by

@@ -28,10 +28,14 @@ enum ww_table_wait { WW_TABLE_WAITS, WW_TABLE_TRIES, WW_TABLE_POLLS };
 
 /*
  * Opens a table: at most `keys` keys are locked or waited for at a time, and kept; 0: as many as the class has mutexes.  -ENOMEM;
- * -EINVAL: the class was in use at a fork.  In a child of a fork the table isn't used.
+ * -EINVAL: the class was in use at a fork.  In a child of a fork a context may release its keys, and end; nothing else of the table is
+ * used.
  */
 WW_MUST_CHECK int ww_table_open(struct ww_table **table, struct ww_class *ww_class, uint32_t keys) WW_NONNULL_(1, 2);
-/* Closes the table, and ends the contexts of all owners.  -EBUSY: a key is locked or waited for, and nothing has changed. */
+/*
+ * Closes the table, and ends the contexts of all owners.  -EBUSY: a key is locked or waited for, or an owner's context holds something
+ * else or waits by a poll, and nothing has changed.
+ */
 int ww_table_close(struct ww_table *table) WW_NONNULL_(1);
 
 /* A user of a key, which has it or waits for it; the key's memory is the table's. */
@@ -46,8 +50,9 @@ struct ww_table_user {
 /*
  * How a lock call waits, and what the program decides before.  If the key is taken, `meets` is called with each other context that has
  * it, while that part of the table is locked: it calls nothing of the table.  If each call returns true, they keep their locks, but
- * nobody waits for these any more: so locks expire.  Otherwise `waits` is called, with nothing locked.  It may change `until`; if it
- * returns an error, so does the lock call.  Whenever that time has passed, the call looks at the key anew, and asks `waits` again.
+ * who asks from then on doesn't wait for these: so locks expire.  Who waits already waits on, until its time passes.  Otherwise `waits`
+ * is called, with nothing locked.  It may change `until`; if it returns an error, so does the lock call.  Whenever that time has passed,
+ * the call looks at the key anew, and asks `waits` again.
  */
 struct ww_table_how {
 	uint64_t owner;			/* shown to others */

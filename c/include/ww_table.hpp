@@ -194,8 +194,8 @@ public:
 		return lock_by(key, m, how WW_AND_THERE_);
 	}
 	// As lock, for locks that expire. If the key is taken, has_expired(const table_user &) is called with each other one that has it,
-	// while part of the table is locked: it uses no table, and throws nothing. If all have expired, they keep their locks, but nobody
-	// waits for these any more.
+	// while part of the table is locked: it uses no table, and throws nothing. If all have expired, they keep their locks, but who
+	// asks from then on doesn't wait for these.
 	template <class HasExpired>
 	table_result lock_from_expired(key_bytes key, table_mode m, limits how, HasExpired &&has_expired WW_AND_FROM_) noexcept
 	{

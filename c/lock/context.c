@@ -201,7 +201,7 @@ void ww_acquire_here(struct ww_acquire_ctx *x) { note_used(NEEDED(x)); }
 /* A list of locks that fails (list.c) releases no keys, since the context keeps what it held before that list. */
 COLD void ww_release_keys(struct ww_acquire_ctx *x)
 {
-	if (is_loop(x) || is_polled(x) || x->own->pool->gone)
+	if (is_loop(x) || is_polled(x))
 		return;
 	while (x->own->keys) /* each call takes its table out of this list */
 		x->own->keys->release(x->own->keys, x);

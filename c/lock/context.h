@@ -144,10 +144,7 @@ static inline void no_more(struct ww_acquire_ctx *x)
 	__atomic_store_n(&x->own, NULL, __ATOMIC_RELAXED);
 }
 
-/*
- * Releases the keys of tables that the context has, unless it is in a loop or a list of locks, waits by a poll, or is one from before a
- * fork.
- */
+/* Releases the keys of tables that the context has, unless it is in a loop or a list of locks, or waits by a poll. */
 WW_HIDDEN void ww_release_keys(struct ww_acquire_ctx *x);
 /* If r is 0, begins the context by the seat, and returns 0 or an error. Otherwise leaves a context that has ended, and returns r. */
 WW_HIDDEN int ww_begin_by(struct ww_acquire_ctx *x, ww_seat *s, int r);

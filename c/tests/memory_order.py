@@ -315,6 +315,7 @@ TABLE = {
         "lock_by_any": "fetch_add sc, fetch_sub sc", "put_number": "load sc, fetch_and sc", "ww_is_gone": "load sc",
         "wait_first": "fetch_add sc, fetch_sub sc", # as who waits: see ww_is_gone
         "count_at_contended": "fetch_add sc", "stop_counting": "fetch_sub sc", # likewise
+        "await_told_key": "fetch_add sc, fetch_sub sc", "ww_await_contended": "fetch_add sc, fetch_sub sc", "retire": "fetch_or sc", "is_awaited": "load sc", # likewise, of a key
         "ww_number_take": "store rlx, fetch_add rel",
         "is_slot": "load rlx", # which it always is
         "is_of_number": "load rlx", # likewise
@@ -389,7 +390,7 @@ TABLE = {
         "begin_wait": "store rel", "end_wait": "store rlx", "is_in_cycle": "load rlx", "awaited_by": "load acq",
     },
     # Hints for who asks who is in the way, and looks behind a label whether that which led to it is still so.
-    "target": {"note_meeting": "store rlx", "note_asked": "store rlx", "asked_by": "load rlx"},
+    "target": {"note_meeting": "store rlx", "note_asked": "store rlx", "asked_by": "load rlx", "told_last": "load rlx"},
     "label": {"forget_age": "store rlx", "ww_acquire_label": "store rlx", "user_by": "load acq"},
     # Counts for limiters.
     "given": {"return_otherwise": "store rlx", "contexts_ended": "load rlx"},
@@ -442,6 +443,9 @@ TABLE = {
     "reports_data": {"ww_report_to": "store rlx", "ww_report_message": "load rlx"},
     "counted": {"count": "store rlx, load rlx"},
     # How many there are, against a limit.
+    # Who closes a table sees that a call is through with it.
+    "has": {"note_has": "store rel", "ww_table_close": "load acq"},
+    "is_in": {"note_in": "store rel", "ww_table_close": "load acq"},
     "entries": {"new_entry": "fetch_add rlx, fetch_sub rlx", "free_entry": "fetch_sub rlx"},
 }
 
@@ -582,12 +586,13 @@ PLAIN = {
     "of->is_dead": "buckets: ",
     "shown->waits": "buckets: ",
     "shown->mode": "buckets: release ww_table_lock",
+    "me->has": "by: ",
     "b->joined": "owners: ",
     "s->other": "owners: ",
 }
 # What a thread has for itself, or its caller locks, under names of fields that others share; and names under which others stand for the same.
 OWN = ["h", "limiter", "permit", "had", "wait", "waker", "front", "f", "ww_mine", "kept", "counts", "s->seat", "s->id", "last", "how", "asked->user"]
-SAME = {"lock": "m", "owed": "m", "older": "m", "ctx": "x", "victim": "s", "by": "s", "own": "s", "seat": "s", "seats": "s"}
+SAME = {"lock": "m", "owed": "m", "older": "m", "ctx": "x", "victim": "s", "by": "s", "own": "s", "seat": "s", "seats": "s", "told": "m"}
 
 
 def arguments(text):

@@ -29,6 +29,7 @@ WRAPS_memory = mmap munmap madvise
 WRAPS_naps = ww_go_on_
 WRAPS_permits = clock_gettime pthread_mutex_lock syscall
 WRAPS_poll_calls = clock_gettime
+WRAPS_print = process_vm_readv
 WRAPS_processors = sched_getaffinity
 WRAPS_queue = pthread_mutex_lock
 WRAPS_refuse_class = aligned_alloc calloc free mmap munmap pthread_key_create pthread_key_delete pthread_atfork

@@ -333,8 +333,8 @@ impl<C: Class> Transaction<C> {
     }
 
     /// As [`lock_until`](Self::lock_until), for locks that expire. If the key is taken, the function is called with the owner of each
-    /// other transaction that has it, and its mode. If all have expired, they keep their locks, but nobody waits for these any more. Once
-    /// the time has passed, the caller may ask again.
+    /// other transaction that has it, and its mode. If all have expired, they keep their locks, but who asks from then on doesn't wait for
+    /// these. Once the time has passed, the caller may ask again.
     ///
     /// ```
     /// # use std::time::Instant;

@@ -159,8 +159,36 @@ static void looks_in_vain(void)
 	MUST((process_vm_readv(getpid(), &none, 1, &none, 1, 0) < 0 && errno == ENOSYS) || !SEES(word, *at));
 }
 
+static unsigned long looks;
+ssize_t __real_process_vm_readv(pid_t process, const struct iovec *to, unsigned long count, const struct iovec *from, unsigned long counts,
+				unsigned long flags);
+ssize_t __wrap_process_vm_readv(pid_t process, const struct iovec *to, unsigned long count, const struct iovec *from, unsigned long counts,
+				unsigned long flags)
+{
+	__atomic_fetch_add(&looks, 1, __ATOMIC_RELAXED);
+	return __real_process_vm_readv(process, to, count, from, counts, flags);
+}
+
 enum { SIGNALS = 60 };
 static int nowhere;
+
+/* Each look takes a system call. What a context reads takes one for each 64 of the class's mutexes, and no more than 200 besides. */
+static void looks_seldom(void)
+{
+	unsigned long before = looks, alone;
+	struct ww_acquire_ctx x;
+
+	ww_class_print(&c, nowhere);
+	alone = looks - before;
+	ww_acquire_init(&x, &c);
+	MUST(!ww_shared_mutex_lock_shared(&s, &x));
+	before = looks;
+	ww_class_print(&c, nowhere);
+	MUST(looks - before - alone < 68000 / 64 + 200);
+	ww_acquire_end_reads(&x);
+	ww_acquire_fini(&x);
+}
+
 static unsigned long signals;
 static const struct itimerval soon = { .it_value = { 0, 2000 } };
 static void at_signal(int number)
@@ -205,8 +233,7 @@ static void prints_at_any_time(void)
 {
 	pthread_t opens = begin_thread(opens_and_frees, NULL), threads[4];
 
-	nowhere = open("/dev/null", O_WRONLY);
-	MUST(nowhere >= 0 && !sigaction(SIGALRM, &(struct sigaction){ .sa_handler = at_signal, .sa_flags = SA_RESTART }, NULL) &&
+	MUST(!sigaction(SIGALRM, &(struct sigaction){ .sa_handler = at_signal, .sa_flags = SA_RESTART }, NULL) &&
 	     !setitimer(ITIMER_REAL, &soon, NULL));
 	while (__atomic_load_n(&signals, __ATOMIC_RELAXED) < SIGNALS) {
 		for (unsigned k = 0; k < 4; k++)
@@ -216,7 +243,6 @@ static void prints_at_any_time(void)
 	}
 	__atomic_store_n(&is_over, true, __ATOMIC_RELAXED);
 	end_thread(opens);
-	close(nowhere);
 }
 
 /* ---- by the environment ---- */
@@ -268,6 +294,8 @@ int main(int count, char **words)
 	shows_as_it_is();
 	shows_few();
 	looks_in_vain();
+	MUST((nowhere = open("/dev/null", O_WRONLY)) >= 0);
+	looks_seldom();
 	prints_at_any_time();
 	MUST(!ww_mutex_destroy(&a) && !ww_mutex_destroy(&b) && !ww_shared_mutex_destroy(&s) && !ww_class_free(&c));
 	puts("print: who holds and who waits is shown, at any time");

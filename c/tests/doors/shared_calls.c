@@ -509,6 +509,26 @@ static void nobody_waits_first_for_a_stranger(bool is_held)
 	end_both();
 }
 
+/* By hand the same, by a wait and by a poll. */
+static void nobody_awaits_a_stranger(bool polls)
+{
+	const struct timespec past = { 0, 0 };
+	uint32_t number, again;
+
+	MUST(!ww_number_take(&number, c));
+	begin_both();
+	MUST(!ww_number_lock(number, &x) && !ww_mutex_lock(&plain, &y) && ww_number_lock(number, &y) == -EDEADLK);
+	ww_mutex_unlock(&plain);
+	MUST(!ww_number_unlock(number, &x) && !ww_number_put(number, c));
+	while (!ww_number_take(&again, c) && again != number)
+		MUST(!ww_number_put(again, c));
+	MUST(!ww_number_lock(number, &x));
+	MUST(!(polls ? ww_shared_mutex_await_poll(&y, NULL) : ww_shared_mutex_await(&y, &past)) && !y.acquired && !ww_mutex_lock(&plain, &y));
+	ww_mutex_unlock(&plain);
+	MUST(!ww_number_unlock(number, &x) && !ww_number_put(number, c));
+	end_both();
+}
+
 /* ---- whose a read is ---- */
 
 /* One that was never locked has no number yet, and one of another class may have the same. */
@@ -1366,6 +1386,8 @@ static void of(struct ww_class *class)
 		nobody_waits_first_for_what_is_gone();
 		nobody_waits_first_for_a_stranger(true);
 		nobody_waits_first_for_a_stranger(false);
+		nobody_awaits_a_stranger(false);
+		nobody_awaits_a_stranger(true);
 	}
 	reads_are_listed();
 	a_downgrade_keeps_its_place(false);

@@ -303,6 +303,39 @@ static void try_all(struct ww_class *of)
 	MUST(told && late && moved && stolen && polled);
 }
 
+static void *waits_once(void *arg)
+{
+	struct ww_acquire_ctx x;
+
+	ww_acquire_init(&x, c);
+	MUST(!ww_table_lock(t, &x, "k", 1, (size_t)arg % 2 ? WW_TABLE_SHARED : WW_TABLE_EXCLUSIVE, NULL));
+	ww_table_unlock_to(t, &x, 0);
+	ww_acquire_fini(&x);
+	return NULL;
+}
+
+/* A table whose key threads wait for, have and release is closed once the last one is through with it, and not before. */
+static void closes_behind_the_last(void)
+{
+	struct ww_acquire_ctx x;
+	pthread_t threads[3];
+	size_t seen;
+
+	MUST(!ww_table_open(&t, c, 0));
+	ww_acquire_init(&x, c);
+	MUST(!ww_table_lock(t, &x, "k", 1, WW_TABLE_EXCLUSIVE, NULL));
+	for (size_t k = 0; k < 3; k++)
+		threads[k] = begin_thread(waits_once, (void *)k);
+	while (ww_table_see(t, "k", 1, sees, (seen = 0, &seen)) < 4)
+		sched_yield();
+	ww_table_unlock_to(t, &x, 0);
+	while (ww_table_close(t))
+		;
+	for (size_t k = 0; k < 3; k++)
+		end_thread(threads[k]);
+	ww_acquire_fini(&x);
+}
+
 int main(int count, char **words)
 {
 	if (count > 1)
@@ -310,6 +343,8 @@ int main(int count, char **words)
 	try_all(&wound_wait);
 	try_all(&wait_die);
 	try_all(&few);
+	for (unsigned long k = 0; k < times / 50; k++)
+		closes_behind_the_last();
 	puts("table_any: who has a key has it alone, or shares it");
 	return 0;
 }

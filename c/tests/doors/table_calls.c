@@ -449,6 +449,53 @@ static void ended_otherwise(void)
 	MUST(!ww_table_close(t) && !ww_table_open(&t, &rows, 0));
 }
 
+/*
+ * By Wait-Die. A context that got -EDEADLK doesn't wait for who has another key by now, though that has the same mutex, or the same slot;
+ * nor does who retries as an owner. And a key doesn't get a mutex that such a context waits for.
+ */
+static void not_for_another_key(enum ww_table_mode mode)
+{
+	const struct timespec late = in_ms(9000);
+	unsigned woken = 0;
+	struct ww_waker waker = { wakes, NULL, &woken };
+	const struct ww_table_how poll = { .by = WW_TABLE_POLLS, .waker = &waker };
+	struct ww_acquire_ctx *x;
+	struct timespec now;
+
+	begins();
+	MUST(!lock(&a, "1", mode, &try_it) && !writes(&b, "2") && lock(&b, "1", WW_TABLE_EXCLUSIVE, NULL) == -EDEADLK && !unlock(&b, "2"));
+	MUST(!unlock(&a, "1") && !lock(&a, "3", mode, &try_it) && !lock(&b, "1", WW_TABLE_EXCLUSIVE, &poll) && !unlock(&b, "1"));
+	MUST(!writes(&b, "2") && lock(&b, "3", WW_TABLE_EXCLUSIVE, NULL) == -EDEADLK && !unlock(&b, "2"));
+	MUST(lock(&b, "3", WW_TABLE_EXCLUSIVE, &poll) == -EINPROGRESS && !unlock(&a, "3") && woken == 1 && !writes(&a, "4"));
+	MUST(!lock(&b, "3", WW_TABLE_EXCLUSIVE, &poll) && !unlock(&a, "4") && !lock(&a, "5", mode, &try_it));
+	MUST(!ww_table_join(t, 1, 1, NULL, &x) && !writes(x, "2") && lock(x, "5", WW_TABLE_EXCLUSIVE, NULL) == -EDEADLK);
+	MUST(!ww_table_leave(t, 1, true) && !unlock(&a, "5") && !lock(&a, "6", mode, &try_it) && !ww_table_join(t, 2, 1, &late, &x));
+	MUST(!clock_gettime(CLOCK_MONOTONIC, &now) && now.tv_sec < late.tv_sec - 4 && !ww_table_leave(t, 2, false));
+	ends();
+}
+
+/* A table stays while a poll waits for what was contended, though nobody has a key; and while an owner's context can't end. */
+static void closes_later(void)
+{
+	unsigned woken = 0;
+	struct ww_waker waker = { wakes, NULL, &woken };
+	const struct ww_table_how poll = { .by = WW_TABLE_POLLS, .waker = &waker };
+	struct ww_acquire_ctx *x;
+	struct ww_mutex besides;
+
+	ww_mutex_init(&besides, &rows);
+	begins();
+	MUST(!writes(&a, "1") && !writes(&b, "2") && lock(&b, "1", WW_TABLE_EXCLUSIVE, NULL) == -EDEADLK && !unlock(&b, "2"));
+	MUST(lock(&b, "1", WW_TABLE_EXCLUSIVE, &poll) == -EINPROGRESS && !unlock(&a, "1") && woken == 1 && ww_table_close(t) == -EBUSY);
+	MUST(!ww_acquire_end_wait(&b) && !ww_table_join(t, 1, 1, NULL, &x) && !ww_mutex_lock(&besides, x) && ww_table_close(t) == -EBUSY);
+	ww_mutex_unlock(&besides);
+	MUST(!ww_mutex_lock(&besides, &a) && ww_mutex_lock_poll(&besides, x, &waker) == -EINPROGRESS && ww_table_close(t) == -EBUSY);
+	MUST(!ww_acquire_end_wait(x) && !ww_table_close(t) && !ww_table_open(&t, &rows, 0));
+	ww_mutex_unlock(&besides);
+	ends();
+	MUST(!ww_mutex_destroy(&besides));
+}
+
 /* ---- owners ---- */
 
 static void owners(void)
@@ -506,16 +553,29 @@ static void half_of_the_owners(void)
 
 /* ---- what is refused ---- */
 
-/* In a child of a fork that came while the class was in use no table is opened. */
-static void forked(void)
+/*
+ * In a child of a fork that came while the class was in use no table is opened. Contexts release their keys there and end, though the fork
+ * came while a part of the table was locked.
+ */
+static void forks(void *data, const struct ww_table_user *user)
 {
 	struct ww_table *other;
 	int status;
 
-	begins();
-	if (!fork())
-		_exit(ww_table_open(&other, &rows, 0) == -EINVAL ? 7 : 1);
+	(void)data, (void)user;
+	if (!fork()) {
+		alarm(60);
+		ww_table_unlock_to(t, &b, 1);
+		MUST(ww_table_open(&other, &rows, 0) == -EINVAL && !ww_acquire_end(&a) && ww_table_mark(t, &b) == 1 && !ww_acquire_end(&b));
+		_exit(7);
+	}
 	MUST(wait(&status) > 0 && WIFEXITED(status) && WEXITSTATUS(status) == 7);
+}
+
+static void forked(void)
+{
+	begins();
+	MUST(!writes(&a, "1") && !reads(&a, "2") && !writes(&b, "3") && !reads(&b, "2") && ww_table_see(t, "1", 1, forks, NULL) == 1);
 	ends();
 }
 
@@ -622,6 +682,10 @@ static void memory(void)
 		refuses = -1;
 		MUST(refused >= 2 && ww_table_mark(t, &a) == n + 1); /* a use, and an entry */
 	}
+	MUST(!writes(&b, "8") && !unlock(&b, "8")); /* so all that a try to read lacks is the slot */
+	refuses = 0;
+	MUST(reads(&b, "8") == -ENOMEM && !ww_table_see(t, "8", 1, sees, NULL));
+	refuses = -1;
 	ends();
 	MUST(!ww_table_close(t));
 }
@@ -652,6 +716,9 @@ int main(void)
 	polls();
 	asks_once();
 	ended_otherwise();
+	closes_later();
+	not_for_another_key(WW_TABLE_EXCLUSIVE);
+	not_for_another_key(WW_TABLE_SHARED);
 	owners();
 	MUST(!ww_table_close(t) && !ww_class_free(&rows) && !ww_class_free(&others));
 	puts("table_calls: as ww_table.h says");
