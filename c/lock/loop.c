@@ -157,9 +157,11 @@ bool ww_accept_held(struct ww_acquire_ctx *x, struct ww_mutex *m, bool may_repea
 
 int ww_result_in_loop(struct ww_mutex *m, struct ww_acquire_ctx *x, int r)
 {
-	if (r == 0) /* The body may have released the mutex that was owed, and locked it now. */
-		ww_become(x, owes_it(x, m) ? TRIES | IS_PRELOCKED : TRIES, 0);
-	if (r == -EDEADLK)
+	if (r == 0 && owes_it(x, m)) /* the body has released the mutex that was owed, and locked it now */
+		ww_become(x, TRIES | IS_PRELOCKED, 0);
+	else if (r == 0)
+		ww_become(x, TRIES, 0);
+	else if (r == -EDEADLK)
 		ww_become(x, 0, HAS_TO_BACK_OFF);
 	return r == -EALREADY && ww_accept_held(x, m, x->state & WW_IGNORE_DUPLICATES) ? 0 : r;
 }
@@ -213,6 +215,13 @@ static int wait_first(struct ww_acquire_ctx *x, struct ww_how how)
 	return r;
 }
 
+static int lock_and_note(struct ww_mutex *m, struct ww_acquire_ctx *x, const struct ww_how *how)
+{
+	int r = ww_lock_by(m, x, how);
+
+	return ww_result_in_loop(m, x, r);
+}
+
 int ww_lock_in_loop(struct ww_mutex *m, struct ww_acquire_ctx *x, const struct ww_how *how)
 {
 	if (x->state & WAITS_FIRST) {
@@ -221,7 +230,7 @@ int ww_lock_in_loop(struct ww_mutex *m, struct ww_acquire_ctx *x, const struct w
 		if (r || ww_accept_held(x, m, false))
 			return r;
 	}
-	return ww_result_in_loop(m, x, ww_lock_by(m, x, how));
+	return lock_and_note(m, x, how);
 }
 
 /* ---- loops ---- */
