@@ -63,7 +63,7 @@ generated_ww_c: | prove         ; $(call check,60) bash -c 'checks/link_proved w
 generated_ww_run: | prove       ; $(call check,60) bash -c 'checks/link_proved ww_run out/gate/proving && checks/check_generated ww_run crates/ww_run/out/generated'
 by_rattle: | prove              ; $(call check,30) bash -c 'for it in crates/ww_run/out/ww_run{,.by-rattle}; do [ ! -e $$it ] || checks/check_program $$it || exit 1; done'
 aarch64_program: | generated_ww_run; $(call check,60) checks/check_aarch64 --program crates/ww_run/out/generated/aarch64.s
-growths_of_tests: | prove       ; $(call check,60) checks/refuse_growths --tests
+growths_of_tests: | prove       ; $(call check,60) checks/refuse_library_growths
 
 made_library:                   ; $(call made,30) bash -c '$(MAKE) -s -C c OUT=out/gate all && mkdir -p $(dir $(ARCHIVE)) && ar rcsD $(ARCHIVE) $(OF_MAKE)/core.o'
 c_tests:                        ; $(call made,120) $(MAKE) -s -k -C c OUT=out/gate check

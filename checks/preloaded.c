@@ -7,7 +7,7 @@
  *			away, and before a thread begins to wait in the system or wakes another. So threads meet at points between which
  *			they mostly pass in no time. Some waits end at once, as the system may let them at any time.
  *
- * For each that it refuses or holds it writes one byte to descriptor 9, so that whoever started the program can tell how often. */
+ * For each that it refuses or holds it writes one byte to the descriptor TELLS_TO, so that whoever started the program can tell how often. */
 #define _GNU_SOURCE
 #include <dlfcn.h>
 #include <errno.h>
@@ -21,8 +21,6 @@
 pid_t getpid(void), gettid(void);
 ssize_t write(int file, const void *from, size_t size);
 
-enum { TOLD = 9 };
-
 /* What the C library does under the names below, where nothing stands before it. */
 void *__libc_malloc(size_t size);
 void *__libc_calloc(size_t count, size_t size);
@@ -33,7 +31,7 @@ static int (*yield_behind)(void);
 static long (*call_behind)(long, long, long, long, long, long, long);
 
 /* 0 until this library is started, so that what the loader asks for is neither counted nor delayed. Without a seed nothing is. */
-static unsigned long first, last, bytes, seed;
+static unsigned long first, last, bytes, seed, to;
 
 static unsigned long asked, threads;
 static int held;
@@ -47,6 +45,7 @@ static unsigned long number_in(const char *name) {
 __attribute__((constructor)) static void start(void) {
     yield_behind = (int (*)(void))dlsym(RTLD_NEXT, "sched_yield");
     call_behind = (long (*)(long, long, long, long, long, long, long))dlsym(RTLD_NEXT, "syscall");
+    to = number_in("TELLS_TO");
     first = number_in("REFUSE_FIRST");
     bytes = number_in("HOLD_BYTES");
     seed = getenv("DELAYS_SEED") ? number_in("DELAYS_SEED") + 1 : 0;
@@ -54,7 +53,7 @@ __attribute__((constructor)) static void start(void) {
 }
 
 /* A byte that can't be written is missed by whoever counts them. */
-static void tell(void) { (void)!write(TOLD, ".", 1); }
+static void tell(void) { (void)!write((int)to, ".", 1); }
 
 static unsigned long draw(void) {
     if (drawn == 0) {
