@@ -407,18 +407,20 @@ static void is_amid(void)
 	if (slept == 1) {
 		over = ww_now();
 		c.pool->crowd.permits[0].ends = over;
-	} else if (c.pool->crowd.permits[0].seat) {
-		usleep(1000);
+	} else {
+		goes_by(LEASE);
 	}
 }
 static void amid_its_context(void)
 {
 	opens(&c, 1);
+	stands();
 	used = &c.pool->seats[7];
 	used->busy |= 1;
 	c.pool->crowd.permits[0] = (struct ww_permit){ ww_now() + FAR, used };
 	asleep = is_amid;
-	MUST(sleeps() && has(0) && taken() >= over + GRACE);
+	MUST(sleeps() && has(0) && taken() == over + GRACE);
+	stands_at.tv_sec = 0;
 	used->busy &= ~1u;
 	c.pool->crowd.permits[0] = (struct ww_permit){ ww_now(), used };
 	MUST(!sleeps() && !ww_class_free(&c));
