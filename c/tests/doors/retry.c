@@ -404,6 +404,7 @@ static void has_a_bound(void)
 			break;
 	}
 	MUST(r == -EAGAIN && x.own && count == (c.contexts ? c.contexts : 1024 + 256) / 2);
+	MUST(ww_acquire_suspend(&x, &many[0]) == -EAGAIN && in_use() == count + 1); /* what the value names stays, too */
 	ww_acquire_fini(&x);
 	MUST(!ww_retry_drop(&many[0]));
 	ww_acquire_init(&x, &c);
