@@ -29,11 +29,11 @@ made = +@.ci/check $@ $(1)
 asked = $(if $(filter yes,$(PROOFS)),$(1),$(foreach it,$(1),$(if $(filter yes,$(shell checks/same_proofs '$(BASE)' $(READS_$(it)) >/dev/null || echo yes)),$(it))))
 
 QUICK := budget c_names documents edits gate layers limits names packages prototypes unused
-SOURCES := format refuse_abuses scene try_cases try_using
+SOURCES := format refuse_abuses scene try_using
 PROVED := prove generated_ww_c generated_ww_run by_rattle aarch64_program growths_of_tests
 WP := $(shell checks/check_wp --units) eva
 OF_C := kills c_tests c_threads rust $(WP:%=wp_%) wp_text wp_faults dist aarch64 c_compilers c_pages gdb simulated kernel instructions make
-OF_PROGRAM := soak refuse_growths tools run large parks program_fails
+OF_PROGRAM := soak refuse_growths tools run program_fails
 .PHONY: all quick sources proofs library program list made_library made_program $(QUICK) $(SOURCES) $(PROVED) $(OF_C) $(OF_PROGRAM)
 
 # The longest come first. All wait for what some need, since make would begin the others before these, and the longest last.
@@ -46,7 +46,6 @@ proofs: $(if $(filter yes,$(PROOFS)),$(PROVED))
 READS_format := checks/check_format
 READS_refuse_abuses := checks/refuse_abuses checks/abuses.blocks
 READS_scene := checks/check_scene checks/scenes.py checks/endless.py checks/loops.py
-READS_try_cases := checks/try_cases program/cases program/examples
 READS_try_using := checks/try_using docs/RATTLE.md docs/bank_tests.rt tools/crates.bash
 sources: $(call asked,$(SOURCES))
 list:
@@ -57,7 +56,7 @@ $(filter-out edits,$(QUICK)):   ; $(call check,20) checks/check_$@
 
 format scene: | quick           ; $(call check,60) checks/check_$@
 refuse_abuses: | quick          ; $(call check,60) checks/$@
-try_cases try_using: | quick    ; $(call check,60) checks/$@
+try_using: | quick              ; $(call check,60) checks/$@
 
 prove: | quick                  ; $(call check,170) checks/prove $(WHOLE)
 generated_ww_c: | prove         ; $(call check,60) bash -c 'checks/link_proved ww_c out/gate/proving && checks/check_generated ww_c crates/ww_c/out/generated'
@@ -76,7 +75,7 @@ kills:                          ; $(call check,90) c/tests/search/kills -j 3 $(i
 simulated:                      ; $(call check,60) checks/check_simulated
 kernel:                         ; $(call check,60) checks/check_kernel $(ARCHIVE)
 instructions:                   ; $(call check,60) checks/check_instructions $(OF_MAKE)
-rust:                           ; $(call check,60) checks/check_rust $(OF_MAKE)
+rust:                           ; $(call check,60) env WW_LIB_DIR=$(CURDIR)/$(OF_MAKE) rust/check
 aarch64:                        ; $(call check,60) checks/check_aarch64 $(WHOLE:%=--both)
 dist:                           ; $(call check,60) checks/check_dist $(WHOLE:%=--twice)
 make:                           ; $(call check,60) checks/check_make
@@ -85,6 +84,6 @@ wp_faults:                      ; $(call check,60) checks/check_wp --self-test
 $(WP:%=wp_%): wp_%:             ; $(call check,60) $(if $(WHOLE),env CHECK_WP_CACHE=) checks/check_wp -j 1 $*
 
 made_program:                   ; $(call made,30) $(MAKE) -s $(PROGRAM)
-soak large parks tools run:     ; $(call check,60) checks/check_$@ $(PROGRAM)
+soak tools run:                 ; $(call check,60) checks/check_$@ $(PROGRAM)
 refuse_growths:                 ; $(call check,60) checks/$@ $(PROGRAM)
 program_fails:                  ; $(call check,30) checks/check_program $(PROGRAM)

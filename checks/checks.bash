@@ -212,5 +212,5 @@ start() {
     running=$((running + 1))
 }
 
-# Compiles a source of checks/ that is to be preloaded into a file.
-make_library() { cc -shared -fPIC -O1 -o "$2" "$1" || fail "$1 can't be compiled"; }
+# Compiles what is to be preloaded before a program into a file.
+make_preloaded() { cc -shared -fPIC -O1 -o "$1" checks/preloaded.c || fail "checks/preloaded.c can't be compiled"; }

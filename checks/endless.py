@@ -301,11 +301,12 @@ def components(nodes, steps):
 
 
 class Runs:
-    """The nodes to which steps lead that keep these conditions, by number, and the steps from each."""
+    """The nodes to which steps lead that keep those of these premises that are asked of each step, by number, and the steps from each."""
 
-    def __init__(self, kind, locks, seats, names, conditions):
-        self.scenes, self.locks = Scenes(kind, locks, seats, names, begun=True), range(locks)
-        self.conditions = conditions
+    OF_STEPS = OF_STEPS
+
+    def __init__(self, kind, locks, seats, names, premises):
+        self.begin(kind, locks, seats, names, premises)
         self.nodes, self.steps, self.before = [self.start()], [], [None]
         numbers = {self.nodes[0]: 0}
         while len(self.steps) < len(self.nodes):
@@ -317,6 +318,10 @@ class Runs:
                     self.before.append((at, step))
                 found.append((step, numbers[after]))
             self.steps.append(found)
+
+    def begin(self, kind, locks, seats, names, premises):
+        self.scenes, self.locks = Scenes(kind, locks, seats, names, begun=True), range(locks)
+        self.conditions = tuple(it for it in self.OF_STEPS if it in premises)
 
     def start(self):
         return Node(self.scenes.start, frozenset(), frozenset(), frozenset())
@@ -350,7 +355,7 @@ class Runs:
     def asked(self, premises):
         """What these ask, of each seat and lock."""
         every = [(s, n, self.scenes.seats) for s in self.scenes.seats for n in self.locks]
-        return [it for premise in premises if premise not in OF_STEPS for of in every for it in premise(*of)]
+        return [it for premise in premises if premise not in self.OF_STEPS for of in every for it in premise(*of)]
 
     def part_to_stay_in(self, nodes, steps, asked):
         """A part in which a run can stay, and whatever is asked there comes there; or None."""
@@ -479,10 +484,9 @@ FOLLOWED = [
 class Followed(Runs):
     """The nodes of one run that goes round in the end, and in the end only."""
 
-    def __init__(self, kind, locks, seats, names, conditions, to, again):
-        self.scenes, self.locks = Scenes(kind, locks, seats, names, begun=True), range(locks)
-        self.conditions, self.steps = conditions, []
-        self.nodes = [self.start()]
+    def __init__(self, kind, locks, seats, premises, to, again):
+        self.begin(kind, locks, seats, EVENTS + CANCELS, premises)
+        self.nodes, self.steps = [self.start()], []
         # Once round before the round that counts, so that what the conditions remember is what it is ever after.
         for words in "; ".join((to, again)).split("; "):
             self.nodes = [self.after(self.nodes[-1], words)[1]]
@@ -500,44 +504,41 @@ class Followed(Runs):
         raise Impossible(words)
 
 
-def breaks(law, premises, kind, locks, seats, to, again):
+def breaks(law, premises, follow, *run):
     """Whether that is a run which keeps these premises, and the law's conclusion never comes in it."""
     try:
-        runs = Followed(kind, locks, seats, EVENTS + CANCELS, of_steps(premises), to, again)
+        runs = follow(*run[:3], premises, *run[3:])
     except Impossible:
         return False
-    made = [(runs.scene(it), go[0][0]) for it, go in enumerate(runs.steps)]
-    is_silent = all(law.concerns(w, None) and not law.comes(w, step, None) for w, step in made)
+    made, s = [(runs.scene(it), go[0][0]) for it, go in enumerate(runs.steps)], law.seats[0]
+    is_silent = all(law.concerns(w, s) and not law.comes(w, step, s) for w, step in made)
     nodes = set(range(len(runs.nodes)))
     return runs.closes and is_silent and runs.part_to_stay_in(nodes, runs.steps, runs.asked(premises)) == nodes
 
 
-def of_steps(premises):
-    return tuple(it for it in OF_STEPS if it in premises)
-
-
-def all_but(premise, law):
-    kept = [WEAKER.get((law, it)) if it is premise else it for it in law.asked]
+def all_but(premise, law, besides=()):
+    kept = [WEAKER.get((law, it)) if it is premise else it for it in (*law.asked, *besides)]
     return tuple(it for it in kept if it)
 
 
-def premises_matter():
+def premises_matter(searches, followed, of=Runs, follow=Followed):
     """Whether without each premise a run breaks a law, and with all of them none does."""
-    failed, runs_of = False, functools.lru_cache(maxsize=1)(Runs)
-    for law, kind, locks, seats, names, left_out in SEARCHES:
+    failed, runs_of = False, functools.lru_cache(maxsize=1)(of)
+    for law, kind, locks, seats, names, left_out, *besides in searches:
         for premise in (None, *left_out):
-            kept = all_but(premise, law)
-            found, spoken_of = runs_of(kind, locks, seats, names, of_steps(kept)).run_that_breaks(law, kept)
+            kept = all_but(premise, law, *besides)
+            of_steps = tuple(it for it in of.OF_STEPS if it in kept)
+            found, spoken_of = runs_of(kind, locks, seats, names, of_steps).run_that_breaks(law, kept)
             said = "no run breaks it" if not found else "{}; and then for ever: {}".format(*map(texts, found))
             without = f" without {premise.__name__}" if premise else ""
             print(f"{kind}, {locks} locks, {seats} seats, {law.name}{without}: {said} ({spoken_of} scenes)")
             failed |= (found is None) != (premise is None) or not spoken_of
-    for laws, *run in FOLLOWED:
+    for laws, *run in followed:
         kind, locks, seats, to, again = run
         for law, premise in laws:
-            is_broken = breaks(law, all_but(premise, law), *run) and not (premise and breaks(law, law.asked, *run))
+            is_broken = breaks(law, all_but(premise, law), follow, *run) and not (premise and breaks(law, law.asked, follow, *run))
             said = f"{to}; and then for ever: {again}" if is_broken else "THE RUN DOESN'T BREAK IT"
-            of = f"{law.name} without {premise.__name__}" if premise else f"{law.name} where it isn't said to hold"
-            print(f"{kind}, {locks} locks, {seats} seats, {of}: {said}")
+            of_law = f"{law.name} without {premise.__name__}" if premise else f"{law.name} where it isn't said to hold"
+            print(f"{kind}, {locks} locks, {seats} seats, {of_law}: {said}")
             failed |= not is_broken
     return not failed

@@ -5,26 +5,9 @@ So this is a second reading of specs/Loops.antt, by scenes: it knows no calls, a
 seat has a context from the start, seat 0 the oldest, and its loop has just begun.
 """
 import collections
-import functools
 
-from endless import (
-    EVENTS,
-    Asked,
-    Followed,
-    Law,
-    Runs,
-    firsts_ask,
-    has_taken,
-    heard,
-    leaves,
-    looks,
-    made,
-    settled,
-    sleeps,
-    texts,
-    waits,
-)
-from scenes import ACTING, Impossible, Scene, core_of
+from endless import EVENTS, Asked, Followed, Law, Runs, firsts_ask, has_taken, heard, leaves, looks, made, settled, sleeps, waits
+from scenes import ACTING, Scene, core_of
 
 WOUND_WAIT, WAIT_DIE = "wound-wait", "wait-die"
 WANTS, GIVES = ("fast", "join", "take"), ("fast-give", "give")
@@ -114,12 +97,10 @@ OLDEST_LOOP_ENDS = loop_of(0)
 class LoopRuns(Runs):
     """Runs in which each seat locks in a loop, with these conditions of what its loop does."""
 
+    OF_STEPS = OF_STEPS
+
     def start(self):
         return Node(LoopScene(*self.scenes.start, (BEGUN,) * len(self.scenes.seats)), frozenset())
-
-    def asked(self, premises):
-        every = [(s, n, self.scenes.seats) for s in self.scenes.seats for n in self.locks]
-        return [it for premise in premises if premise not in OF_STEPS for of in every for it in premise(*of)]
 
     def steps_of(self, node):
         for step, w in self.scenes.steps_of(node.scene):
@@ -191,12 +172,12 @@ class LoopRuns(Runs):
 # For each search: the law, kind, locks and seats, which premises are left out, one at a time, and which are kept besides, so that the
 # search is that of the law above.
 SEARCHES = [
-    (LOOPS_END, WAIT_DIE, 1, 2, (made, heard, settled, looks, leaves, finite, asks, releases), ()),
-    (LOOPS_END, WAIT_DIE, 2, 2, (backs_off,), ()),
-    (LOOPS_END, WOUND_WAIT, 1, 2, (made, heard, settled, looks, leaves, finite, asks, releases), ()),
-    (OLDEST_LOOP_ENDS, WOUND_WAIT, 1, 2, (finite,), ()),
-    (LOOPS_END, WOUND_WAIT, 2, 2, (backs_off,), ()),
-    (OLDEST_LOOP_ENDS, WOUND_WAIT, 2, 2, (made, heard, settled, looks, leaves, asks, backs_off, releases), (few_loops,)),
+    (LOOPS_END, WAIT_DIE, 1, 2, EVENTS, (made, heard, settled, looks, leaves, finite, asks, releases), ()),
+    (LOOPS_END, WAIT_DIE, 2, 2, EVENTS, (backs_off,), ()),
+    (LOOPS_END, WOUND_WAIT, 1, 2, EVENTS, (made, heard, settled, looks, leaves, finite, asks, releases), ()),
+    (OLDEST_LOOP_ENDS, WOUND_WAIT, 1, 2, EVENTS, (finite,), ()),
+    (LOOPS_END, WOUND_WAIT, 2, 2, EVENTS, (backs_off,), ()),
+    (OLDEST_LOOP_ENDS, WOUND_WAIT, 2, 2, EVENTS, (made, heard, settled, looks, leaves, asks, backs_off, releases), (few_loops,)),
 ]
 
 
@@ -249,45 +230,3 @@ class FollowedLoops(LoopRuns):
     """The nodes of one run that goes round in the end, and in the end only."""
 
     __init__, after = Followed.__init__, Followed.after
-
-
-def of_steps(premises):
-    return tuple(it for it in OF_STEPS if it in premises)
-
-
-def all_but(premise, premises):
-    return tuple(it for it in premises if it is not premise)
-
-
-def breaks(law, premises, kind, locks, seats, to, again):
-    """Whether that is a run which keeps these premises, and in which the loop of the law's first seat never ends."""
-    try:
-        runs = FollowedLoops(kind, locks, seats, EVENTS, of_steps(premises), to, again)
-    except Impossible:
-        return False
-    made, s = [(runs.scene(it), go[0][0]) for it, go in enumerate(runs.steps)], law.seats[0]
-    is_silent = all(law.concerns(w, s) and not law.comes(w, step, s) for w, step in made)
-    nodes = set(range(len(runs.nodes)))
-    return runs.closes and is_silent and runs.part_to_stay_in(nodes, runs.steps, runs.asked(premises)) == nodes
-
-
-def premises_matter():
-    """Whether without each premise some loop never ends, and with all of them each does."""
-    failed, runs_of = False, functools.lru_cache(maxsize=1)(LoopRuns)
-    for law, kind, locks, seats, left_out, besides in SEARCHES:
-        for premise in (None, *left_out):
-            kept = all_but(premise, (*law.asked, *besides))
-            found, spoken_of = runs_of(kind, locks, seats, EVENTS, of_steps(kept)).run_that_breaks(law, kept)
-            said = "no run breaks it" if not found else "{}; and then for ever: {}".format(*map(texts, found))
-            without = f" without {premise.__name__}" if premise else ""
-            print(f"{kind}, {locks} locks, {seats} seats, {law.name}{without}: {said} ({spoken_of} scenes)")
-            failed |= (found is None) != (premise is None) or not spoken_of
-    for laws, *run in FOLLOWED:
-        kind, locks, seats, to, again = run
-        for law, premise in laws:
-            is_broken = breaks(law, all_but(premise, law.asked), *run) and not (premise and breaks(law, law.asked, *run))
-            said = f"{to}; and then for ever: {again}" if is_broken else "THE RUN DOESN'T BREAK IT"
-            of = f"{law.name} without {premise.__name__}" if premise else f"{law.name} where it isn't said to hold"
-            print(f"{kind}, {locks} locks, {seats} seats, {of}: {said}")
-            failed |= not is_broken
-    return not failed

@@ -141,11 +141,15 @@ def keys(value, due, spot):
             raise Fault(11, spot, f"has the key {shown(key)}, which isn't due there")
 
 
+def has(value):
+    return f"has {len(value)} member{'s' * (len(value) != 1)}"
+
+
 def counted(value, least, most, spot):
     typed(value, list, spot)
     if not least <= len(value) <= most:
         due = least if least == most else f"{least} to {most}"
-        raise Fault(12, spot, f"has {len(value)} members, and {due} are due")
+        raise Fault(12, spot, f"{has(value)}, and {due} are due")
     return value
 
 
@@ -195,7 +199,7 @@ def node_of(value, count, ports, spot):
 
 def pair_of(value, count, spot):
     if len(typed(value, list, spot)) != 2:
-        raise Fault(14, spot, f"has {len(value)} members, and a pair has 2")
+        raise Fault(14, spot, f"{has(value)}, and a pair has 2")
     numbered(value[0], count, "node", f"{spot}[0]")
     ranged(value[1], 0, WIDTH - 1, f"{spot}[1]")
 
@@ -227,7 +231,7 @@ def worded(value, words, what, spot):
     name = word(value[0], words, f"{spot}[0]")
     if len(value) != len(words[name]) + 1:
         due = " ".join([name, *words[name]])
-        raise Fault(14, spot, f"has {len(value)} members, and {len(words[name]) + 1} are due: {due}")
+        raise Fault(14, spot, f"{has(value)}, and {len(words[name]) + 1} are due: {due}")
     return name, words[name]
 
 

@@ -166,7 +166,7 @@ def program(formats, version):
     made += [".SH SYNOPSIS", r"\fBww_run\fP < \fIINPUT\fP", ".SH DESCRIPTION", prose(head), ".PP", prose(reads)]
     made += [".PP", r"FORMATS.md in \fIshare/doc/ww/program\fP says what an input may have, and what is printed. Of the tools in"]
     made += [r"\fIshare/ww/tools\fP \fBexplain\fP says where an input is wrong, and why; \fBtrace\fP and \fBpicture\fP show what was"]
-    made += [r"printed; \fBjson\fP lays an input out.", ".SH EXIT STATUS"]
+    made += [r"printed; \fBjson\fP makes JSON of it.", ".SH EXIT STATUS"]
     for number, when, written in rows:
         made += [".TP", f".B {number}", prose(f"{when}: {written}.")]
     return "\n".join([*made, ".PP", prose(" ".join(status[2].split())), ".SH SEE ALSO", ".BR ww_mutex (3)", ""])

@@ -21,7 +21,7 @@ THREAD = re.compile(r"  ((?:thread|task|a thread|an unknown thread|suspended con
 ALSO = r'(?:, mutex \d+(?: ".*")? at \w+)?'
 HOLDS = re.compile(rf"    (holds|reads) (.*?){ALSO}")
 WAITS = re.compile(rf"    waits (?:(\S+ s(?: longer than the newest wait)?),? )?for (?:(what .*) reads|(.*?){ALSO}, which (?:nobody|(.*)) holds)")
-MORE = re.compile(r"  and \d+ more threads at .*")
+MORE = re.compile(r"  (and \d+ more .*), (?:each of )?which")
 BACKS_OFF = re.compile(r"  (.*) backs off as soon as it runs")
 
 
@@ -45,7 +45,7 @@ class Waits:
 
     def __init__(self, lines):
         self.lines, self.about, self.holds, self.readers, self.cycle, self.victims = lines, {}, {}, {}, [], []
-        self.places, self.since, self.waits, self.handed, self.more = {}, {}, {}, set(), [it.strip() for it in lines if MORE.fullmatch(it)]
+        self.places, self.since, self.waits, self.handed, self.more = {}, {}, {}, set(), [it[1] for it in map(MORE.fullmatch, lines) if it]
         self.heads = [it for it in lines if USED.fullmatch(it) or OF_GDB.fullmatch(it)]
         self.is_cycle_known = any(map(REPORTED.fullmatch, lines)) or any(it.startswith("CYCLE of ") for it in lines)
         if any(map(SEAT.fullmatch, lines)):
@@ -128,6 +128,8 @@ class Waits:
             elif found := THREAD.fullmatch(line):
                 who = found[1]
                 self.add(who, found[2] and f"at {found[2]}", *(it + of if it.startswith("timestamp") else it for it in found[3][2:].split(", ")))
+            elif MORE.fullmatch(line):
+                who = None
             elif who and (found := HOLDS.fullmatch(line)):
                 self.add(who, found[1] == "reads" and f"reads {found[2]}")
                 if found[1] == "holds":
@@ -137,7 +139,7 @@ class Waits:
                 self.waits[who] = found[2] and f"{found[2]} reads" or found[3]
                 self.readers.update({self.waits[who]: found[2] and found[2].removeprefix("what ") or found[4]})
             elif found := BACKS_OFF.fullmatch(line):
-                self.victims += found[1].split(", ")
+                self.victims.append(found[1])
         self.find_cycle()
 
     def facts(self, who):

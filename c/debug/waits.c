@@ -177,7 +177,7 @@ static void look_for_long_wait(void)
 
 	if (holder && !mine.seen && seconds_of_patience() && ww_has_come(&mine.is_long))
 		ww_warn(p->class_, "a wait", &holder->began,
-			  "it has lasted %u seconds; mutex %u" NAMED " at %p is held by what %sbegan at", seconds_of_patience(), number,
+			  "it has lasted %u s; mutex %u" NAMED " at %p is held by what %sbegan at", seconds_of_patience(), number,
 			  NAME(name_of_mutex(p, number)), (void *)mutex_with(&p->numbers, number),
 			  has_ended(holder) ? "a thread that has ended left; it " : "");
 }
@@ -223,7 +223,7 @@ static void report_leak(const struct ww_seats *of)
 			first = s;
 	}
 	ww_warn(p->class_, "a wait for a context", first ? &first->began : NULL,
-		  "all %u contexts have been in use for %u seconds; "
+		  "all contexts (%u) have been in use for %u s; "
 		  "one that isn't ended by ww_acquire_fini stays in use%s",
 		  open_seats(of), seconds_of_patience(),
 		  first ? "; the oldest began at" : "");

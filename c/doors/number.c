@@ -102,7 +102,8 @@ static struct ww_mutex *mutex_asked(const char *call, uint32_t number, const str
 	struct ww_shared_mutex *m = x && x->own ? mutex_at(x->own->pool, number) : NULL;
 
 	if (!m)
-		NOTE_MISUSE(NULL, call, !x ? "there is no context" : !x->own ? "the context has ended, or was never begun" :
+		NOTE_MISUSE(x && x->own ? x->own->pool->class_ : NULL, call,
+			    !x ? "there is no context" : !x->own ? "the context has ended, or was never begun" :
 			    "the class has no mutex of this number");
 	return m ? &m->mutex_ : NULL;
 }

@@ -556,8 +556,10 @@ void ww_shared_mutex_downgrade(struct ww_shared_mutex *m, struct ww_acquire_ctx 
 {
 	bool waits = x && phase_of(x) == IN_POLL;
 
-	if (UNLIKELY(!x || waits || !holds_it(x, &NEEDED(m)->mutex_)))
-		end("ww_shared_mutex_downgrade", waits ? WAITS_BY_POLL : "the context doesn't write the mutex");
+	if (UNLIKELY(!x || waits || !holds_it(x, &NEEDED(m)->mutex_))) {
+		NOTE(ABOUT, .mutex = &m->mutex_);
+		end_of(ww_find_class_of(&m->mutex_), "ww_shared_mutex_downgrade", waits ? WAITS_BY_POLL : "the context doesn't write the mutex");
+	}
 	note_used(x);
 	if (!holds_slot(x) && take_slot(x, (struct ww_how){ 0 }, true))
 		return;
@@ -604,7 +606,7 @@ int ww_shared_mutex_end_read(struct ww_shared_mutex *m, struct ww_acquire_ctx *x
 void ww_acquire_end_reads(struct ww_acquire_ctx *x)
 {
 	if (phase_of(NEEDED(x)) == IN_POLL)
-		end("ww_acquire_end_reads", WAITS_BY_POLL);
+		end_of(x->own->pool->class_, "ww_acquire_end_reads", WAITS_BY_POLL);
 	note_used(x);
 	if (x->own && holds_slot(x))
 		leave_reads(x, 0);

@@ -43,8 +43,8 @@
  * Threads.  A context belongs to no thread: one thread at a time uses it, and any thread may go on with it, unlock what it holds and end
  * it, also after the thread that began it has ended, if the program orders the calls of the two, as by a lock of its own.  If a thread
  * goes on with a context, and its first call is ww_mutex_unlock, which names no context, it calls ww_acquire_here before.  A thread
- * unlocks what it locked without a context (NULL), before it ends.  No call may come from a signal handler.  Which calls may run at the
- * same time in different threads:
+ * unlocks what it locked without a context (NULL), before it ends.  No call but ww_class_print may come from a signal handler.  Which
+ * calls may run at the same time in different threads:
  *
  *	call                              at the same time
  *	lock, trylock, unlock,            these of the same mutex, and one ww_mutex_destroy, as long as that returns
@@ -71,7 +71,7 @@
  *
  * Several copies.  Each copy of the library, as in a plugin that is linked with the archive, has classes of its own: the program ends
  * with a message where a copy uses a class that another one opened, also before it was closed and loaded again.  Each loaded copy of the
- * shared library takes 232 bytes of static thread-local storage: a process can load about seven.
+ * shared library takes 216 bytes of static thread-local storage: a process can load about seven.
  *
  * The lock protocol underneath is formally verified; the code of this interface is tested.
  */
@@ -112,8 +112,8 @@ int ww_mutex_destroy(struct ww_mutex *lock) WW_NONNULL_(1);
  * The age of a context, which decides collisions, is that of this call.  But up to 16 contexts of a thread, one after another, share an
  * age if each backs off by itself: if its first lock comes in ww_until_all_locked, with ww_mutex_lock_all, by number or after
  * WW_MAY_BE_OLDER.  The first of these that waits for a mutex, or releases one for which another context waits, is the last.  So a
- * context may back off for up to 15 contexts of each other thread that began after it, but never if no context of the class uses the
- * loop.  A context that locks without the loop after one of those 16 has the age of its first lock call.  In the debug library each
+ * context may back off for up to 15 contexts of each other thread that began after it, but never if no context of the class backs off by
+ * itself.  A context that locks without the loop after one of those 16 has the age of its first lock call.  In the debug library each
  * context has the age of its own ww_acquire_init.
  */
 void ww_acquire_init(struct ww_acquire_ctx *ctx, struct ww_class *ww_class) WW_NONNULL_(1, 2);
@@ -203,7 +203,7 @@ bool ww_mutex_is_locked(struct ww_mutex *lock) WW_NONNULL_(1);
  */
 #define ww_until_all_locked(...) WW_UNTIL_ALL_LOCKED_(__VA_ARGS__, ww_name_a_label_for_each_further_loop_, )
 #define ww_retry_on_contention(...) WW_RETRY_ON_CONTENTION_(__VA_ARGS__, ww_name_a_label_for_each_further_loop_, )
-/* Whether the last lock call of the context returned -EDEADLK, and the context hasn't backed off since. */
+/* Whether a lock call in a loop or tries of the context returned -EDEADLK, and the context hasn't backed off since. */
 bool ww_is_contended(const struct ww_acquire_ctx *ctx) WW_NONNULL_(1);
 /*
  * For the retry loop of a framework, which calls back: lock calls are in one function, the end of a try in another, the loop elsewhere.
@@ -312,13 +312,13 @@ WW_MUST_CHECK int ww_class_limit(struct ww_class *ww_class, uint32_t mutexes, ui
  * waits for its mutexes.  Only threads with a permit begin contexts then; the others wait in ww_acquire_init.  A permit lasts up to 1 ms,
  * and then it is the turn of the thread that has waited longest; if its context goes on, the next thread waits at most 16 ms longer, so no
  * wait for a permit is endless.  Threads that sleep by themselves, as those that do I/O under their locks, need no permit, nor does a
- * thread that runs a context already, or a context that is resumed.  No other begin goes around this: ww_acquire_init_checked returns
- * -EAGAIN.  0: as many as are measured to be best, at most one for each processor.  -EINVAL: more than 64, except WW_NO_CROWD, with which
- * no thread waits for a permit; -EBUSY: the class is open.
+ * thread that runs a context already, or a context that is resumed.  No begin of a thread goes around this: ww_acquire_init_checked
+ * returns -EAGAIN.  0: as many as are measured to be best, at most one for each processor.  -EINVAL: more than 64, except WW_NO_CROWD,
+ * with which no thread waits for a permit; -EBUSY: the class is open.
  */
 #define WW_NO_CROWD UINT32_MAX
 WW_MUST_CHECK int ww_class_crowd(struct ww_class *ww_class, uint32_t permits) WW_NONNULL_(1);
-/* Opens the class now, if it isn't open: it allocates all its memory. -ENOMEM. */
+/* Opens the class now, if it isn't open: it allocates the memory of all its mutexes. -ENOMEM. */
 WW_MUST_CHECK int ww_class_open(struct ww_class *ww_class) WW_NONNULL_(1);
 /*
  * Opens the class for a server: with so many contexts, also suspended ones (0: as ww_class_limit), and for so many keys (0: 65,536), each

@@ -79,7 +79,7 @@ public:
 	}
 	// How many threads begin contexts in a crowd, as by ww_class_crowd; it returns what limit does.
 	[[nodiscard]] int crowd(std::uint32_t permits WW_AND_FROM_) noexcept { return ww_class_crowd(&it_, permits); }
-	// Allocates all memory now. -ENOMEM.
+	// Opens it now, as ww_class_open does. -ENOMEM.
 	[[nodiscard]] int open() noexcept { return ww_class_open(&it_); }
 	// What ww_class_stats tells.
 	struct ww_class_counts stats() noexcept
@@ -242,7 +242,7 @@ class WW_SAFETY_(scoped_lockable) guard {
 	mutex &m_;
 
 public:
-	explicit guard(mutex &m WW_AND_FROM_) noexcept WW_SAFETY_(acquire_capability(m)) : m_(m) { m_.lock(WW_THERE_); }
+	[[nodiscard]] explicit guard(mutex &m WW_AND_FROM_) noexcept WW_SAFETY_(acquire_capability(m)) : m_(m) { m_.lock(WW_THERE_); }
 	~guard() WW_SAFETY_(release_capability()) { m_.unlock(); }
 	guard(const guard &) = delete;
 	guard &operator=(const guard &) = delete;
@@ -412,7 +412,7 @@ class context {
 
 public:
 	// If all contexts of the class are in use it waits for one, as ww_acquire_init does, or ww_acquire_init_until with limits.
-	explicit context(struct ww_class &c, limits how = {} WW_AND_FROM_) noexcept : limits_(how)
+	[[nodiscard]] explicit context(struct ww_class &c, limits how = {} WW_AND_FROM_) noexcept : limits_(how)
 	{
 		if (how.until() || how.flags() & WW_INTERRUPTIBLE)
 			error_ = ww_acquire_init_until(&it_, &c, how.until());
@@ -422,11 +422,12 @@ public:
 	}
 	// With the age of what is suspended, if anything is; then it first waits for the mutex at which that got -EDEADLK. After an
 	// error it is still suspended.
-	context(struct ww_class &c, suspended &age, limits how = {} WW_AND_FROM_) noexcept : limits_(how)
+	[[nodiscard]] context(struct ww_class &c, suspended &age, limits how = {} WW_AND_FROM_) noexcept : limits_(how)
 	{
 		error_ = ww_acquire_resume(&it_, &c, age.get(), how.until());
 		begin_loop();
 	}
+	context(struct ww_class &c, suspended &&age, limits how = {}) = delete; // give the age a name: it is still there after an error
 	// Releases everything, and ends the context, whose age goes on in the result: for a retry that is another's, as end_try is for
 	// one by this context. If half of the class's contexts are suspended, the age is lost. Its lock calls return -EINVAL from then on.
 	[[nodiscard]] suspended suspend(WW_FROM_) noexcept

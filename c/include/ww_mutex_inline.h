@@ -8,8 +8,9 @@ extern "C" {
 
 /*
  * A label that the program names comes before the default one.  The compiler sees that the body runs at least once, so what the body sets
- * is set after it; the goto that is never taken is for a body that has none.  The body is a loop of one round, so that `break` and
- * `continue` in it end the round, and the outer loop looks whether there has to be another one.
+ * is set after it; the goto that is never taken is for a body that has none.  (A computed goto would need no names, but clang++ refuses
+ * two of them.)  The body is a loop of one round, so that `break` and `continue` in it end the round, and the outer loop looks whether
+ * there has to be another one.
  */
 #define WW_UNTIL_ALL_LOCKED_(ctx, again, ...)                                                          \
 	for (struct ww_acquire_ctx *again##_of_ = ww_tries_begin_(ctx); again##_of_;                   \
@@ -62,6 +63,7 @@ int ww_mutex_lock_further_(struct ww_mutex *lock, struct ww_acquire_ctx *ctx, in
 int ww_mutex_trylock_else_(struct ww_mutex *lock, struct ww_acquire_ctx *ctx);
 void ww_mutex_unlock_else_(struct ww_mutex *lock);
 void ww_mutex_unlock_further_(struct ww_mutex *lock, struct ww_acquire_ctx *ctx, int r);
+/* Not C99's `inline`, of which each plain declaration emits another copy: Python and unoptimized code call the library's own. */
 #define WW_INLINE_ extern __inline __attribute__((__gnu_inline__))
 
 /*

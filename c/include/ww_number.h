@@ -45,8 +45,8 @@ struct ww_shared_mutex *ww_number_at(uint32_t number, struct ww_class *ww_class)
 
 /*
  * As ww_mutex_lock with a context, in ww_until_all_locked too.  -EDEADLK: release everything that the context holds, then acquire this
- * mutex first, with any call except a trylock; a context that holds nothing never gets -EDEADLK.  The program ends with a message if
- * somebody else holds a number that was never taken.
+ * mutex first, with any call except a trylock; a context that holds nothing never gets -EDEADLK.  Of a number that was never taken the
+ * call may acquire the lock, as if it were taken, or return -EINVAL.
  */
 WW_MUST_CHECK int ww_number_lock(uint32_t number, struct ww_acquire_ctx *ctx) WW_NONNULL_(2);
 /* Returns 1 if it acquired the mutex, else 0: somebody holds it or waits for it, or the context may acquire nothing now. */

@@ -17,10 +17,10 @@
  *	not		it may call nothing by the context that waits, nor by the one whose unlock or end calls it
  *
  * From -EINPROGRESS until a poll returns something else, any other call that locks, unlocks, suspends or ends the context, another poll
- * too, returns -EBUSY, or 0 if it is a trylock; an unlock that returns nothing ends the program.  Polls and other calls of a context may
- * come from any thread, one at a time, which the program orders as it orders its tasks: the context may be unlocked, and end, in another
- * thread than it began in.  A poll blocks its thread only while another thread is in the middle of a step: for some instructions, unless
- * that thread is preempted there.
+ * too, returns -EBUSY, or 0 if it is a trylock; an unlock that returns nothing ends the program.  But ww_acquire_end_wait ends the wait,
+ * and ww_acquire_end the context.  Polls and other calls of a context may come from any thread, one at a time, which the program orders as
+ * it orders its tasks: the context may be unlocked, and end, in another thread than it began in.  A poll blocks its thread only while
+ * another thread is in the middle of a step: for some instructions, unless that thread is preempted there.
  */
 #ifndef WW_POLL_H
 #define WW_POLL_H

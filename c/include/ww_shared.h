@@ -105,8 +105,8 @@ void ww_acquire_end_reads(struct ww_acquire_ctx *ctx) WW_NONNULL_(1);
  */
 WW_MUST_CHECK int ww_shared_mutex_await(struct ww_acquire_ctx *ctx, const struct timespec *monotonic);
 /*
- * Whether anybody reads or writes the mutex, or waits for it, which may be out of date when this returns.  In a child of a fork nobody
- * does.  To wait until nobody does, call ww_shared_mutex_lock and ww_shared_mutex_unlock.
+ * Whether anybody reads or writes the mutex, or waits for it, which may be out of date when this returns.  If its class was in use at a
+ * fork, nobody does in the child.  To wait until nobody does, call ww_shared_mutex_lock and ww_shared_mutex_unlock.
  */
 bool ww_shared_mutex_is_locked(const struct ww_shared_mutex *lock) WW_NONNULL_(1);
 /* Whether the context writes the mutex; and whether it reads it, for the thread that uses the context. */

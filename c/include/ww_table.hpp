@@ -173,7 +173,7 @@ protected:
 	}
 
 public:
-	table_keys(const table_keys &) = delete;
+	table_keys(const table_keys &) = delete; // it stays where it began: keep it by a pointer, as std::unique_ptr
 	table_keys &operator=(const table_keys &) = delete;
 	// 0, or why it didn't begin: -ETIMEDOUT, -EINTR, -ENOMEM, -EINVAL. Then its locks return table_result::misused.
 	[[nodiscard]] int error() const noexcept { return error_; }
@@ -236,6 +236,15 @@ public:
 			ww_table_unlock_to(table_.it_, x_, 0);
 	}
 	int cancel() noexcept { return error_ ? error_ : ww_acquire_cancel(x_); }
+	// How often it has waited for keys and got deadlock, and for how long it has waited, since it began.
+	struct ww_acquire_counts counts() const noexcept
+	{
+		struct ww_acquire_counts told = {};
+
+		if (!error_)
+			ww_acquire_count(x_, &told);
+		return told;
+	}
 };
 
 // A transaction of a table, whose keys are shown as this owner's. Its destructor releases them, and ends it. Any thread may go on with
@@ -251,7 +260,7 @@ class transaction : public table_keys {
 	}
 
 public:
-	transaction(lock_table &t, std::uint64_t owner, limits how = {} WW_AND_FROM_) noexcept : table_keys(t, owner, how)
+	[[nodiscard]] transaction(lock_table &t, std::uint64_t owner, limits how = {} WW_AND_FROM_) noexcept : table_keys(t, owner, how)
 	{
 		struct ww_retry none = {};
 
@@ -259,10 +268,12 @@ public:
 	}
 	// With the age of what is suspended, if anything is: it first waits for the key at which that got deadlock. After an error it is
 	// still suspended.
-	transaction(lock_table &t, std::uint64_t owner, suspended &age, limits how = {} WW_AND_FROM_) noexcept : table_keys(t, owner, how)
+	[[nodiscard]] transaction(lock_table &t, std::uint64_t owner, suspended &age, limits how = {} WW_AND_FROM_) noexcept
+		: table_keys(t, owner, how)
 	{
 		begin(age.get() WW_AND_THERE_);
 	}
+	transaction(lock_table &t, std::uint64_t owner, suspended &&age, limits how = {}) = delete; // as of a context: give it a name
 	~transaction()
 	{
 		WW_NOWHERE_;

@@ -358,14 +358,24 @@ def lines_of_cycle(cycle, is_core, is_old):
         yield f"  no class detects it, since {why}; {forever if is_old else lasts}"
         return
     wrong = {True: [seat for seat, holder in cycle if seat.stamp > holder.stamp], False: [holder for seat, holder in cycle if seat.stamp < holder.stamp]}
-    yield f"  {', '.join(map(str, wrong[bool(cycle[0][0].of.is_wait_die)]))} backs off as soon as it runs"
+    yield from (f"  {it} backs off as soon as it runs" for it in wrong[bool(cycle[0][0].of.is_wait_die)])
+
+
+def some(count, what):
+    """So many of these, as `what` says it of several."""
+    return f"{count} {what if count != 1 else re.sub(r'(?<=x)es|s', '', what)}"
+
+
+def head_of(it):
+    waits = some(sum(seat.awaits >= 0 for seat in it.used.values()), "waits")
+    return f'{some(it.taken, "mutexes")}, {waits}'
 
 
 def print_class(look, it, only):
-    many = sum(seat.awaits >= 0 for seat in it.used.values())
-    print(f'class "{it.name}" ({"Wait-Die" if it.is_wait_die else "Wound-Wait"}): {it.taken} mutexes, {many} wait')
+    print(f'class "{it.name}" ({"Wait-Die" if it.is_wait_die else "Wound-Wait"}): {head_of(it)}')
     if it.seekers:
-        print(f"  {len(it.seekers)} wait for a context, since all are in use: {', '.join(sorted({str(who or 'a task') for who in it.seekers})[:4])}")
+        whose = ", ".join(sorted({str(who or "a task") for who in it.seekers})[:4])
+        print(f"  {some(len(it.seekers), 'waits')} for a context, since all are in use: {whose}")
     by_thread, alike = {}, {}
     for seat in it.used.values():
         by_thread.setdefault(seat.key(), []).append(seat)
@@ -379,7 +389,8 @@ def print_class(look, it, only):
             whose = "" if it.reader(seat.awaits) else f", which {holder} holds" if holder else ", which nobody holds"
             lines.append(f"    waits{look.ago(seat.since)} for {it.mutex(seat.awaits)}{whose}")
         lines = lines or ["    holds nothing, by a context that hasn't ended"]
-        kind = (place, re.sub(r"waits [\d.]+ s", "wait", lines[0])) if len(lines) == 1 else key
+        what = "threads" if isinstance(key, Thread) else "tasks" if key.is_task else "contexts"
+        kind = (what, place, re.sub(r"waits .*? s( longer than the newest wait,)?", "waits", lines[0])) if len(lines) == 1 else key
         alike[kind] = alike.get(kind, 0) + 1
         if only is not None and not any(only in (*seat.holds, *seat.reads(), seat.awaits) for seat in seats) or alike[kind] > 3:
             continue
@@ -387,7 +398,7 @@ def print_class(look, it, only):
         print("\n".join(lines))
     for kind, count in alike.items():
         if count > 3:
-            print(f"  and {count - 3} more threads{kind[0]}\n{kind[1].rstrip()}")
+            print(f"  and {some(count - 3, 'more ' + kind[0])}{kind[1]}, {'each of ' * (count > 4)}which\n{kind[2].rstrip()}")
 
 
 # ---- commands ----
@@ -476,7 +487,7 @@ def number_of(it, value):
 def about_mutex(value, it):
     holder, number = it.holder(number_of(it, value)), number_of(it, value)
     many = sum(seat.awaits == number for seat in it.used.values())
-    return f'mutex {number} of class "{it.name}", {f"held by {holder}" if holder else "free"}' + (f", {many} wait" if many else "")
+    return f'mutex {number} of class "{it.name}", {f"held by {holder}" if holder else "free"}' + (f", {some(many, 'waits')}" if many else "")
 
 
 def about_context(value, it):
@@ -486,8 +497,7 @@ def about_context(value, it):
 
 
 def about_class(value, it):
-    many = sum(seat.awaits >= 0 for seat in it.used.values())
-    return f'class "{it.name}": {it.taken} mutexes, {many} wait; in all ' + ", ".join(f"{count} {what}" for what, count in it.counts.items())
+    return f'class "{it.name}": {head_of(it)}; in all ' + ", ".join(some(count, what) for what, count in it.counts.items())
 
 
 ABOUT = {"ww_mutex": about_mutex, "ww_acquire_ctx": about_context, "ww_class": about_class}

@@ -53,7 +53,7 @@ void ww_acquire_flags(struct ww_acquire_ctx *x, unsigned int flags)
 	enum phase phase = phase_of(NEEDED(x));
 
 	if (phase == IN_POLL)
-		NOTE_MISUSE(NULL, "ww_acquire_flags", WAITS_BY_POLL);
+		NOTE_MISUSE(x->own->pool->class_, "ww_acquire_flags", WAITS_BY_POLL);
 	if (phase == IN_POLL || phase == HAS_ENDED)
 		return;
 	x->state = (x->state & ~(unsigned)FLAGS) | (flags & FLAGS);
@@ -157,9 +157,11 @@ bool ww_accept_held(struct ww_acquire_ctx *x, struct ww_mutex *m, bool may_repea
 
 int ww_result_in_loop(struct ww_mutex *m, struct ww_acquire_ctx *x, int r)
 {
-	if (r == 0) /* The body may have released the mutex that was owed, and locked it now. */
-		ww_become(x, owes_it(x, m) ? TRIES | IS_PRELOCKED : TRIES, 0);
-	if (r == -EDEADLK)
+	if (r == 0 && owes_it(x, m)) /* the body has released the mutex that was owed, and locked it now */
+		ww_become(x, TRIES | IS_PRELOCKED, 0);
+	else if (r == 0)
+		ww_become(x, TRIES, 0);
+	else if (r == -EDEADLK)
 		ww_become(x, 0, HAS_TO_BACK_OFF);
 	return r == -EALREADY && ww_accept_held(x, m, x->state & WW_IGNORE_DUPLICATES) ? 0 : r;
 }
@@ -213,6 +215,13 @@ static int wait_first(struct ww_acquire_ctx *x, struct ww_how how)
 	return r;
 }
 
+static int lock_and_note(struct ww_mutex *m, struct ww_acquire_ctx *x, const struct ww_how *how)
+{
+	int r = ww_lock_by(m, x, how);
+
+	return ww_result_in_loop(m, x, r);
+}
+
 int ww_lock_in_loop(struct ww_mutex *m, struct ww_acquire_ctx *x, const struct ww_how *how)
 {
 	if (x->state & WAITS_FIRST) {
@@ -221,7 +230,7 @@ int ww_lock_in_loop(struct ww_mutex *m, struct ww_acquire_ctx *x, const struct w
 		if (r || ww_accept_held(x, m, false))
 			return r;
 	}
-	return ww_result_in_loop(m, x, ww_lock_by(m, x, how));
+	return lock_and_note(m, x, how);
 }
 
 /* ---- loops ---- */
@@ -229,7 +238,8 @@ int ww_lock_in_loop(struct ww_mutex *m, struct ww_acquire_ctx *x, const struct w
 COLD static void begin_loop_else(struct ww_acquire_ctx *x)
 {
 	if (!x->own || x->acquired || is_polled(x))
-		end("ww_until_all_locked", x->own && is_polled(x) ? WAITS_BY_POLL : "the context holds a mutex, or has ended");
+		end_of(x->own ? x->own->pool->class_ : NULL, "ww_until_all_locked",
+		       x->own && is_polled(x) ? WAITS_BY_POLL : "the context holds a mutex, or has ended");
 	let_be_older(x);
 	ww_become(x, TRIES | IS_PRELOCKED, 0);
 }
@@ -250,7 +260,7 @@ COLD void ww_back_off_(struct ww_acquire_ctx *x)
 		return;
 	note_used(x);
 	if (is_polled(x))
-		end("ww_retry_on_contention", WAITS_BY_POLL);
+		end_of(x->own->pool->class_, "ww_retry_on_contention", WAITS_BY_POLL);
 	release_newest_first(x);
 	ww_become(x, HAS_TO_BACK_OFF | IS_PRELOCKED, WAITS_FIRST);
 }

@@ -102,11 +102,11 @@ define compiled_cxx
 	$(CXX) $(AS_CXX) $(1) $(NEEDED)
 endef
 TESTED = $(wildcard tests/*.h) $(WITHIN)
-# Optimized less, a test shows these sanitizers no less, and is compiled in two thirds of the time. (By -O0 the headers compile no
-# call into its caller.)
-FLAGS_sanitized = -O1 -g -fsanitize=address,undefined -fno-sanitize-recover=all
+# Optimized less, and with the names of functions and the lines alone, a test shows these sanitizers no less, and is compiled in half of
+# the time. (By -O0 the headers compile no call into its caller.)
+FLAGS_sanitized = -O1 -g1 -fsanitize=address,undefined -fno-sanitize-recover=all
 FLAGS_debug_sanitized = $(FLAGS_sanitized) -DWW_DEBUG
-FLAGS_threads = -O1 -g -fsanitize=thread
+FLAGS_threads = -O1 -g1 -fsanitize=thread
 FLAGS_shaken = -include tests/shake.h
 define objects
 $(OUT)/%_$(1).o: %.c tests/shake.h $(WITHIN)

@@ -109,6 +109,10 @@ void ww_note_task_wait(const ww_seat *s);
 /*@ requires is_seat(s); assigns s->handle.mode, s->handle.below; */
 static inline void ww_make_cancel_pending(ww_seat *s);
 
+/* What a lock call leaves: a list in which the mutex is, if it fails, and what the context has to do, unless it is told of a deadlock. */
+#define STAYS(m, x) \
+	ensures older_stays: \result != 0 ==> m->older == \old(m->older); \
+	ensures state: x != \null && \result != -EDEADLK ==> x->state == \old(x->state)
 /*@ requires is_mutex(m) && is_caller(x, s) && apart(m, x, s) && how_apart(how, m, x, s);
     requires has: r == 0 ==> core_has == 1;
     requires r == -EDEADLK ==> core_context == 1 && core_told == 1 && core_told_of == m->number && core_holds > 0;
@@ -124,7 +128,8 @@ static inline void ww_make_cancel_pending(ww_seat *s);
     ensures refused: refused{Old, Here}(x, \result);
     ensures visits: how->visits ==> refused{Old, Here}(x, 1);
     ensures exact: \result == r || (r == -EINTR && \result == -ETIMEDOUT) || (r == -EBUSY && s->pool->gone && \result == -EINVAL);
-    ensures child: r == -EBUSY && s->pool->gone ==> \result == -EINVAL; */
+    ensures child: r == -EBUSY && s->pool->gone ==> \result == -EINVAL;
+    STAYS(m, x); */
 static int lock_ends(struct ww_mutex *m, struct ww_acquire_ctx *x, ww_seat *s, int r, const struct ww_how *how);
 
 /*@ predicate lock_goes(struct ww_mutex *m) = core_call == LOCKS && core_of == m->number && lacks(m->number); */
@@ -148,7 +153,8 @@ static int lock_ends(struct ww_mutex *m, struct ww_acquire_ctx *x, ww_seat *s, i
     ensures told: told{Old, Here}(m, x, \result);
     ensures keeps: \result != 0 ==> same_held{Old, Here};
     ensures keeps_list: \result != 0 && x != \null ==> unlisted{Old, Here}(x);
-    ensures ended: ended{Old, Here}(s, \result); */
+    ensures ended: ended{Old, Here}(s, \result);
+    STAYS(m, x); */
 static int wait_on(struct ww_mutex *m, struct ww_acquire_ctx *x, ww_seat *s, int r, const struct ww_wait *wait);
 
 /*@ requires is_mutex(m) && is_caller(x, s) && apart(m, x, s) && how_apart(how, m, x, s);
@@ -170,12 +176,14 @@ static int wait_on(struct ww_mutex *m, struct ww_acquire_ctx *x, ww_seat *s, int
     ensures told: told{Old, Here}(m, x, \result);
     ensures keeps: \result != 0 ==> same_held{Old, Here};
     ensures keeps_list: \result != 0 && x != \null ==> unlisted{Old, Here}(x);
-    ensures ended: ended{Old, Here}(s, \result); */
+    ensures ended: ended{Old, Here}(s, \result);
+    STAYS(m, x); */
 int ww_lock_on(struct ww_mutex *m, struct ww_acquire_ctx *x, ww_seat *s, int r, const struct ww_how *how);
 
 /*@ requires is_mutex(m) && x != \null && is_caller(x, x->own) && apart(m, x, x->own) && how_apart(how, m, x, x->own);
     assigns OF_LOCK(m, x, x->own), how->asks->waiters;
-    ensures result: lock_result{Old, Here}(m, x, x->own, \result, how->visits); */
+    ensures result: lock_result{Old, Here}(m, x, x->own, \result, how->visits);
+    STAYS(m, x); */
 int ww_lock_by(struct ww_mutex *m, struct ww_acquire_ctx *x, const struct ww_how *how);
 
 /* ---- the list of what a context acquired ---- */

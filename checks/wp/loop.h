@@ -3,7 +3,7 @@
  *
  * source: lock/loop.c
  * proves: ww_become unlist release_newest release_newest_first unlocks_no_more ww_acquire_unlock_all ww_back_off_ ww_accept_held
- *	ww_result_in_loop ww_is_gone note_waited wait_first
+ *	ww_result_in_loop ww_is_gone note_waited wait_first lock_and_note ww_lock_in_loop
  * inlines: is_orphaned_by_fork is_loop owes_it enlist unlock_unlisted ww_is_contended is_polled holds_slot holder_of note_used
  *	is_slot is_of_number puts_of
  */
@@ -142,5 +142,13 @@ static void note_waited(struct ww_acquire_ctx *x, struct ww_mutex *m, bool visit
     assigns OF_LOCK(x->contending_lock, x, x->own), x->pool, x->prelocked;
     HAS_FIRST(\result == 0, x, \old(x->contending_lock));
     ensures fails: \result != 0 ==> same_held{Old, Here} && x->newest == \null;
+    ensures state: \result != 0 ==> x->state == \old(x->state);
     ensures never_told: \result != -EDEADLK; */
 static int wait_first(struct ww_acquire_ctx *x, struct ww_how how);
+
+/* ---- a lock call in a loop, once it has waited for the contended mutex, or if it needn't ---- */
+
+/*@ OF_LOOP_LOCK(m, x, how);
+    assigns OF_LOCK(m, x, x->own), OF_OWED(\true, x, m), how->asks->waiters;
+    LOOP_LOCK(m, x); */
+static int lock_and_note(struct ww_mutex *m, struct ww_acquire_ctx *x, const struct ww_how *how);

@@ -85,36 +85,41 @@ bool ww_mutex_is_locked(struct ww_mutex *m);
 
 /* ---- lock calls that succeed without a step, and what a loop has to do then ---- */
 
-#define OWED(x, m) \old((x->state & IS_PRELOCKED) != 0 && x->prelocked == m)
-/* Of any mutex. */
-#define IN_LOOP(x, m) is_user_of(x) && \valid(m) && m != \null && \separated(m, x, x->own, x->own->pool) && rests && (loops(x) ==> is_list(x))
+#define OWES(x, m) ((x->state & IS_PRELOCKED) != 0 && x->prelocked == m)
+#define OWED(x, m) \old(OWES(x, m))
+/* Of any mutex; in a forked child the seat may have a call that can't end. */
+#define IN_LOOP(x, m) is_user_of(x) && \valid(m) && m != \null && \separated(m, x, x->own, x->own->pool)
+#define MAY_BE_OWED(x, m) (rests || x->own->pool->gone) && (loops(x) && OWES(x, m) ==> is_list(x))
 /* What becomes of the list, if the mutex is one that is owed. */
-#define OF_OWED(x, m) x->pool, x->state, x->newest, m->older, { node(k)->older | integer k; loops(x) && 0 <= k < nodes }
-/*@ requires IN_LOOP(x, m);
-    assigns OF_OWED(x, m);
+#define OF_OWED(asks, x, m) x->pool, x->state, x->newest, m->older, \
+	{ node(k)->older | integer k; asks && loops(x) && OWES(x, m) && 0 <= k < nodes }
+/*@ requires IN_LOOP(x, m) && MAY_BE_OWED(x, m);
+    assigns OF_OWED(\true, x, m);
     ensures outside: !loops{Old}(x) ==> !\result && x->pool == \old(x->pool) && m->older == \old(m->older);
     ensures has: \result ==> holds(m->number) && loops{Old}(x);
-    ensures none: !\result && loops{Old}(x) && OWED(x, m) ==> lacks(m->number);
+    ensures none: rests && !\result && loops{Old}(x) && OWED(x, m) ==> lacks(m->number);
     ensures asked: \result ==> may_repeat || OWED(x, m);
     ensures state: \result && OWED(x, m) ==> x->state == (\old(x->state) & ~IS_PRELOCKED);
     ensures fails: !\result || !OWED(x, m) ==> x->state == \old(x->state) && x->newest == \old(x->newest);
     ensures newest: \result && OWED(x, m) ==> x->newest == m;
+    ensures owes: \result ==> !OWES(x, m);
+    ensures waits: (x->state & WAITS_FIRST) != 0 ==> \old((x->state & WAITS_FIRST) != 0);
+    ensures list: !\result && is_list{Old}(x) ==> is_list(x);
     ensures stays: same{Old, Here} && x->acquired == \old(x->acquired) && x->own == \old(x->own); */
 bool ww_accept_held(struct ww_acquire_ctx *x, struct ww_mutex *m, bool may_repeat);
 
-/*@ requires IN_LOOP(x, m) && (r == 0 ==> holds(m->number));
-    assigns OF_OWED(x, m);
-    ensures took: \result == 0 ==> holds(m->number);
+/*@ requires IN_LOOP(x, m) && (r == -EALREADY ==> MAY_BE_OWED(x, m));
+    assigns OF_OWED(r == -EALREADY, x, m);
+    ensures took: \result == 0 && (r == 0 ==> holds{Old}(m->number)) ==> holds(m->number);
     ensures exact: \result == r || (r == -EALREADY && \result == 0);
     ensures told: r == -EDEADLK ==> (x->state & HAS_TO_BACK_OFF) != 0;
     ensures asked: r == 0 && OWED(x, m) ==> x->state == (\old(x->state) & ~(TRIES | IS_PRELOCKED));
+    ensures eased: r == 0 ==> (x->state & WAITS_FIRST) == 0 && (x->state & HAS_TO_BACK_OFF) == 0;
+    ensures owes: \result == 0 ==> !OWES(x, m);
+    ensures lists: r != -EALREADY ==> x->newest == \old(x->newest) && m->older == \old(m->older);
     ensures fails: \result != 0 && r != -EDEADLK ==> x->state == \old(x->state) && x->newest == \old(x->newest);
     ensures stays: same{Old, Here} && x->acquired == \old(x->acquired); */
 int ww_result_in_loop(struct ww_mutex *m, struct ww_acquire_ctx *x, int r);
-/* Assumed, as list.h does, and only of a context in a loop. */
-/*@ requires loops(x);
-    assigns CHANGES(m, x), *x->contending_lock, NODES(older); */
-int ww_lock_in_loop(struct ww_mutex *m, struct ww_acquire_ctx *x, const struct ww_how *how);
 
 /* ---- what is asked first ---- */
 
@@ -175,6 +180,29 @@ int ww_admit(const char *name, enum lock_call call, struct ww_mutex *m, struct w
 	ensures told: told{Old, Here}(m, x, \result); \
 	ensures keeps: \result != 0 ==> same_held{Old, Here}; \
 	ensures keeps_list: \result != 0 && x != \null ==> unlisted{Old, Here}(x)
+/* In a loop, by a context that waits for no mutex first, or has done so. */
+#define OF_LOOP_LOCK(m, x, how) \
+	requires user: is_user_of(x) && loops(x); \
+	requires mutex: is_mutex(m) && m != \null && apart(m, x, x->own) && is_how_for(how, m, x); \
+	requires listed: OWES(x, m) ==> is_list(x) && lies_apart(x, m)
+#define LOOP_LOCK(m, x) \
+	ensures took: \result == 0 ==> core_has == 1; \
+	ensures told: \result == -EDEADLK ==> core_told == 1 && core_told_of == m->number && core_holds > 0 && x->contending_lock == m; \
+	ensures backs_off: \result == -EDEADLK ==> (x->state & HAS_TO_BACK_OFF) != 0; \
+	ensures keeps: \result != 0 ==> same_held{Old, Here}; \
+	ensures keeps_list: \result != 0 ==> unlisted{Old, Here}(x); \
+	ensures state: \result != 0 && \result != -EDEADLK ==> x->state == \old(x->state); \
+	ensures says: \result == 0 && \old(core_has) == 0 ==> m->ctx == x; \
+	ensures counts: \result == 0 && \old(core_has) == 0 ==> x->acquired == (unsigned)(\old(x->acquired) + 1); \
+	ensures newest: \result == 0 && \old(core_has) == 0 ==> x->newest == m; \
+	ensures older: \result == 0 && \old(core_has) == 0 ==> m->older == \old(x->newest); \
+	ensures owes: \result == 0 ==> !OWES(x, m); \
+	ensures eased: \result == 0 && \old(core_has) == 0 ==> (x->state & WAITS_FIRST) == 0
+/*@ requires first: (x->state & WAITS_FIRST) == 0;
+    OF_LOOP_LOCK(m, x, how);
+    assigns OF_LOCK(m, x, x->own), OF_OWED(\true, x, m), how->asks->waiters;
+    LOOP_LOCK(m, x); */
+int ww_lock_in_loop(struct ww_mutex *m, struct ww_acquire_ctx *x, const struct ww_how *how);
 /*@ requires is_called(m) && x != \null && is_any_context(x, m) && is_how_for(how, m, x) && rests && !loops(x);
     assigns CHANGES(m, x), how->asks->waiters;
     LOCK_RESULT_AT_FIRST(m, x);

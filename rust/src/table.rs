@@ -32,6 +32,7 @@
 
 use crate::age::Kept;
 use crate::class::OfClass;
+use crate::why::Counts;
 use crate::{error, ffi, place, Class, Error, Options, Suspended};
 use core::any::Any;
 use core::cell::Cell;
@@ -428,6 +429,12 @@ impl<C: Class> Transaction<C> {
         } else {
             Err(Error::NotHeld)
         }
+    }
+
+    /// What it has cost since it began: how often it waited for keys, and for how long.
+    #[must_use]
+    pub fn counts(&self) -> Counts {
+        self.kept().tx().counts()
     }
 
     /// How many keys it has, for [`unlock_to`](Self::unlock_to): for a savepoint.

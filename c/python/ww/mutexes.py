@@ -27,6 +27,7 @@ _T = TypeVar("_T")
 # a wait there is made of calls that end after so many nanoseconds; other threads wait by one call. Waiters with a context
 # are in the order of their timestamps, so this loses no place in the order.
 _SLICE = 100_000_000
+_LONG = 10 * _SLICE  # After so many a wait is asked whether it is for the thread itself: by then Deadlock would have come.
 _NEVER = 2**62  # A time of the clock, in nanoseconds too.
 _NONE = 2**32 - 1  # The number of no mutex.
 # By its address, the call that ends each structure of the library. They are made until the program's last moment.
@@ -108,6 +109,17 @@ class _Thread(threading.local):
     def holds(self, mutex: Mutex) -> bool:
         return any(mutex in it for it in self._go_on())
 
+    def check_wait(self, context: Context, mutex: Mutex, reads: bool) -> None:
+        """Already, where this context waits for another one of the thread, at this mutex or first at what is contended; a read waits for
+        who writes."""
+        library, place, at = context._library, context.why().at, mutex._at
+        if place and not place.is_at(mutex):
+            at, reads = library.ww_number_at(place.number, context._class._at), True  # It may be no more than a read.
+        for it in self._go_on():
+            if it is not context and it._class is context._class:
+                if library.ww_shared_mutex_is_written_by(at, it._at) or not reads and library.ww_shared_mutex_is_read_by(at, it._at):
+                    raise Already(errno.EALREADY, f"another context of this thread holds it, or what is contended: {mutex!r}")
+
 
 _mine = _Thread()
 
@@ -175,7 +187,7 @@ def _in_slices(call: Callable[[Optional[Time]], int], until: Optional[int]) -> i
 class Class(Single):
     """A class of mutexes, among which deadlocks are detected. It has at most this many mutexes and contexts at a time (0:
     65,536, and 1,024 besides one for each thread), and allocates memory for as many. In a forked child it goes on, unless a
-    mutex was locked or a context in use at the fork: then each call is EINVAL there. `library` is the path of another libww.so
+    mutex was locked or a context in use at the fork: then what is new there is EINVAL. `library` is the path of another libww.so
     than the installed one; messages have the name."""
 
     def __init__(self, kind: int = WOUND_WAIT, mutexes: int = 0, contexts: int = 0, library: Optional[str] = None, name: str = "") -> None:
@@ -529,7 +541,8 @@ class Context(Holder):
         self._of_task.end()
 
     def __repr__(self) -> str:
-        return f"<ww.Context of {self._class.name!r} with {self._library.ww_acquire_mark(self._at)} mutexes>"
+        count = self._library.ww_acquire_mark(self._at)
+        return f"<ww.Context of {self._class.name!r} with {count} mutex{'es' * (count != 1)}>"
 
     def _begin(self, until: Optional[int] = None) -> None:
         if self._library.is_debug:
@@ -581,15 +594,22 @@ class Context(Holder):
     def _is_contended(self) -> bool:
         return bool(self._library.ww_is_contended(self._at))
 
-    def _answer(self, mutex: Mutex, until: Optional[int], call: Any) -> int:
+    def _answer(self, mutex: Mutex, until: Optional[int], name: str) -> int:
         """What this lock call returns in the end."""
-        return _in_slices(functools.partial(call, mutex._at, self._at), until)
+        call = functools.partial(mutex._call(name), mutex._at, self._at)
+        if until is None and len(_mine.contexts) > 1:
+            code = _in_slices(call, time.monotonic_ns() + _LONG)
+            if code != -errno.ETIMEDOUT:
+                return code
+            _mine.check_wait(self, mutex, name == "lock_shared_until")
+        return _in_slices(call, until)
 
     def lock(self, *mutexes: Mutex, timeout: Optional[float] = None) -> None:
         """Acquires all of them, and waits for them; at most for `timeout` seconds (TimeoutError), or until it is cancelled
         (InterruptedError). One that is free is acquired, however late it is. A context that held nothing before backs
         off by itself; any other one may raise Deadlock: then release everything and lock again, best by Class.run. A new context
-        would be the youngest, and give way again. Already: it holds one of them. If it fails, it has released what it acquired here."""
+        would be the youngest, and give way again. Already: it holds one of them, or another context of its thread does, and there is no
+        limit. If it fails, it has released what it acquired here."""
         self._check(*mutexes)
         self._lock_until(mutexes, _until(timeout))
         return _acquired()
@@ -614,7 +634,7 @@ class Context(Holder):
                     if name == "lock_shared_until":
                         read.add(mutex._number.value)
                         self._reads |= read  # Before it is read: so it is for as long as that goes on.
-                    self._told(self._answer(mutex, until, mutex._call(name)), mutex)
+                    self._told(self._answer(mutex, until, name), mutex)
                 return
             except BaseException as error:
                 if mark:

@@ -403,6 +403,7 @@ static void *reads_and_writes(void *arg)
 
 static void child_of_readers(struct ww_acquire_ctx *x, unsigned way)
 {
+	MUST(!ww_shared_mutex_is_locked(&shared[AMONG_THREADS]) && !ww_shared_mutex_is_locked(&shared[AMONG_THREADS + 1]));
 	for (unsigned k = 0; k < AMONG_THREADS; k++) {
 		int r = way % 2 ? ww_shared_mutex_lock(&shared[k], x) : ww_shared_mutex_lock_shared(&shared[k], x);
 

@@ -13,6 +13,7 @@
 #include <sys/wait.h>
 
 /* As in crowd.c, in nanoseconds; and longer than this test may take. */
+_Static_assert(LEASE == 1000000, "a permit lasts a millisecond, as the headers say of it, and of contexts of tasks");
 enum { TIMER_SLACK = 50000, GRACE = 16000000, REST = 16000000, LONGEST_REST = 512000000, MEETING = 1000, AWAKE = 2, MOST_BEGINS = 16 };
 #define FAR ((uint64_t)1 << 50)
 
@@ -406,18 +407,20 @@ static void is_amid(void)
 	if (slept == 1) {
 		over = ww_now();
 		c.pool->crowd.permits[0].ends = over;
-	} else if (c.pool->crowd.permits[0].seat) {
-		usleep(1000);
+	} else {
+		goes_by(LEASE);
 	}
 }
 static void amid_its_context(void)
 {
 	opens(&c, 1);
+	stands();
 	used = &c.pool->seats[7];
 	used->busy |= 1;
 	c.pool->crowd.permits[0] = (struct ww_permit){ ww_now() + FAR, used };
 	asleep = is_amid;
-	MUST(sleeps() && has(0) && taken() >= over + GRACE);
+	MUST(sleeps() && has(0) && taken() == over + GRACE);
+	stands_at.tv_sec = 0;
 	used->busy &= ~1u;
 	c.pool->crowd.permits[0] = (struct ww_permit){ ww_now(), used };
 	MUST(!sleeps() && !ww_class_free(&c));

@@ -10,6 +10,7 @@
 #include "../../admit/class.h"
 #include "ww_poll.h"
 #include "ww_shared.h"
+#include <fcntl.h>
 #include <limits.h>
 #include <sys/mman.h>
 
@@ -124,6 +125,7 @@ void __wrap_free(void *p)
 static DEFINE_WW_CLASS(wound_wait);
 static DEFINE_WD_CLASS(wait_die);
 static struct ww_class *c;
+static int nowhere;
 
 /* Each call that may be the first to use the class. */
 static int opens(unsigned way)
@@ -141,6 +143,7 @@ static int opens(unsigned way)
 
 static void uses_all(void)
 {
+	static const struct timespec past;
 	struct ww_mutex list[4];
 	struct ww_acquire_ctx x;
 
@@ -151,6 +154,8 @@ static void uses_all(void)
 		for (unsigned k = 0; k < 3; k++)
 			MUST(!ww_mutex_lock(&list[k], &x));
 	MUST(!ww_mutex_lock(&list[3], NULL));
+	MUST(ww_mutex_lock_until(&list[3], &x, &past) == -ETIMEDOUT); /* it waits */
+	ww_class_print(c, nowhere);
 	for (unsigned k = 0; k < 4; k++)
 		ww_mutex_unlock(&list[k]);
 	ww_acquire_fini(&x);
@@ -186,6 +191,9 @@ static void reads_all(void)
 		uint32_t number;
 
 		ww_shared_mutex_init(&m, c);
+		refused = made;
+		MUST(ww_number_take(&number, c) == -ENOMEM);
+		refused = -1;
 		MUST(!ww_number_take(&number, c));
 		ww_acquire_init(&x, c);
 		refused = made;
@@ -334,6 +342,7 @@ int main(void)
 {
 	struct ww_class *classes[] = { &wound_wait, &wait_die };
 
+	nowhere = open("/dev/null", O_WRONLY);
 	for (unsigned kind = 0; kind < 2; kind++) {
 		c = classes[kind];
 		for (unsigned way = 0; way < 3; way++) {

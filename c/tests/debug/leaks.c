@@ -76,7 +76,7 @@ static void says(const char *words)
 	}
 }
 
-#define ALL_IN_USE(n) "a wait for a context: class \"it\": all " n " contexts have been in use for 10 seconds; one that isn't " \
+#define ALL_IN_USE(n) "a wait for a context: class \"it\": all contexts (" n ") have been in use for 10 s; one that isn't " \
 		      "ended by ww_acquire_fini stays in use; the oldest "
 static const char all_in_use[] = ALL_IN_USE("1");
 
@@ -222,7 +222,7 @@ static void is_said_of_tasks(void)
 	ends_again();
 }
 
-static const char is_long[] = "a wait: class \"it\": it has lasted 10 seconds; mutex 0 is held by what ";
+static const char is_long[] = "a wait: class \"it\": it has lasted 10 s; mutex 0 is held by what ";
 
 static void *locks(void *arg)
 {

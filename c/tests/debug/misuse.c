@@ -9,6 +9,7 @@
 #endif
 #include "../mutex_test.h"
 #include "../said.h"
+#include "ww_number.h"
 #include "ww_poll.h"
 #include "ww_shared.h"
 #include "ww_table.h"
@@ -32,6 +33,11 @@ static void wrong_class_again_and_again(void)
 	for (unsigned k = 0; k < 9; k++)
 		wrong_class();
 	MUST(ww_debug_faults() == 9);
+}
+static void of_each_class(void)
+{
+	for (unsigned k = 0; k < 2; k++)
+		MUST(HERE(ww_class_limit(k ? &other : &c, 8, 8)) == -EBUSY);
 }
 static void after_done(void)
 {
@@ -60,6 +66,15 @@ static void fini_while_it_reads(void)
 	MUST(!ww_shared_mutex_lock_shared(&read, &x));
 	HERE(ww_acquire_fini(&x));
 }
+static void downgrades_what_it_reads(void)
+{
+	static struct ww_shared_mutex read;
+
+	ww_shared_mutex_init(&read, &c);
+	MUST(!ww_shared_mutex_lock_shared(&read, &x));
+	HERE(ww_shared_mutex_downgrade(&read, &x));
+}
+static void locks_no_number(void) { MUST(HERE(ww_number_lock(UINT32_MAX, &x)) == -EINVAL); }
 static void is_told(void)
 {
 	y.deadlock_inject_countdown = ~0u;
@@ -363,6 +378,13 @@ static void tells_how_often(const char *message)
 	MUST(!*rest);
 }
 
+/* At one line, of each class for the first time. */
+static void tells_of_each_class(void)
+{
+	hear(false, of_each_class);
+	MUST(strstr(said, "class \"c\": ") && strstr(said, "class \"other\": ") && !strstr(said, "times by now"));
+}
+
 /* A release of all that a context holds, its keys too, is no fault. */
 static void releases_keys(void)
 {
@@ -512,12 +534,15 @@ int main(int count, char **words)
 		return 0;
 	}
 	tells(wrong_class, "ww_mutex_lock: the mutex is of another class, or isn't initialized@");
+	tells_of_each_class();
 	tells_how_often("ww_mutex_lock: the mutex is of another class, or isn't initialized@");
 	tells(after_done, "ww_mutex_lock: class \"c\": the context is done: ww_acquire_done comes after its last lock@");
 	tells(tries_after_done, "ww_mutex_lock: class \"c\": the context is done: ww_acquire_done comes after its last lock@");
 	tells(done_twice, "ww_acquire_done: class \"c\": the context is done, or has ended");
 	tells(fini_with_a_mutex, "ww_acquire_fini: class \"c\": the context still holds a mutex (unlock it before, or end by ww_acquire_end)@");
 	tells(fini_while_it_reads, "ww_acquire_fini: class \"c\": the context still reads a mutex (ww_acquire_end_reads ends that)@");
+	tells(downgrades_what_it_reads, "ww_shared_mutex_downgrade: class \"c\": the context doesn't write the mutex@");
+	tells(locks_no_number, "ww_number_lock: class \"c\": the class has no mutex of this number");
 	tells(ends_without_looking, "ww_acquire_fini: class \"c\": the context has to release all (ww_acquire_unlock_all), and still holds a mutex; it got -EDEADLK at $@");
 	tells(another_after_deadlk, "ww_mutex_lock: the mutex is of another class, or isn't initialized@");
 	tells(holds_after_deadlk, "ww_mutex_lock: class \"c\": the context has to release all (ww_acquire_unlock_all), and still holds a mutex; it got -EDEADLK at $@");

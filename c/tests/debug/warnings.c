@@ -185,6 +185,8 @@ static void stays_open(void)
 	ww_mutex_name(&a, "which was destroyed");
 	MUST(!ww_mutex_destroy(&a));
 	ww_mutex_init(&a, &c);
+	ww_mutex_name(&a, "which was taken away");
+	ww_mutex_name(&a, NULL);
 	AT(0, ww_acquire_init(&x, &c));
 	AT(1, ww_mutex_lock(&a, NULL));
 	for (unsigned k = 0; k < 2; k++)
@@ -266,16 +268,37 @@ static void *in_a_ring(void *place)
 	return NULL;
 }
 
+enum { INTERVAL = 20 }; /* in milliseconds, between two checks */
 static void deadlocked(unsigned threads, void *(*work)(void *), unsigned long warnings)
 {
-	ww_debug_check_interval(20);
+	ww_debug_check_interval(INTERVAL);
 	MUST(!pthread_barrier_init(&all_hold, NULL, threads));
 	for (size_t k = 0; k < threads; k++)
 		MUST(!pthread_detach(begin_thread(work, (void *)k)));
 	awaits_warnings(warnings);
 }
 
-static void two_classes(void) { deadlocked(2, by_two_classes, 1); }
+/* By its second check. */
+static void two_classes(void)
+{
+	struct timespec second = in_ms(2 * INTERVAL), now;
+
+	deadlocked(2, by_two_classes, 1);
+	now = in_ms(0);
+	MUST(now.tv_sec > second.tv_sec || (now.tv_sec == second.tv_sec && now.tv_nsec >= second.tv_nsec));
+}
+/* Where nobody checks nothing is told. */
+static void without_checks(void)
+{
+	ww_debug_check_interval(0);
+	MUST(!pthread_barrier_init(&all_hold, NULL, 2));
+	for (size_t k = 0; k < 2; k++)
+		MUST(!pthread_detach(begin_thread(by_two_classes, (void *)k)));
+	awaits_waiter(&a);
+	awaits_waiter(&other);
+	usleep(100000);
+	MUST(!ww_debug_warnings());
+}
 static void two_with_names(void)
 {
 	ww_mutex_name(&a, "another");
@@ -644,7 +667,7 @@ static void tells(uint32_t contexts, uint32_t others, void (*what)(void), const 
 
 #define OTHER_CONTEXT "two contexts of a thread can wait for each other forever; its other one, if it wasn't left without ww_acquire_fini, began at "
 #define BESIDE "deadlocks through locks without a context are not detected; the thread holds a mutex by what began at "
-#define ALL_IN_USE(n) "all " n " contexts have been in use for 10 seconds; one that isn't ended by ww_acquire_fini stays in use; the oldest began at "
+#define ALL_IN_USE(n) "all contexts (" n ") have been in use for 10 s; one that isn't ended by ww_acquire_fini stays in use; the oldest began at "
 #define NONE_LEFT "all are in use, and deadlocks through this wait are not detected; the thread has what began at "
 
 #define CLOCK "is it one of CLOCK_MONOTONIC, and no duration?\n"
@@ -658,8 +681,8 @@ static void tells_warnings(void)
 	tells(4, 4, without_context, "$2: ww_mutex_lock: class \"c\": " BESIDE "$1@\n");
 	tells(4, 4, without_context_beside_one, "$1: ww_mutex_lock: class \"c\": " BESIDE "$0@\n");
 	tells(2, 2, wait_for_context, "$1: a wait for a context: class \"c\": " NONE_LEFT "$0\n");
-	tells(2, 2, for_a_mutex, "$1: a wait: class \"c\": it has lasted 10 seconds; mutex 0 \"what was left\" is held by what began at $0\n");
-	tells(2, 2, for_what_a_thread_left, "$1: a wait: class \"c\": it has lasted 10 seconds; mutex 0 is held by what a thread that has "
+	tells(2, 2, for_a_mutex, "$1: a wait: class \"c\": it has lasted 10 s; mutex 0 \"what was left\" is held by what began at $0\n");
+	tells(2, 2, for_what_a_thread_left, "$1: a wait: class \"c\": it has lasted 10 s; mutex 0 is held by what a thread that has "
 					    "ended left; it began at $0\n");
 	tells(2, 2, of_another_clock, "$0: a time limit: the time is long past: " CLOCK "$1: a time limit: the time is more than a year away: " CLOCK);
 	tells(1, 2, contexts_come_back, "$1: a wait for a context: class \"c\": " ALL_IN_USE("1") "$1\n");
@@ -843,6 +866,7 @@ int main(void)
 	tells(4, 2, for_a_while, "$1: ww_mutex_lock: class \"c\": " BESIDE "$0@\n");
 	tells(2, 2, one_is_awake, "$1: ww_mutex_lock: class \"c\": " BESIDE "$0@\n"
 				  "$1: a wait for a context: class \"c\": " NONE_LEFT "$0\n");
+	hear(2, 2, without_checks);
 	hear(4, 2, one_is_woken);
 	hear(4, 2, no_deadlock);
 	MUST(!strstr(said, "no class detects this deadlock"));

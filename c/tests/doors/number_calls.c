@@ -178,6 +178,24 @@ static void refuses(void)
 	MUST(!ww_mutex_is_locked(mutex_at(n[0])));
 }
 
+/* A number that was never taken: the call that is compiled into callers locks it like any other, and each other call refuses it. */
+static void was_never_taken(void)
+{
+	uint32_t it = 0;
+	int r;
+
+	while (ww_number_at(it, c))
+		it++;
+	begins(&x);
+	begins(&y);
+	r = ww_number_lock(it, &x);
+	MUST((!r && x.acquired == 1) || (r == -EINVAL && !x.acquired));
+	MUST(ww_number_lock(it, &y) == -EINVAL && !ww_number_trylock(it, &y) && !y.acquired);
+	MUST(r || (!ww_number_unlock(it, &x) && !x.acquired));
+	ww_acquire_fini(&x);
+	ww_acquire_fini(&y);
+}
+
 /* In a loop they are listed with the others: duplicates, trylocks, releases one by one, marks, and what is left behind it. */
 /* Memory that is all zero is no context, nor is one that has ended. */
 static void no_context(void)
@@ -652,6 +670,7 @@ static void all_of(struct ww_class *class_)
 	takes();
 	tells(by_a_context, 0);
 	tells(refuses, 9);
+	tells(was_never_taken, 3);
 	no_context();
 	tells(in_a_loop, 1);
 	tells(leaves_an_address, 1);

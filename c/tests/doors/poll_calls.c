@@ -818,6 +818,7 @@ static void beside_threads(void)
 	static struct ww_seek waits;
 	int calls = 0;
 	struct ww_waker w = { count_calls, &many, &calls };
+	struct ww_class_counts counts;
 	unsigned tasks = 0, threads;
 
 	ww_class_init(&many, c == &wait_die, "many");
@@ -826,6 +827,8 @@ static void beside_threads(void)
 	while (ww_acquire_init_poll(&of_tasks[tasks], &many, &waits, &w) != -EINPROGRESS)
 		tasks++;
 	MUST(tasks == many.pool->tasks.open);
+	ww_class_stats(&many, &counts);
+	MUST(counts.context_waiters == 1 && counts.context_waits == 1 && counts.contexts == tasks && counts.task_contexts == tasks);
 	for (threads = 0; !ww_acquire_init_checked(&all[threads], &many);) /* and one waits */
 		threads++;
 	MUST(threads == ALL - tasks);

@@ -75,6 +75,21 @@ static void keeps_its_age(void)
 	ww_acquire_fini(&young);
 }
 
+/* One that was in a loop, and had flags: it is in none, and has none. */
+static void goes_on_by_hand(void)
+{
+	struct ww_retry retry = none;
+	struct ww_acquire_ctx x;
+
+	ww_acquire_init(&x, &c);
+	ww_acquire_flags(&x, WW_IGNORE_DUPLICATES | WW_INTERRUPTIBLE);
+	ww_acquire_begin_tries(&x);
+	MUST(!ww_acquire_suspend(&x, &retry) && !ww_acquire_resume(&x, &c, &retry, NULL) && !x.state && x.gives == x.own);
+	ww_acquire_begin_tries(&x);
+	MUST(!ww_mutex_lock(&a, &x) && ww_mutex_lock(&a, &x) == -EALREADY);
+	MUST(!ww_acquire_end(&x));
+}
+
 /* Of a context that holds `a`: it got -EDEADLK at `at`, which an older one has; both release nothing yet. */
 static void is_told(struct ww_acquire_ctx *young, struct ww_acquire_ctx *old, struct ww_mutex *at)
 {
@@ -389,6 +404,7 @@ static void has_a_bound(void)
 			break;
 	}
 	MUST(r == -EAGAIN && x.own && count == (c.contexts ? c.contexts : 1024 + 256) / 2);
+	MUST(ww_acquire_suspend(&x, &many[0]) == -EAGAIN && in_use() == count + 1); /* what the value names stays, too */
 	ww_acquire_fini(&x);
 	MUST(!ww_retry_drop(&many[0]));
 	ww_acquire_init(&x, &c);
@@ -506,6 +522,7 @@ static void of_class(uint32_t contexts, bool is_wait_die)
 	ww_mutex_init(&b, &c);
 	if (!is_wait_die) {
 		keeps_its_age();
+		goes_on_by_hand();
 		waits_for_readers();
 		waits_first();
 		resumes_by_polls();

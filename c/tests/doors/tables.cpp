@@ -80,6 +80,7 @@ static void ages()
 
 	MUST(age.empty() && a->lock("1", exclusive) == done && b->lock("2", exclusive) == done);
 	MUST(b->lock("1", shared) == table_result::deadlock && b->try_lock("3", shared) == table_result::deadlock);
+	MUST(b->counts().back_offs == 1 && !a->counts().back_offs);
 	other = b->suspend();
 	age = std::move(other);
 	MUST(!age.empty() && other.empty() && b->error() == -EINVAL && b->lock("2", shared) == table_result::misused);
@@ -92,6 +93,7 @@ static void ages()
 		MUST(age.empty() && !again.error() && again.lock("2", exclusive) == done && fresh.lock("4", exclusive) == done);
 		MUST(fresh.lock("2", exclusive) == table_result::deadlock);
 		MUST(again.lock("4", exclusive, 1ms) == table_result::timed_out);
+		MUST(again.counts().back_offs == 1 && again.counts().waited_ns > 1000000 && fresh.counts().back_offs == 1);
 		again.unlock_all();
 		age = again.suspend();
 	}).join();

@@ -5,6 +5,23 @@
  */
 #include "../mutex_test.h"
 #include "ww_number.h"
+#include "ww_retry.h"
+#include <stddef.h>
+
+/* Programs that were compiled before have each field at its place. A change of one changes WW_VERSION_MAJOR. */
+#define AT(type, field, at) (offsetof(struct type, field) == (at))
+_Static_assert(WW_VERSION_MAJOR == 7 &&
+	AT(ww_class, pool, 0) && AT(ww_class, mutexes, 8) && AT(ww_class, contexts, 12) && AT(ww_class, is_wait_die, 16) &&
+	AT(ww_class, permits, 20) && AT(ww_class, name, 24) && sizeof(struct ww_class) == 32 &&
+	AT(ww_mutex, base, 0) && AT(ww_mutex, ctx, 0) && AT(ww_mutex, pool, 8) && AT(ww_mutex, class_, 16) && AT(ww_mutex, alone, 16) &&
+	AT(ww_mutex, older, 16) && AT(ww_mutex, number, 24) && AT(ww_mutex, waiters, 28) && sizeof(struct ww_mutex) == 32 &&
+	AT(ww_acquire_ctx, pool, 0) && AT(ww_acquire_ctx, own, 8) && AT(ww_acquire_ctx, gives, 16) && AT(ww_acquire_ctx, acquired, 24) &&
+	AT(ww_acquire_ctx, state, 28) && AT(ww_acquire_ctx, contending_lock, 32) && AT(ww_acquire_ctx, newest, 40) &&
+	AT(ww_acquire_ctx, prelocked, 48) && AT(ww_acquire_ctx, polled, 48) && AT(ww_acquire_ctx, cancelled, 56) &&
+	AT(ww_acquire_ctx, puts, 60) && AT(ww_acquire_ctx, deadlock_inject_countdown, 64) &&
+	AT(ww_acquire_ctx, deadlock_inject_interval, 68) && AT(ww_acquire_ctx, span, 64) && AT(ww_acquire_ctx, stamp, 72) &&
+	AT(ww_acquire_ctx, words, 72) && AT(ww_acquire_ctx, empty_, 80) && sizeof(struct ww_acquire_ctx) == 96 &&
+	sizeof(struct ww_retry) == 16, "the binary interface of version 7");
 
 static DEFINE_WW_CLASS(wound_wait);
 /* The struct's own name is a name for a class, too. */

@@ -188,8 +188,8 @@ static void uses_other(struct ww_acquire_ctx *z)
 
 static void writes(void *to, const char *message) { MUST(dprintf(*(int *)to, "%s\n", message) > 0); }
 
-/* Runs it in a child, and reads what that says, to standard error or by a function. */
-static int in_child(bool function, void (*what)(void), char *said, size_t room)
+/* Runs it in a child, and reads what that says: to standard error, by a function, or to standard error after one. */
+static int in_child(unsigned by, void (*what)(void), char *said, size_t room)
 {
 	int ends[2], status;
 	ssize_t count, all = 0;
@@ -197,9 +197,11 @@ static int in_child(bool function, void (*what)(void), char *said, size_t room)
 
 	MUST(!pipe(ends) && (child = fork()) >= 0);
 	if (!child) {
-		if (function)
-			ww_report_to(writes, &ends[1]);
-		else
+		if (by)
+			ww_report_to(writes, &ends[by == 1]);
+		if (by == 2)
+			ww_report_to(NULL, NULL);
+		if (by != 1)
 			dup2(ends[1], 2);
 		signal(SIGABRT, SIG_DFL);
 		what();
@@ -218,7 +220,7 @@ static void ends(void (*what)(void), const char *message)
 {
 	char said[4096];
 
-	for (unsigned by = 0; by < 2; by++) {
+	for (unsigned by = 0; by < 3; by++) {
 		int status = in_child(by, what, said, sizeof said);
 
 		if (!WIFSIGNALED(status) || WTERMSIG(status) != SIGABRT || strncmp(said, message, strlen(message))) {
@@ -277,7 +279,7 @@ static void forks(void)
 	for (unsigned k = 0; k < 4; k++)
 		threads[k] = begin_thread(works, NULL);
 	for (unsigned k = 0; k < 20; k++) {
-		int status = in_child(false, goes_on_in_a_child, said, sizeof said);
+		int status = in_child(0, goes_on_in_a_child, said, sizeof said);
 
 		MUST(!status && !said[0]);
 	}
@@ -312,7 +314,7 @@ int main(void)
 	ends(locks_what_is_destroyed, "ww_mutex_lock: the mutex isn't initialized");
 	ends(one_mutex_too_many, "ww_mutex_init: class \"small\": all its mutexes are in use: 65,536, or as many as ww_class_limit set (one");
 	ends(class_of_nothing, "ww_acquire_init: class \"none\": it was in use at a fork, of which this is the child, or was never");
-	ends(loop_while_it_holds, "ww_until_all_locked: the context holds a mutex");
+	ends(loop_while_it_holds, "ww_until_all_locked: class \"c\": the context holds a mutex");
 	uses_other(&z);
 	ends(inits_in_a_child, "ww_mutex_init: class \"c\": it was in use at a fork, of which this is the child");
 	ends(begins_in_a_child, "ww_acquire_init: class \"c\": it was in use at a fork, of which this is the child");
@@ -320,12 +322,12 @@ int main(void)
 	ww_acquire_fini(&z);
 	MUST(!ww_mutex_lock(&b, &y) && ww_mutex_lock(&a, &y) == -EDEADLK);
 	ends(slow_while_it_holds, "ww_mutex_lock_slow: class \"c\": no -EDEADLK of this mutex came before");
-	ends(loop_amid_a_wait, "ww_until_all_locked: the context");
-	ends(unlock_amid_a_wait, "ww_mutex_unlock: its context waits by a poll, or is another one");
+	ends(loop_amid_a_wait, "ww_until_all_locked: class \"own\": the context waits by a poll");
+	ends(unlock_amid_a_wait, "ww_mutex_unlock: class \"own\": its context waits by a poll, or is another one");
 	ends(unlock_all_amid_a_wait, "ww_acquire_unlock_all: class \"own\": the context waits by a poll");
 	ends(fini_amid_a_wait, "ww_acquire_fini: class \"own\": the context waits by a poll");
-	ends(downgrade_amid_a_wait, "ww_shared_mutex_downgrade: the context waits by a poll");
-	ends(end_of_reads_amid_a_wait, "ww_acquire_end_reads: the context waits by a poll");
+	ends(downgrade_amid_a_wait, "ww_shared_mutex_downgrade: class \"own\": the context waits by a poll");
+	ends(end_of_reads_amid_a_wait, "ww_acquire_end_reads: class \"own\": the context waits by a poll");
 	forks();
 	ww_mutex_unlock(&a);
 	ww_mutex_unlock(&b);

@@ -1,12 +1,13 @@
 /*
  * What ww_acquire_unlock_all releases of a context without a loop: all that was acquired since the last unlock of one mutex, in
- * whichever way it was acquired, and all reads.
+ * whichever way it was acquired, the newest first, and all reads.
  *
  * What it can't know, a mutex by number or one from before such an unlock, ends the program with a message that says what to do.
  * Then it is known: after ww_acquire_begin_tries.
  */
 #include "../mutex_test.h"
 #include "ww_number.h"
+#include "ww_poll.h"
 #include "ww_shared.h"
 #include <sys/wait.h>
 
@@ -55,6 +56,32 @@ static void behind_unlocks(void)
 	MUST(!ww_mutex_unlock_checked(&m[2]));
 	MUST(!ww_mutex_lock(&m[1], &x) && !ww_mutex_lock(&m[3], &x));
 	releases_all(&x);
+}
+
+static unsigned woken[MUTEXES], count;
+static void note(void *loop, void *task) { woken[count++] = (unsigned)((struct ww_mutex *)task - (struct ww_mutex *)loop); }
+
+/* Of each mutex another context waits, whose waker says when the mutex was released; in a loop those behind a mark come first. */
+static void newest_first(bool loops)
+{
+	struct ww_acquire_ctx x, y[MUTEXES];
+
+	begins(&x);
+	if (loops)
+		ww_acquire_begin_tries(&x);
+	for (unsigned k = 0; k < MUTEXES; k++) {
+		MUST(!ww_mutex_lock(&m[k], &x));
+		begins(&y[k]);
+		MUST(ww_mutex_lock_poll(&m[k], &y[k], &(struct ww_waker){ note, m, &m[k] }) == -EINPROGRESS);
+	}
+	count = 0;
+	if (loops)
+		ww_acquire_unlock_to(&x, 2);
+	ww_acquire_unlock_all(&x);
+	MUST(count == MUTEXES);
+	for (unsigned k = 0; k < MUTEXES; k++)
+		MUST(woken[k] == MUTEXES - 1 - k && !ww_acquire_end(&y[k]));
+	ww_acquire_fini(&x);
 }
 
 static void with_reads(void)
@@ -138,6 +165,8 @@ int main(void)
 	ww_shared_mutex_init(&shared, &boxes);
 	in_each_way();
 	behind_unlocks();
+	newest_first(false);
+	newest_first(true);
 	with_reads();
 	must_end(from_before_an_unlock, unlocks_all);
 	must_end(by_number, unlocks_all);

@@ -666,7 +666,12 @@ int __wrap_backtrace(void **calls, int most) { return (void)calls, (void)most, 0
 void __wrap_backtrace_symbols_fd(void *const *calls, int count, int to) { (void)calls, (void)count, (void)to; }
 
 /* A thread that rests since the library said so needn't switch: whatever waits at a guard does as its step answers that. */
-int __wrap_sched_yield(void) { return me()->skew += SLICE, 0; }
+int __wrap_sched_yield(void)
+{
+	if (me()->inside)
+		il_fail("it yields inside a guard");
+	return me()->skew += SLICE, 0;
+}
 
 /* Somebody has it for a moment: whoever isn't inside a guard lets others run first. */
 void __wrap_ww_await_guard(unsigned *looks, uint64_t *until) { (void)looks, (void)until, il_yield(); }

@@ -86,7 +86,7 @@ def says_why():
     assert repr(its) == "<ww.Class 'accounts'>" and repr(a).startswith("<unlocked ww.Mutex object of 'accounts' at 0x")
     with its.context() as one:
         one.lock(a)
-        assert "1 mutexes" in repr(one) and repr(a).startswith("<locked ")
+        assert "with 1 mutex>" in repr(one) and repr(a).startswith("<locked ")
         assert why_of(one.lock, a) == f"the context holds this mutex already: {a!r}"
         assert why_of(a.__enter__) == f"this thread holds it already: {a!r}" and why_of(one.downgrade, a) == f"the context doesn't write it: {a!r}"
         assert beside(lambda: why_of(one.lock, a)) == f"it belongs to another thread, and each thread begins its own: {one!r}"
@@ -320,6 +320,47 @@ def refuses_again(kind):
         assert is_raised(ww.Already, context.cancel)
     with a, b:
         assert a.locked() and b.locked()
+
+
+def refuses_itself(kind):
+    """A wait without a limit for another context of the thread, also for what that reads, and first for what is contended; but a read
+    beside that, and an upgrade while another thread reads, are none."""
+    buffers, long = made(kind), ww.mutexes._LONG
+    a, b, other = ww.Mutex(buffers), ww.SharedMutex(buffers), ww.Mutex(buffers)
+    ww.mutexes._LONG = ww.mutexes._SLICE
+
+    def locks(mutex, call="lock"):
+        return buffers.run(lambda context: getattr(context, call)(mutex))
+
+    def waits_for_itself():
+        with a:
+            assert is_raised(ww.Already, locks, a) and is_raised(ww.Already, buffers.run, lambda it: it.lock(other) or it.lock(a))
+        with buffers.context() as context:
+            context.read(b)
+            assert not locks(b, "read") and is_raised(ww.Already, locks, b)
+            context.lock(b)
+            return is_raised(ww.Already, locks, b, "read")
+
+    assert waits_for_itself() and beside(waits_for_itself)
+    has_read, goes_on = threading.Event(), threading.Event()
+
+    def reads_for_long():
+        with buffers.context() as context:
+            context.read(b)
+            has_read.set()
+            goes_on.wait()
+
+    thread = threading.Thread(target=reads_for_long)
+    with buffers.context(), buffers.context() as context:
+        context.read(b)
+        thread.start()
+        has_read.wait()
+        threading.Timer(0.3, goes_on.set).start()
+        context.lock(b)
+        assert goes_on.is_set() and b in context
+    thread.join()
+    ww.mutexes._LONG = long
+    assert not buffers.stats().contexts
 
 
 def refuses_others():
@@ -982,6 +1023,6 @@ waits_in_turn()
 ends_beside_a_cancel()
 forks()
 for each in KINDS:
-    for test in (refuses_mutexes, refuses_again, ends_in_time, is_called_off, hears_interrupts, resolves, backs_off_by_itself, keeps_nothing, reads, holds_what_it_asked_for):
+    for test in (refuses_mutexes, refuses_again, refuses_itself, ends_in_time, is_called_off, hears_interrupts, resolves, backs_off_by_itself, keeps_nothing, reads, holds_what_it_asked_for):
         test(each)
 print("mutexes in Python: each refusal is told, and each wait ends as it should")

@@ -80,3 +80,20 @@ void witness_note_waited(unsigned state)
 	note_waited(&w_context, &w_mutex, false);
 }
 void witness_is_gone(void) { w_loops(0); /*@ check never: \false; */ ww_is_gone(&w_pool, &w_mutex, 0); }
+/* A lock call in a loop of a mutex that is listed. */
+/*@ requires ONE_NODE && (state & WAITS_FIRST) == 0; */
+void witness_lock_in_loop(unsigned state)
+{
+	w_waits_for(state, &w_mutex, 1);
+	/*@ assert here: \valid(node(0)) && \separated(node(0), &w_context, &w_seat, &w_pool) && node(0)->older == node(1); */
+	/*@ check never: \false; */
+	ww_lock_in_loop(&w_mutex, &w_context, &w_how);
+}
+/*@ requires ONE_NODE; */
+void witness_lock_and_note(unsigned state)
+{
+	w_waits_for(state, &w_mutex, 1);
+	/*@ assert here: \valid(node(0)) && \separated(node(0), &w_context, &w_seat, &w_pool) && node(0)->older == node(1); */
+	/*@ check never: \false; */
+	lock_and_note(&w_mutex, &w_context, &w_how);
+}

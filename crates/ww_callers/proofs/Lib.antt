@@ -22,3 +22,4 @@ pub mod Passing
 pub mod Looked
 pub mod Data
 pub mod HandedOver
+pub mod Applied

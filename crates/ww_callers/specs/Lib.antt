@@ -7,3 +7,4 @@ pub mod Drives
 pub mod Handing
 pub mod Witness
 pub mod Data
+pub mod Uses

@@ -5,4 +5,5 @@
 pub mod drives;
 pub mod exclusion;
 pub mod handing;
+pub mod uses;
 pub mod witness;

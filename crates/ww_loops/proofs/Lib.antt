@@ -9,3 +9,4 @@ pub mod Told
 pub mod Wanting
 pub mod Idling
 pub mod Claiming
+pub mod Applied

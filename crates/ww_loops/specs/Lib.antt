@@ -3,3 +3,4 @@ pub mod Calls
 pub mod Loops
 pub mod Witness
 pub mod Wanting
+pub mod Uses

@@ -5,4 +5,5 @@
 pub mod calls;
 pub mod contexts;
 pub mod loops;
+pub mod uses;
 pub mod witness;

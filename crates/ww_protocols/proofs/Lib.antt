@@ -20,3 +20,4 @@ pub mod Tickets
 pub mod Queue
 pub mod ClassesKept
 pub mod ClassRuns
+pub mod Applied

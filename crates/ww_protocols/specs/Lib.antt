@@ -13,3 +13,4 @@ pub mod Seat
 pub mod Class
 pub mod Seats
 pub mod Witness
+pub mod Uses

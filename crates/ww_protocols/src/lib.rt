@@ -6,4 +6,5 @@
 pub mod handing;
 pub mod readers;
 pub mod seats;
+pub mod uses;
 pub mod witness;
