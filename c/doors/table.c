@@ -485,6 +485,7 @@ static int wait_for(const struct asked *asked, struct use *u, struct ww_table_ho
 
 	if (r)
 		return settle(asked, u, r);
+	asked->me->told = NULL; /* an -EDEADLK that comes now is another one */
 	asked->me->polled = how->by == WW_TABLE_POLLS ? u : NULL;
 	do {
 		r = await_refused(asked, how);

@@ -465,6 +465,8 @@ static void not_for_another_key(enum ww_table_mode mode)
 	begins();
 	MUST(!lock(&a, "1", mode, &try_it) && !writes(&b, "2") && lock(&b, "1", WW_TABLE_EXCLUSIVE, NULL) == -EDEADLK && !unlock(&b, "2"));
 	MUST(!unlock(&a, "1") && !lock(&a, "3", mode, &try_it) && !lock(&b, "1", WW_TABLE_EXCLUSIVE, &poll) && !unlock(&b, "1"));
+	/* with nothing held it waits for the one by the same mutex */
+	MUST(mode == WW_TABLE_SHARED || (lock(&b, "3", WW_TABLE_SHARED, &poll) == -EINPROGRESS && !ww_acquire_end_wait(&b)));
 	MUST(!writes(&b, "2") && lock(&b, "3", WW_TABLE_EXCLUSIVE, NULL) == -EDEADLK && !unlock(&b, "2"));
 	MUST(lock(&b, "3", WW_TABLE_EXCLUSIVE, &poll) == -EINPROGRESS && !unlock(&a, "3") && woken == 1 && !writes(&a, "4"));
 	MUST(!lock(&b, "3", WW_TABLE_EXCLUSIVE, &poll) && !unlock(&a, "4") && !lock(&a, "5", mode, &try_it));
