@@ -102,7 +102,9 @@ fn a_deadlock() {
         fresh.lock("4", Exclusive).unwrap();
         assert_eq!(fresh.lock("2", Exclusive), Err(Error::Deadlock));
         assert_eq!(b.lock_until("4", Exclusive, soon()), Err(Error::TimedOut));
-        assert!(b.counts().back_offs == 2 && b.counts().waited > Duration::from_millis(1) && fresh.counts().back_offs == 1);
+        assert!(
+            b.counts().back_offs == 2 && b.counts().waited > Duration::from_millis(1) && fresh.counts().back_offs == 1
+        );
         drop(fresh);
         assert_eq!(b.lock("4", Exclusive), Ok(Granted::Now));
     });
