@@ -154,7 +154,8 @@ def _runs_loop() -> bool:
 def _may_wait(until: Optional[int]) -> None:
     """Raises where a wait would stop a loop: what it waits for may be held by one of the loop's tasks."""
     if _runs_loop() and (until is None or time.monotonic_ns() < until):
-        raise RuntimeError("this would stop the running event loop: begin the context by `async with`, and await its lock")
+        how = "begin the context by `async with`, and await its lock; or asyncio.to_thread(table.run, body)"
+        raise RuntimeError(f"this would stop the running event loop: {how}")
 
 
 class _Acquired:

@@ -222,6 +222,7 @@ class TaskContext(Holder):
         self._event: Optional[_Event] = None
         self._is_back = False  # Its waker was taken back.
         self._got_deadlock = False  # It has yet to wait for what it collided with, once it has released all.
+        self._collided: Optional[Tuple[int, bool]] = None  # The number of that, and whether it was to be read.
         self._is_over = False
         calls = functools.partial(self._library.ww_seek_end, ctypes.byref(self._seek)), functools.partial(self._library.ww_acquire_end, self._at)
         # It makes each of them once, in this order: no line of Python is run, which a signal could interrupt.
@@ -230,13 +231,9 @@ class TaskContext(Holder):
 
     @classmethod
     async def holding(cls, mutex: Mutex) -> TaskContext:
-        """A context that holds this one, for `async with mutex`. Already: one of the task's own, around it, does."""
-        context, around = cls(mutex._class), _within()
-        while around:
-            it = around[0]()
-            if it and it._task == context._task and mutex in it:
-                raise Already(errno.EALREADY, f"this task holds it already: {mutex!r}")
-            around = around[1]
+        """A context that holds this one, for `async with mutex`."""
+        context = cls(mutex._class)
+        context._check_wait(mutex._number.value, False)
         try:
             await context.begin()
             await context.lock(mutex)
@@ -244,6 +241,17 @@ class TaskContext(Holder):
             context.end()
             raise
         return context
+
+    def _check_wait(self, number: int, reads: bool) -> None:
+        """Already, where another context of this task, around this one, holds the mutex; a read waits for who writes."""
+        around, task, library = _within(), id(asyncio.current_task()), self._library
+        at = library.ww_number_at(number, self._class._at)
+        while around:
+            it = around[0]()
+            if it and it is not self and it._task == task and it._class is self._class:
+                if library.ww_shared_mutex_is_written_by(at, it._at) or not reads and library.ww_shared_mutex_is_read_by(at, it._at):
+                    raise Already(errno.EALREADY, f"another context of this task holds the mutex: {it!r}")
+            around = around[1]
 
     def _is_contended(self) -> bool:
         return self._got_deadlock
@@ -253,8 +261,11 @@ class TaskContext(Holder):
         self._got_deadlock &= not is_locked  # What it collided with needn't be awaited any more.
         return is_locked
 
-    async def _wait(self, poll: Callable[[Any], int], until: Optional[int], seek: Any = None, resumes: bool = False) -> int:
-        """What the call returns in the end. If this is cancelled, or the time comes, the wait has ended; what it resumes is suspended."""
+    async def _wait(
+        self, poll: Callable[[Any], int], until: Optional[int], seek: Any = None, resumes: bool = False, check: Any = None
+    ) -> int:
+        """What the call returns in the end; `check` raises if the wait is in vain. If this is cancelled, or the time comes, the wait has
+        ended; what it resumes is suspended."""
         wakes = _Wakes.of(self._library)
         while True:
             waker, at, future = wakes.begin(self._at, self._seek)
@@ -266,7 +277,9 @@ class TaskContext(Holder):
                 code = poll(ctypes.byref(waker))
                 if code != -errno.EINPROGRESS:
                     return code
-                if until is not None:
+                if until is None and check:
+                    check()
+                elif until is not None:
                     late = (until - time.monotonic_ns()) / 10**9
                     timer = future.get_loop().call_later(late, _is_late, future)
                 told(await future)
@@ -332,8 +345,11 @@ class TaskContext(Holder):
     async def _asks(self, mutex: Mutex, shared: str, until: Optional[int]) -> None:
         """Locks it, or with "_shared" reads it."""
         if mutex._call("trylock" + shared)(mutex._at, self._at) != 1:
-            code = await self._wait(functools.partial(mutex._call(f"lock{shared}_poll"), mutex._at, self._at), until)
-            self._got_deadlock |= code == -errno.EDEADLK
+            asked = mutex._number.value, bool(shared)
+            poll = functools.partial(mutex._call(f"lock{shared}_poll"), mutex._at, self._at)
+            code = await self._wait(poll, until, check=functools.partial(self._check_wait, *asked))
+            if code == -errno.EDEADLK:
+                self._got_deadlock, self._collided = True, asked
             self._told(code, mutex)
 
     async def lock(self, *mutexes: Mutex, timeout: Optional[float] = None) -> None:
@@ -359,7 +375,8 @@ class TaskContext(Holder):
             acquired: List[Mutex] = []
             try:
                 if held_nothing and self._got_deadlock:
-                    told(await self._wait(functools.partial(self._library.ww_shared_mutex_await_poll, self._at), until))
+                    first = functools.partial(self._library.ww_shared_mutex_await_poll, self._at)
+                    told(await self._wait(first, until, check=self._collided and functools.partial(self._check_wait, *self._collided)))
                     self._got_deadlock = False
                 for mutex in mutexes:
                     if shared:

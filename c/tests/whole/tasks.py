@@ -81,12 +81,16 @@ async def has_a_time(kind):
     await begin_all(buffers, 2)
 
 
-def raises(kind, call, *words, **named):
+def raised(kind, call, *words, **named):
     try:
         call(*words, **named)
-    except kind:
-        return True
-    return False
+    except kind as error:
+        return error
+    return None
+
+
+def raises(kind, call, *words, **named):
+    return raised(kind, call, *words, **named) is not None
 
 
 async def awaits(lock, mutex):
@@ -104,7 +108,7 @@ async def why(awaited):
 async def stops_no_loop():
     """A thread's call that would have to wait raises where a loop runs, since it may wait for a task of that; others are made."""
     buffers = made(contexts=2)
-    a, b = ww.Mutex(buffers), ww.SharedMutex(buffers)
+    a, b, table = ww.Mutex(buffers), ww.SharedMutex(buffers), ww.Table(buffers)
     async with buffers.context() as one:
         await one.lock(a, b)
         assert raises(RuntimeError, a.acquire) and raises(RuntimeError, a.acquire, timeout=LIMIT) and not a.acquire(False)
@@ -118,6 +122,9 @@ async def stops_no_loop():
             assert "begin it by `async with`" in str(await why(awaits(two.lock, a))) and a in two
     with a, b:
         assert a.locked()
+    with table.transaction() as one, table.transaction() as two:
+        one.lock("k")
+        assert "asyncio.to_thread(table.run, body)" in str(raised(RuntimeError, two.lock, "k"))
     await begin_all(buffers, 2)
 
 
@@ -261,6 +268,12 @@ async def holds_one(kind):
         async with a, b:
             for mutex in (a, b):
                 assert await fault_of(mutex.__aenter__()) == errno.EALREADY and mutex.locked()
+                assert await fault_of(buffers.run_async(lambda it: it.lock(mutex))) == errno.EALREADY and mutex.locked()
+            assert await fault_of(buffers.run_async(lambda it: it.read(b))) == errno.EALREADY
+        async with buffers.context() as reads:
+            await reads.read(b)
+            assert await buffers.run_async(lambda it: it.read(b)) is None
+            assert await fault_of(buffers.run_async(lambda it: it.lock(b))) == errno.EALREADY and b in reads
             raise KeyError
 
     await asyncio.wait_for(asyncio.gather(*(adds() for _ in range(3))), LIMIT)
@@ -887,7 +900,7 @@ def frees_cycles():
         await buffers.one.lock(*buffers.all)
         if waits:
             buffers.two = await buffers.context().__aenter__()
-            buffers.wait = buffers.two.lock(*buffers.all)
+            buffers.wait = buffers.two.lock(*buffers.all, timeout=LIMIT)  # without a limit it would get Already
             buffers.wait.send(None)
 
     library.ww_class_free = lambda at: told.append(free(at))
