@@ -58,7 +58,7 @@ struct of_seat {
 	uint32_t has, spares; /* how many keys the context has, and how many spare entries there are */
 	bool is_in;	      /* a call of the context locks a key, or its poll waits */
 	struct ww_mutex *told;	/* the mutex of the key at which the context got -EDEADLK last, */
-	uint32_t told_at;	/* and how often its number had been put back by then */
+	uint32_t told_at, told_by; /* how often its number had been put back by then, and the number of the lock: that mutex's, or a slot's */
 	struct of_seat *other;	/* the next one in its list of owners */
 	uint64_t owner;
 	struct ww_retry retry;	/* the context of an owner that has left; `x` is that of one that hasn't */
@@ -336,6 +336,7 @@ static int settle(const struct asked *asked, struct use *u, int r)
 		u->of->is_told = true;
 		asked->me->told = &u->of->lock->mutex_;
 		asked->me->told_at = puts_of(&asked->of->pool->numbers, asked->me->told->number);
+		asked->me->told_by = asked->x->own->told;
 	}
 	r = end_attempt(asked, u, r);
 	pthread_mutex_unlock(&b->lock);
@@ -437,7 +438,7 @@ static struct ww_how way_of(const struct asked *asked, const struct ww_table_how
 /* The mutex of the key at which the context got its last -EDEADLK, or NULL if it wasn't one of this table; and whether nobody has it. */
 static struct ww_mutex *told_last(const struct of_seat *me, const ww_seat *s)
 {
-	return me->told && __atomic_load_n(&s->met.target, __ATOMIC_RELAXED) == me->told->number + 1 ? me->told : NULL;
+	return me->told && s->told == me->told_by ? me->told : NULL;
 }
 static bool key_has_ended(const struct of_seat *me, const ww_seat *s)
 {
