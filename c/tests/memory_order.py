@@ -390,7 +390,7 @@ TABLE = {
         "begin_wait": "store rel", "end_wait": "store rlx", "is_in_cycle": "load rlx", "awaited_by": "load acq",
     },
     # Hints for who asks who is in the way, and looks behind a label whether that which led to it is still so.
-    "target": {"note_meeting": "store rlx", "note_asked": "store rlx", "asked_by": "load rlx", "told_last": "load rlx"},
+    "target": {"note_meeting": "store rlx", "note_asked": "store rlx", "asked_by": "load rlx"},
     "label": {"forget_age": "store rlx", "ww_acquire_label": "store rlx", "user_by": "load acq"},
     # Counts for limiters.
     "given": {"return_otherwise": "store rlx", "contexts_ended": "load rlx"},

@@ -16,8 +16,6 @@ struct one {
 	bool begun, told, polls; /* told: it got -EDEADLK, and hasn't locked anything since */
 	enum has has[TABLES][KEYS], mode;
 	int table, key; /* with the mode, what its poll asks for */
-	bool waited[TABLES][KEYS]; /* it has waited for the key, or got -EDEADLK there; .. */
-	bool waited_before;	   /* .. or did so in a table that was closed since, or gave up a wait when it held nothing */
 };
 
 static struct ww_class c;
@@ -75,44 +73,10 @@ static void gets(struct one *me, int t, int k, enum has mode)
 	me->told = false;
 }
 
-static void is_told(struct one *me, int t, int k)
+static void is_told(struct one *me)
 {
 	MUST(has_any(me));
-	me->told = me->waited[t][k] = true;
-}
-
-/* Whether another context has the key, or waits for it. */
-static bool is_in_use(const struct one *me, int t, int k)
-{
-	for (const struct one *it = all; it < all + CONTEXTS; it++)
-		if (it != me && (it->has[t][k] || (it->polls && it->table == t && it->key == k)))
-			return true;
-	return false;
-}
-
-/*
- * Whether another context's poll may have the slot of a reader whose reads have ended: it waited for these, to write any key, and has
- * the slot until it goes on. So may wait who reads by that slot, or writes what was read by it before.
- */
-static bool may_have_slot(const struct one *me)
-{
-	for (const struct one *it = all; it < all + CONTEXTS; it++)
-		if (it != me && it->polls && it->mode == EXCLUSIVE)
-			return true;
-	return false;
-}
-
-/*
- * A context that holds nothing may wait first for a key at which it got -EDEADLK, also inside of a call. A table that didn't make that
- * -EDEADLK, or was opened since, knows no key, and waits for the lock.
- */
-static bool may_wait(const struct one *me, int t, int k)
-{
-	bool may = is_in_use(me, t, k) || may_have_slot(me) || (me->waited_before && !has_any(me));
-
-	for (int it = 0; it < TABLES * KEYS; it++)
-		may |= !has_any(me) && me->waited[it / KEYS][it % KEYS] && (it / KEYS != t || is_in_use(me, t, it % KEYS));
-	return may;
+	me->told = true;
 }
 
 /* ---- calls ---- */
@@ -145,16 +109,15 @@ static void asks(struct one *me, int t, int k, enum has mode)
 		gets(me, t, k, mode);
 	} else if (r == -EDEADLK) {
 		MUST(!tries);
-		is_told(me, t, k);
+		is_told(me);
 	} else if (r == -EINPROGRESS) {
-		MUST(!tries && !ends && may_wait(me, t, k));
-		me->polls = me->waited[t][k] = true;
+		MUST(!tries && !ends);
+		me->polls = true;
 		me->table = t;
 		me->key = k;
 		me->mode = mode;
 	} else {
 		MUST((tries && r == -EBUSY) || (ends && r == -ETIMEDOUT) || (room && r == -ENOSPC));
-		me->waited_before |= !tries && !has_any(me);
 	}
 }
 
@@ -178,9 +141,8 @@ static void polls_on(struct one *me, int t, int k)
 	if (r == -EINPROGRESS)
 		return;
 	me->polls = false;
-	me->waited_before |= !has_any(me) && (r || how < 6);
 	if (r == -EDEADLK) {
-		is_told(me, me->table, me->key);
+		is_told(me);
 	} else if (how >= 6 && !r) {
 		gets(me, me->table, me->key, me->mode);
 	} else {
@@ -224,14 +186,8 @@ static void closes(int t)
 	for (const struct one *it = all; it < all + CONTEXTS; it++)
 		is_used |= keys_in(it, t) || (it->polls && it->table == t);
 	MUST(ww_table_close(tables[t]) == (is_used ? -EBUSY : 0));
-	if (is_used)
-		return;
-	MUST(!ww_table_open(&tables[t], &c, room));
-	for (struct one *it = all; it < all + CONTEXTS; it++)
-		for (int k = 0; k < KEYS; k++) {
-			it->waited_before |= it->waited[t][k];
-			it->waited[t][k] = false;
-		}
+	if (!is_used)
+		MUST(!ww_table_open(&tables[t], &c, room));
 }
 
 static void releases(struct one *me, int t, int k, unsigned way)
@@ -298,8 +254,6 @@ int main(int count, char **words)
 	unsigned seeds = count > 1 ? (unsigned)strtoul(words[1], NULL, 10) : 400;
 	unsigned first = count > 2 ? (unsigned)strtoul(words[2], NULL, 10) : 0;
 
-	seed = 8418; /* a context tried another key between -EDEADLK and the next lock call */
-	makes();
 	for (seed = first; seed - first < seeds; seed++)
 		makes();
 	printf("%u seeds\n", seeds);
