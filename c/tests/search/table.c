@@ -409,6 +409,8 @@ const struct il_program il_programs[] = {
 	{ "table-again", { "[A][a]", "[a][A]" }, CONTEXTS(4), 1 },
 	{ "table-cross", { "[AB]", "[BA]" }, CONTEXTS(4), 2 },
 	{ "table-cross-die", { "[AB]", "[BA]" }, CONTEXTS(4) | WAIT_DIE, 2 },
+	{ "table-told", { "[A1~2B]", "~1[B2A]" }, CONTEXTS(4), 2 },
+	{ "table-told-reader", { "[a1~2B]", "~1[b2A]", "~1[A]" }, CONTEXTS(4), 1 },
 	{ "table-raise", { "[aA]", "[aA]" }, CONTEXTS(4), 2 },
 	{ "table-tree", { "[AC-B]", "[CBA-]" }, CONTEXTS(4), 1 },
 	{ "table-tree-first", { "[ABC+A]", "[CBA++]" }, CONTEXTS(4), 1 },
