@@ -46,7 +46,7 @@ proofs: $(if $(filter yes,$(PROOFS)),$(PROVED))
 READS_format := checks/check_format
 READS_refuse_abuses := checks/refuse_abuses checks/abuses.blocks
 READS_scene := checks/check_scene checks/scenes.py checks/endless.py checks/loops.py
-READS_try_using := checks/try_using docs/RATTLE.md docs/bank_tests.rt tools/crates.bash
+READS_try_using := checks/try_using docs/RATTLE.md docs/bank_tests.txt tools/crates.bash
 sources: $(call asked,$(SOURCES))
 list:
 	@printf '%s\n' $(QUICK) $(call asked,$(SOURCES)) $(if $(filter yes,$(PROOFS)),$(PROVED)) made_library made_program $(OF_C) $(OF_PROGRAM)
