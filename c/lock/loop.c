@@ -215,7 +215,7 @@ static int wait_first(struct ww_acquire_ctx *x, struct ww_how how)
 	return r;
 }
 
-static int lock_and_note(struct ww_mutex *m, struct ww_acquire_ctx *x, const struct ww_how *how)
+static inline __attribute__((always_inline)) int lock_and_note(struct ww_mutex *m, struct ww_acquire_ctx *x, const struct ww_how *how)
 {
 	int r = ww_lock_by(m, x, how);
 

@@ -437,7 +437,7 @@ int ww_mutex_unlock_checked(struct ww_mutex *m)
 COLD static void end_unheld(const struct ww_mutex *m, int r)
 {
 	NOTE(LOCK_UNHELD, .mutex = m);
-	end_of(r == -EBUSY ? ww_find_class_of(m) : NULL, "ww_mutex_unlock", r == -EBUSY ? "its context waits by a poll, or is another one" :
+	end("ww_mutex_unlock", r == -EBUSY ? "its context waits by a poll, or is another one" :
 		"nobody holds the mutex, or it is a copy of that which is held");
 }
 

@@ -323,7 +323,7 @@ int main(void)
 	MUST(!ww_mutex_lock(&b, &y) && ww_mutex_lock(&a, &y) == -EDEADLK);
 	ends(slow_while_it_holds, "ww_mutex_lock_slow: class \"c\": no -EDEADLK of this mutex came before");
 	ends(loop_amid_a_wait, "ww_until_all_locked: class \"own\": the context waits by a poll");
-	ends(unlock_amid_a_wait, "ww_mutex_unlock: class \"own\": its context waits by a poll, or is another one");
+	ends(unlock_amid_a_wait, "ww_mutex_unlock: its context waits by a poll, or is another one");
 	ends(unlock_all_amid_a_wait, "ww_acquire_unlock_all: class \"own\": the context waits by a poll");
 	ends(fini_amid_a_wait, "ww_acquire_fini: class \"own\": the context waits by a poll");
 	ends(downgrade_amid_a_wait, "ww_shared_mutex_downgrade: class \"own\": the context waits by a poll");
