@@ -704,6 +704,18 @@ def differences(folder):
                 yield f"{field}, in {name}: {of.get(name)}, and in the table {due.get(name)}"
 
 
+def unseen(folder):
+    """How many orders stand in the sources that no row of the table has. Any other one differs from its row if it is made weaker."""
+    has = sum(len(re.findall(r"\b(?:rlx|acq|rel|ar|sc)\b", text)) for by in accesses(folder).values() for text in by.values())
+    stand = 0
+    for source in (it for pattern in SOURCES for it in glob.glob(os.path.join(folder, pattern))):
+        with open(source, encoding="utf-8") as file:
+            code = re.sub(r"/\*.*?\*/|__atomic_signal_fence\(.*?\)", "", file.read(), flags=re.DOTALL)
+        stand += code.count("__ATOMIC_")
+    if has != stand:
+        yield f"{stand} memory orders stand in the sources, and {has} of these are compared with the table"
+
+
 def shared_words(folder):
     """What several threads write, by the sources: by __atomic_* or count(), or under a lock; but not of the debug library."""
     seen = set()
@@ -1166,7 +1178,7 @@ def ours():
 
 def main():
     folder = sys.argv[1] if len(sys.argv) > 1 else os.path.join(os.path.dirname(os.path.abspath(__file__)), "..")
-    failed = [*differences(folder), *uncovered(folder), *unlooked(folder), *untold(folder), *unshaken(folder)]
+    failed = [*differences(folder), *unseen(folder), *uncovered(folder), *unlooked(folder), *untold(folder), *unshaken(folder)]
     failed += [f"{name}: another answer than is known" for name, due, *words in known() if asks(*words) != due]
     failed += [f"{name}: this isn't found wrong" for name, words in wrong() if asks(*words) == RIGHT]
     count = 0
