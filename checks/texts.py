@@ -1,6 +1,7 @@
 """What the checks of texts share: where these stand, how they are read, and how what is wrong is told."""
 import glob
 import os
+import subprocess
 import sys
 
 TOP = os.path.dirname(os.path.dirname(os.path.abspath(__file__)))
@@ -13,6 +14,14 @@ def read(path):
 
 def found(*patterns):
     return [path for pattern in patterns for path in sorted(glob.glob(pattern, root_dir=TOP, recursive=True))]
+
+
+def are_of_base(*paths):
+    """Whether these are as in the commit BASE, of which the gate was green: then a check that always says the same of them has said so."""
+    def git(*words):
+        return subprocess.run(["git", *words, "--", *paths], cwd=TOP, capture_output=True, text=True)
+    base = not os.environ.get("WHOLE") and os.environ.get("BASE")
+    return bool(base) and git("diff", "--quiet", base).returncode == 0 and not git("ls-files", "-o", "--exclude-standard").stdout
 
 
 def end(faults, said):

@@ -186,8 +186,10 @@ export TSAN_OPTIONS = suppressions=tests/library.supp
 one: $(OUT)/$(T)
 	$(RUN) $(OUT)/$(T) $(WORDS_$(T))
 
-# All that needs no sanitizer and no Python, as programs of another processor too: without those in C++ where its compiler isn't here.
-HERE = $(filter-out $(if $(shell command -v $(CXX)),,$(IN_CXX)),$(PLAIN))
+# All that needs no sanitizer and no Python: without those in C++ where its compiler isn't here. Of another processor's programs those that
+# come to what differs there: the proved assembly, atomic accesses, sleeps, forks and backtraces. What C++ and other ways to compile make of
+# the same calls doesn't, nor does a model with which one thread's calls are compared.
+HERE = $(filter-out $(if $(shell command -v $(CXX)),,$(IN_CXX)) $(if $(CROSS),$(IN_CXX) poll_calls_% table_model drawn_calls),$(PLAIN))
 SANITIZED = $(patsubst %,%_sanitized,$(TESTS) $(DEBUG_TESTS) examples/paths examples/mesh)
 THREADED = $(patsubst %,%_threads,$(filter-out abuse wide $(ONE_THREAD),$(TESTS)) hpp tables $(filter-out $(patsubst %,examples/%,port asleep demo),$(EXAMPLES)) examples/mesh race)
 # Where one thread does all no two can race.
@@ -216,7 +218,7 @@ endif
 
 check: check-interleave check-interleave-debug check-python check-tables check-picture check-objects
 check: $(call runs,$(SANITIZED) $(SHAKEN) $(TOLD) closed)
-check check-plain: all $(call runs,$(HERE))
+check check-plain: $(if $(CROSS),,all) $(call runs,$(HERE))
 	$(call without,$(CXX),the tests in C++)
 soon: BOUND = -b 0
 soon: check-tables check-interleave $(call runs,$(SOON))
@@ -229,10 +231,11 @@ check-python: $(if $(shell command -v python3),$(call runs,$(IN_PYTHON)))
 	$(call without,python3,what is written in Python)
 
 # The memory orders of the sources, and what threads share, are those of tables, and enough for what they order; each
-# mutant can still be made; each source needs only what comes before it; and the steps are told as they are proved.
+# mutant can still be made; each source needs only what comes before it; and the steps are told as they are proved. (The gate makes these
+# two by themselves.)
 check-tables:
-	$(or $(call without,python3,the tables),$(call told,for it in tests/memory_order.py 'tests/search/kills -a' \
-		$(wildcard ../checks/check_layers ../checks/check_prototypes); do $(LIMITED) python3 $$it || exit 1; done))
+	$(or $(call without,python3,the tables),$(call told,for it in tests/memory_order.py 'tests/search/kills -a $(BASE:%=--changed %)' \
+		$(if $(WW_GATE),,$(wildcard ../checks/check_layers ../checks/check_prototypes)); do $(LIMITED) python3 $$it || exit 1; done))
 
 # What the debug library tells of who waits, as a picture: with its threads numbered as they come, and without the numbers of lines.
 NUMBERED = awk '{ gsub(/[.]c:[0-9]+/, ".c"); gsub(/waits [0-9.]+ s/, "waits"); said = ""; \
