@@ -60,6 +60,8 @@ WORDS_torture_shaken = 400
 WORDS_moves_threads = 21
 WORDS_moves_shaken = 100
 WORDS_drawn_calls_debug = 3
+WORDS_drawn_calls_threads = 3
+WORDS_table_model_threads = 40
 WORDS_table_any_sanitized = 4000
 WORDS_table_any_threads = 1000
 WORDS_crowd_threads = 1000
@@ -186,10 +188,9 @@ export TSAN_OPTIONS = suppressions=tests/library.supp
 one: $(OUT)/$(T)
 	$(RUN) $(OUT)/$(T) $(WORDS_$(T))
 
-# All that needs no sanitizer and no Python: without those in C++ where its compiler isn't here. Of another processor's programs those that
-# come to what differs there: the proved assembly, atomic accesses, sleeps, forks and backtraces. What C++ and other ways to compile make of
-# the same calls doesn't, nor does a model with which one thread's calls are compared.
-HERE = $(filter-out $(if $(shell command -v $(CXX)),,$(IN_CXX)) $(if $(CROSS),$(IN_CXX) poll_calls_% table_model drawn_calls),$(PLAIN))
+# All that needs no sanitizer and no Python: without those in C++ where its compiler isn't here. Of another processor's programs only those
+# in C, each compiled in one way: C++, and other ways to compile a test, make the same calls of what differs there.
+HERE = $(filter-out $(if $(shell command -v $(CXX)),,$(IN_CXX)) $(if $(CROSS),$(IN_CXX) poll_calls_%),$(PLAIN))
 SANITIZED = $(patsubst %,%_sanitized,$(TESTS) $(DEBUG_TESTS) examples/paths examples/mesh)
 THREADED = $(patsubst %,%_threads,$(filter-out abuse wide $(ONE_THREAD),$(TESTS)) hpp tables $(filter-out $(patsubst %,examples/%,port asleep demo),$(EXAMPLES)) examples/mesh race)
 # Where one thread does all no two can race.
