@@ -1,5 +1,5 @@
-"""Whether what the contracts assume can be so: witnesses with real objects (checks/wp/witness), of which each predicate is proved, and
-which call each function that is proved; and a probe for the axioms, and for each function that is assumed, which must not prove \\false."""
+"""Whether what the contracts assume can be so: a probe for each predicate and each contract, which must not prove \\false, and witnesses with
+real objects (checks/wp/witness), of which all that is asked for is proved."""
 import os
 import re
 
@@ -17,6 +17,11 @@ def predicates_of(unit):
         for it in re.finditer(rf"\bpredicate (\w+)(?:\{{([\w, ]+)\}})?(?:\(([^()]*)\))? =\s+({BODY});", without_comments(text)):
             found[it[1]] = (name, [label.strip() for label in (it[2] or "").split(",") if label.strip()], it[3] or "", " ".join(it[4].split()))
     return found
+
+
+def predicate_in(text, name):
+    """The body of a predicate without labels, by its name."""
+    return " ".join(re.search(rf"\bpredicate {name}(?:\([^()]*\))? =\s+({BODY});", without_comments(text))[1].split())
 
 
 def quantified(body):
@@ -94,6 +99,25 @@ def expanded(text, macros):
     return text
 
 
+def probe_of(name, it, defined):
+    """A function that has the predicate to go by, and says that this can't be."""
+    _, labels, parameters, body = it
+    parameters = re.sub(r"\binteger\b", "int", parameters)
+    arguments = [re.search(r"(\w+)$", part.strip())[1] for part in parameters.split(",") if part.strip()]
+    call = name + (f"({', '.join(arguments)})" if arguments else "")
+    asks = [f"/*@ assert hint: {text}; */" for text in (hints([body], parameters, defined) if not labels else [])]
+    if len(labels) < 2:
+        head = f"/*@ requires {call}; ensures probe: \\false; */\nvoid probe_{name}({parameters or 'void'})\n"
+        return head + "{\n" + "".join(f"\t{ask}\n" for ask in asks) + "}\n"
+    ghosts = "core_has, core_holds, core_told, core_told_of, core_call, core_of, core_context"
+    pointers = [re.search(r"(\w+)$", part.strip())[1] for part in parameters.split(",") if "*" in part]
+    changes = ", ".join([ghosts] + [f"*{it}" for it in pointers])
+    two = name + "{Old, Here}" + (f"({', '.join(arguments)})" if arguments else "")
+    valid = "".join(f"requires \\valid({it}); " for it in pointers) + (f"requires \\separated({', '.join(pointers)}); " if len(pointers) > 1 else "")
+    return (f"/*@ assigns {changes}; ensures {two}; */\nvoid step_{name}({parameters or 'void'});\n"
+            f"/*@ {valid}ensures probe: \\false; */\nvoid probe_{name}({parameters or 'void'})\n{{\n\tstep_{name}({', '.join(arguments)});\n}}\n")
+
+
 def axioms_of(unit):
     return [(name, it[1], " ".join(it[2].split())) for name, text in unit.texts().items()
             for it in re.finditer(rf"\b(?:axiom|lemma) (\w+): ({BODY});", without_comments(text))]
@@ -109,26 +133,29 @@ def probe_of_axioms(axioms):
     return "/*@ ensures probe: \\false; */\nvoid probe_axioms(void)\n{\n" + "".join(f"\t/*@ assert hint: {it}; */\n" for it in asks) + "}\n"
 
 
-def probes_of_calls(texts, proves, defined, macros):
-    """Of each function with contracts that isn't proved: its name, and a probe, by which not all that it promises is false."""
-    told, asked, said = {}, {}, {}
-    for clauses, head, name, parameters, _ in (it for text in texts for it in contracts_in(text)):
+def probes_of_calls(unit, defined):
+    """Of each function with contracts: its name, and a probe.  One that is proved must not be proved of nothing, so not all that it requires
+    together is false; of another, which is assumed, not what it promises then."""
+    told, asked, said, macros = {}, {}, {}, macros_of(unit)
+    for clauses, head, name, parameters, _ in (it for text in unit.texts().values() for it in contracts_in(text)):
         told.setdefault(name, (head, "" if parameters == "void" else parameters))
         clauses = expanded(without_comments(clauses), macros)
         asked.setdefault(name, []).extend(re.findall(rf"\brequires (?:\w+: )?({BODY});", clauses))
         said.setdefault(name, []).extend(re.findall(rf"\bensures (?:\w+: )?({BODY});", clauses))
     for name, (head, parameters) in told.items():
-        if name in proves or "\\false" in said[name]:
+        if name not in unit.proves and "\\false" in said[name]:
             continue  # it never comes back, which is what is meant
-        kind = re.match(rf"(?:static )?(?:inline )?(.*?) ?\b{name}\(", head)[1]
-        arguments = ", ".join(re.search(r"(\w+)(?:\[\])?$", it.strip())[1] for it in parameters.split(",") if it.strip())
-        then = [re.sub(r"\\result", "it_came", it) for it in said[name] if not re.search(r"\\old|Old", it)]
-        lines = [f"/*@ assert hint: {it}; */" for it in hints(asked[name], parameters, defined)]
-        lines.append(f"{name}({arguments});" if kind == "void" else f"{kind} it_came = {name}({arguments});")
-        lines += [f"/*@ assert hint: {it}; */" for it in hints(then, parameters + (f", {kind} it_came" if "*" in kind else ""), defined)]
+        lines, kind = "", re.match(rf"(?:static )?(?:inline )?(.*?) ?\b{name}\(", head)[1]
+        for ask in hints(asked[name], parameters, defined):
+            lines += f"\t/*@ assert hint: {ask}; */\n"
+        if name not in unit.proves:
+            arguments = ", ".join(re.search(r"(\w+)(?:\[\])?$", it.strip())[1] for it in parameters.split(",") if it.strip())
+            lines += f"\t{name}({arguments});\n" if kind == "void" else f"\t{kind} it_came = {name}({arguments});\n"
+            then = [re.sub(r"\\result", "it_came", it) for it in said[name] if not re.search(r"\\old|Old", it)]
+            for ask in hints(then, parameters + (f", {kind} it_came" if "*" in kind else ""), defined):
+                lines += f"\t/*@ assert hint: {ask}; */\n"
         requires = " ".join(f"requires {it};" for it in asked[name])
-        body = "".join(f"\t{it}\n" for it in lines)
-        yield name, f"/*@ {requires} ensures probe: \\false; */\nstatic void probe_of_{name}({parameters or 'void'})\n{{\n{body}}}\n"
+        yield name, f"/*@ {requires} ensures probe: \\false; */\nstatic void probe_of_{name}({parameters or 'void'})\n{{\n{lines}}}\n"
 
 
 def witnesses_of(unit):
@@ -148,9 +175,9 @@ def owned(unit):
 def probes(unit):
     """The functions that must not prove \\false: their names, and their text."""
     defined, own, axioms = predicates_of(unit), owned(unit), axioms_of(unit)
-    mine = {name for file in own for _, _, name, _, _ in contracts_in(read(f"checks/wp/{file}"))}
-    calls = probes_of_calls(unit.texts().values(), unit.proves, defined, macros_of(unit))
-    found = {f"probe_of_{name}": probe for name, probe in calls if name in mine}
+    found = {f"probe_{name}": probe_of(name, it, defined) for name, it in defined.items() if it[0] in own}
+    mine = {name for file in own for _, _, name, _, _ in contracts_in(read(f"checks/wp/{file}"))} | set(unit.proves)
+    found.update({f"probe_of_{name}": probe for name, probe in probes_of_calls(unit, defined) if name in mine})
     if any(file in own for file, _, _ in axioms):
         found["probe_axioms"] = probe_of_axioms(axioms)
     return found
@@ -167,15 +194,15 @@ def false_ones(unit, asked, said):
 
 def without_witness(unit, witnesses):
     """The predicates that no witness asserts, and the functions that are proved and that none calls."""
-    named = {it for at in os.listdir(os.path.join(TOP, WITNESSES)) for it in re.findall(r"@ assert has_(\w+): \1\b", read(f"{WITNESSES}/{at}"))}
-    own, called = owned(unit), set(re.findall(r"\b(\w+)\(", re.sub(r"/\*[\s\S]*?\*/|//.*", "", witnesses)))
+    named = {it for at in os.listdir(os.path.join(TOP, WITNESSES)) for it in re.findall(r"@ assert has_(\w+):", read(f"{WITNESSES}/{at}"))}
+    own, called = owned(unit), set(re.findall(r"\b(\w+)\(", witnesses))
     return [f"{unit.name}: the predicate {name} has no witness" for name, it in predicates_of(unit).items() if it[0] in own and name not in named] + \
         [f"{unit.name}: {name} is called by no witness" for name in unit.proves if name not in called]
 
 
 def unwitnessed(said):
     """The goals of witnesses that aren't proved, but for the \\false at the end of each."""
-    return [it for it in re.findall(r"Goal (\S*_witness_\S+) : (?!Valid)", said) if "_never" not in it]
+    return [it for it in re.findall(r"Goal (\S+) : (?!Valid)", said) if "_never" not in it]
 
 
 def of_nothing(functions, said):
