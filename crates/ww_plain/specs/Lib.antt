@@ -8,3 +8,4 @@ pub mod Meaning
 pub mod History
 pub mod Laws
 pub mod Totals
+pub mod Examples

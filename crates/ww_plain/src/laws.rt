@@ -1,6 +1,8 @@
 //! Laws of the plain graph: each function's contract is one.
 
 ghost use Rattle.std.specs.Prelude.{◌≡◌};
+ghost use Rattle.ww_plain.specs.declared.transaction.By.{By};
+ghost use Rattle.ww_plain.specs.Examples.{FootprintsAre, NothingFits, OneIsLegal};
 ghost use Rattle.ww_plain.specs.Laws.{WalkIsTheOne, TransactionKeepsGraph, OnlyFootprintChanges, OnlyFootprintMatters, FootprintIsWhatConcerns, ReverseTurnsTheWalk, UnusedPortsStayEmpty, HistoryGoesOn, HistoryGrows};
 ghost use Rattle.ww_plain.specs.Totals.{MoveKeepsTotal, RefusedMoveChangesNothing, ReadsChangeNothing, OnlyAddsChangeTotal, OnlyAddsChangeTotals, MovesKeepTotal};
 
@@ -99,4 +101,11 @@ pub fn only_adds_change_totals()
 #[tactic(auto, using(crate::proofs::Totals::moves_keep))]
 pub fn moves_keep_total()
     ensures { MovesKeepTotal }
+{}
+
+/// Examples of footprints, of what fits, and of histories.
+pub fn examples()
+    ensures footprints { (by : By) → FootprintsAre by }
+    ensures fits { (by : By) → NothingFits by }
+    ensures legal { (by : By) → OneIsLegal by }
 {}

@@ -3,3 +3,4 @@ pub mod Queue
 pub mod Rules
 pub mod Laws
 pub mod AnySeats
+pub mod Examples

@@ -1,6 +1,7 @@
 //! Laws of wait lists and their rules: each function's contract is one.
 
 ghost use Rattle.std.specs.Prelude.{◌≡◌};
+ghost use Rattle.ww_queue.specs.Examples.{SixStand, OneLeaves, OneIsAhead, YoungerOwnerIsWounded, SignedHolderDies, YoungerWaiterIsSigned, YoungerWaiterDies};
 ghost use Rattle.ww_queue.specs.Laws.{JoinTakesItsPosition, SoloJoinsLast, JoinKeepsEach, JoinKeepsOrder, LeaveTakesOneOut, LeaveKeepsOrder, EachSeatHasRoom, AheadIsFirstContext, WaitDieCondemns, WoundWaitCondemns, OnlyWaitersDie, DeathIsOfOlder, SignsAreDeaths, SignIsWound, OneWalkFindsAllSigns};
 
 use crate::queue::MAX_WAITERS;
@@ -92,4 +93,19 @@ pub fn sign_is_wound()
 #[tactic(auto, using(crate::proofs::AnyLists::signs_all))]
 pub fn one_walk_finds_all_signs()
     ensures { OneWalkFindsAllSigns }
+{}
+
+/// Examples of joins and leaves.
+pub fn examples_of_lists()
+    ensures stand { SixStand }
+    ensures leaves { OneLeaves }
+    ensures ahead { OneIsAhead }
+{}
+
+/// Examples of both rules.
+pub fn examples_of_rules()
+    ensures wounded { YoungerOwnerIsWounded }
+    ensures signed { SignedHolderDies }
+    ensures signs { YoungerWaiterIsSigned }
+    ensures dies { YoungerWaiterDies }
 {}

@@ -210,16 +210,3 @@ fn reads_one_byte_more_than_an_input_may_have(rt: HostRuntime) -> Result<(), Fai
     assert_eq!(rt; reader.given, 1_048_577);
     Ok(())
 }
-
-#[test]
-fn tells_how_it_ended(rt: HostRuntime) {
-    for (status, code) in [
-        (Status::Ended, 0),
-        (Status::Refused, 1),
-        (Status::ReadFailed, 2),
-        (Status::WriteFailed, 2),
-        (Status::Stopped, 3),
-    ] {
-        assert_eq!(rt; status.code(), code);
-    }
-}

@@ -14,8 +14,6 @@ mod growths;
 #[cfg(test)]
 mod plain;
 #[cfg(test)]
-mod queues;
-#[cfg(test)]
 mod rings;
 #[cfg(test)]
 mod rounds;
