@@ -5,6 +5,7 @@
 #define _GNU_SOURCE
 #define WW_NO_INLINE /* ww_mutex.h compiles none of its calls into this file */
 #include "poll.h"
+#include "shared.h"
 #include "../lock/loop.h"
 #include "../lock/mutex.h"
 #include <sys/syscall.h>
@@ -73,7 +74,7 @@ int ww_acquire_end_wait(struct ww_acquire_ctx *x)
 
 	if (!s || !is_polled(x))
 		return s ? 0 : -EINVAL;
-	r = ww_poll_on(m, x, (struct ww_how){ .asks = of, .visits = visits });
+	r = note_told(x, of, ww_poll_on(m, x, (struct ww_how){ .asks = of, .visits = visits }));
 	if (!r)
 		(void)(visits ? unlock_by(m, s) : ww_unlock_of(m, x));
 	if (s->asks == TO_WRITE && m != of)
@@ -81,7 +82,7 @@ int ww_acquire_end_wait(struct ww_acquire_ctx *x)
 	if (s->asks == TO_READ && m == of && !s->slot->reads)
 		(void)ww_unlock_of(&s->slot->mutex, x);
 	if (s->poller && !s->pool->gone)
-		s->poller->ends(s->poller, s);
+		r = s->poller->ends(s->poller, x, r);
 	return r == -ETIMEDOUT ? 0 : r;
 }
 
