@@ -537,6 +537,19 @@ static void not_for_another_reader(void)
 	MUST(waited == 1);
 }
 
+/* What a poll met and the program didn't see isn't waited for later, also once the poll is cancelled. */
+static void ends_what_was_met(void)
+{
+	unsigned woken = 0;
+	struct ww_waker waker = { wakes, NULL, &woken };
+	const struct ww_table_how poll = { .by = WW_TABLE_POLLS, .waker = &waker };
+
+	begins();
+	MUST(!writes(&a, "1") && lock(&b, "1", WW_TABLE_SHARED, &poll) == -EINPROGRESS && !ww_acquire_cancel(&b));
+	MUST(lock(&b, "1", WW_TABLE_SHARED, &poll) == -EINTR && !lock(&b, "3", WW_TABLE_EXCLUSIVE, &poll));
+	ends();
+}
+
 /* A table stays while a poll waits for what was contended, though nobody has a key; and while an owner's context can't end. */
 static void closes_later(void)
 {
@@ -794,6 +807,7 @@ int main(void)
 	not_for_another_key(WW_TABLE_SHARED);
 	not_for_what_has_passed();
 	not_for_another_reader();
+	ends_what_was_met();
 	owners();
 	MUST(!ww_table_close(t) && !ww_class_free(&rows) && !ww_class_free(&others));
 	puts("table_calls: as ww_table.h says");
