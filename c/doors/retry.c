@@ -28,7 +28,6 @@
 #include "../lock/loop.h"
 #include "../lock/mutex.h"
 #include "poll.h"
-#include "shared.h"
 #include "ww_retry.h"
 
 /* ---- tickets ---- */

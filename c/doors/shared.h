@@ -1,7 +1,7 @@
 /* shared.h - the calls of shared.c by any way to wait, which a table makes. It isn't installed. */
 #ifndef WW_DOORS_SHARED_H
 #define WW_DOORS_SHARED_H
-#include "../lock/lock.h"
+#include "poll.h"
 #include "ww_shared.h"
 
 /* Reads the mutex, or writes it. */
@@ -9,32 +9,5 @@ WW_HIDDEN int ww_shared_read_by(struct ww_shared_mutex *m, struct ww_acquire_ctx
 WW_HIDDEN int ww_shared_write_by(struct ww_shared_mutex *m, struct ww_acquire_ctx *x, struct ww_how how);
 /* Waits for the mutex at which the context got -EDEADLK, and holds nothing then. */
 WW_HIDDEN int ww_await_contended(struct ww_acquire_ctx *x, struct ww_how how);
-/*
- * Of what a context was told last: the mutex for which that call asked, by its number (`told` of the seat) and how often the number had
- * been put back (`puts`); and the lock at which the -EDEADLK came, that mutex's or a slot's. ww_told_lock is the lock's number, plus 1,
- * or 0 if there is nothing to wait for. ww_count_at_told finds the lock again later, and counts the caller as a waiter there. It returns
- * NULL if the mutex is gone, or isn't read by that slot any more.
- */
-WW_HIDDEN uint32_t ww_told_lock(const struct ww_acquire_ctx *x);
-WW_HIDDEN struct ww_mutex *ww_count_at_told(ww_seat *s, uint32_t lock, uint32_t puts);
-static inline void ww_stop_counting(struct ww_mutex *m) { __atomic_fetch_sub(&m->waiters, 1, __ATOMIC_SEQ_CST); }
-
-/* Notes that a call that asked for this mutex returns -EDEADLK, also one that came at a slot, by which other mutexes are read, too. */
-static inline int note_told(struct ww_acquire_ctx *x, const struct ww_mutex *asked, int r)
-{
-	if (UNLIKELY(r == -EDEADLK)) {
-		x->own->told = asked->number;
-		x->puts = puts_of(&x->own->pool->numbers, asked->number);
-	}
-	return r;
-}
-/* Nothing is to be waited for first any more: the context has locked something since, or has given up that wait. */
-static inline void forget_told(struct ww_acquire_ctx *x)
-{
-	if (LIKELY(!(x->state & IS_TOLD)))
-		return;
-	NOTE(LOCK_ENDS, .mutex = x->contending_lock, .context = x, .r = -EINTR); /* the debug library expects no wait any more */
-	x->state &= ~(unsigned)(IS_TOLD | WAS_TOLD);
-}
 
 #endif
