@@ -439,7 +439,7 @@ int ww_class_free(struct ww_class *c)
 	p = c->pool;
 	if (p && !p->gone)
 		ww_reclaim_numbers(&p->numbers);
-	if (p && !p->gone && (taken_numbers(&p->numbers) || !is_idle(p, false))) {
+	if (p && !p->gone && (p->tables || taken_numbers(&p->numbers) || !is_idle(p, false))) {
 		r = -EBUSY;
 	} else if (p) {
 		while (*at != &p->open)

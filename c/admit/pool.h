@@ -106,6 +106,7 @@ struct ww_pool {
 	size_t bytes;	       /* how much address space the class takes, without what is small */
 	bool ends_waits;       /* the class was cancelled: each wait that something may end is to end, for good */
 	uint32_t suspended;    /* how many contexts are suspended */
+	uint32_t tables;       /* how many lock tables are open (doors/table.c) */
 	struct ww_numbers numbers __attribute__((aligned(64)));
 	struct ww_slot *slots[MANY_BITS]; /* lists of slots, one for each bit, that only grow, under the lock of `numbers` */
 	/* The lock of the spare seat. */

@@ -73,7 +73,7 @@ int ww_acquire_end_wait(struct ww_acquire_ctx *x)
 
 	if (!s || !is_polled(x))
 		return s ? 0 : -EINVAL;
-	r = ww_poll_on(m, x, (struct ww_how){ .asks = of, .visits = visits });
+	r = note_told(x, of, ww_poll_on(m, x, (struct ww_how){ .asks = of, .visits = visits }));
 	if (!r)
 		(void)(visits ? unlock_by(m, s) : ww_unlock_of(m, x));
 	if (s->asks == TO_WRITE && m != of)
@@ -81,7 +81,7 @@ int ww_acquire_end_wait(struct ww_acquire_ctx *x)
 	if (s->asks == TO_READ && m == of && !s->slot->reads)
 		(void)ww_unlock_of(&s->slot->mutex, x);
 	if (s->poller && !s->pool->gone)
-		s->poller->ends(s->poller, s);
+		r = s->poller->ends(s->poller, x, r);
 	return r == -ETIMEDOUT ? 0 : r;
 }
 
@@ -94,6 +94,56 @@ int ww_acquire_end(struct ww_acquire_ctx *x)
 	(void)ww_acquire_end_wait(NEEDED(x));
 	ww_acquire_unlock_all(x);
 	return ww_acquire_fini_checked(x);
+}
+
+/* ---- of what a context was told last ---- */
+
+/* If the number was put back, the context's `contending_lock` may be an address of freed memory. A slot's memory stays. */
+uint32_t ww_told_lock(const struct ww_acquire_ctx *x)
+{
+	const ww_seat *s = x->own;
+	struct ww_numbers *n = &s->pool->numbers;
+	uint32_t lock = 0;
+
+	if (!(x->state & IS_TOLD))
+		return 0;
+	pthread_mutex_lock(&n->lock);
+	if (puts_of(n, s->told) == x->puts)
+		lock = (mutex_with(n, s->told) == x->contending_lock ? s->told : x->contending_lock->number) + 1;
+	pthread_mutex_unlock(&n->lock);
+	return lock;
+}
+
+/*
+ * Whether a slot isn't in the way of the mutex at which the context got -EDEADLK: its context has ended that read, and reads others. The
+ * context's own slot is in the way as long as another one has it.
+ */
+static bool has_passed(const ww_seat *s, struct ww_mutex *m)
+{
+	const struct ww_slot *slot = (const struct ww_slot *)(void *)m;
+
+	return is_slot(m) && slot != s->slot && !has_mark(slot, s->told);
+}
+
+/*
+ * A thread that destroys the mutex holds the same lock (ww_end_mutex). The memory of a mutex by number stays. As in wait_first (loop.c),
+ * the context counts as a waiter before it asks whether the number was put back.
+ */
+struct ww_mutex *ww_count_at_told(ww_seat *s, uint32_t lock, uint32_t puts)
+{
+	struct ww_numbers *n = &s->pool->numbers;
+	struct ww_mutex *m;
+
+	pthread_mutex_lock(&n->lock);
+	m = lock && puts_of(n, s->told) == puts ? mutex_with(n, lock - 1) : NULL;
+	if (m)
+		__atomic_fetch_add(&m->waiters, 1, __ATOMIC_SEQ_CST);
+	pthread_mutex_unlock(&n->lock);
+	if (m && (has_passed(s, m) || ww_is_gone(s->pool, m, puts))) {
+		ww_stop_counting(m);
+		m = NULL;
+	}
+	return m;
 }
 
 /* ---- contexts ---- */

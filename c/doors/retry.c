@@ -139,44 +139,21 @@ int ww_acquire_suspend(struct ww_acquire_ctx *x, struct ww_retry *retry)
 	draw_age_by_hand(x);
 	s->puts = x->puts;
 	(void)drop(NEEDED(retry));
-	leave(x, retry, x->state & IS_TOLD ? s->told + 1 : 0);
+	leave(x, retry, ww_told_lock(x));
 	return 0;
 }
 
 /* ---- resuming ---- */
 
-static void stop_counting(struct ww_mutex *m) { __atomic_fetch_sub(&m->waiters, 1, __ATOMIC_SEQ_CST); }
-
-/*
- * The mutex at which the context got -EDEADLK, found by its number alone, which counts the caller as a waiter from now on; NULL if
- * the mutex is gone. A thread that destroys the mutex holds the same lock (ww_end_mutex). The memory of a mutex by number stays.
- */
-static struct ww_mutex *count_at_contended(const ww_seat *s, uint32_t number)
-{
-	struct ww_numbers *n = &s->pool->numbers;
-	struct ww_mutex *m;
-
-	pthread_mutex_lock(&n->lock);
-	m = puts_of(n, number) == s->puts ? mutex_with(n, number) : NULL;
-	if (m)
-		__atomic_fetch_add(&m->waiters, 1, __ATOMIC_SEQ_CST);
-	pthread_mutex_unlock(&n->lock);
-	if (m && ww_is_gone(s->pool, m, s->puts)) {
-		stop_counting(m);
-		m = NULL;
-	}
-	return m;
-}
-
 /*
  * Waits until the contended mutex is free, and releases it at once. There is nothing to wait for if the mutex is gone, or if the
  * proved library refuses the wait (-EINVAL), since the context has already waited for the mutex.
  */
-static int await_told(struct ww_acquire_ctx *x, uint32_t number, const struct timespec *until)
+static int await_told(struct ww_acquire_ctx *x, uint32_t lock, const struct timespec *until)
 {
 	const struct ww_how how = { .visits = true, .is_interruptible = true, .until = until };
-	struct ww_mutex *m = count_at_contended(x->own, number);
-	int r = m ? ww_lock_slow_(&x->own->handle, number, false) : -EINVAL;
+	struct ww_mutex *m = ww_count_at_told(x->own, lock, x->own->puts);
+	int r = m ? ww_lock_slow_(&x->own->handle, m->number, false) : -EINVAL;
 
 	if (r != -EINVAL) {
 		r = ww_lock_on(m, x, x->own, r, &how);
@@ -186,7 +163,7 @@ static int await_told(struct ww_acquire_ctx *x, uint32_t number, const struct ti
 		r = 0;
 	}
 	if (m)
-		stop_counting(m);
+		ww_stop_counting(m);
 	return r;
 }
 
@@ -225,16 +202,17 @@ int ww_acquire_resume(struct ww_acquire_ctx *x, struct ww_class *c, struct ww_re
 
 	if (!retry->ticket_)
 		return ww_acquire_init_until(NEEDED(x), NEEDED(c), until);
-	return take(NEEDED(x), NEEDED(c), retry, until) ? -EINVAL : resumed(x, retry, awaits, awaits ? await_told(x, awaits - 1, until) : 0);
+	return take(NEEDED(x), NEEDED(c), retry, until) ? -EINVAL : resumed(x, retry, awaits, await_told(x, awaits, until));
 }
 
 /* ---- resuming by polls ---- */
 
-static void stop_resuming(struct ww_poller *it, ww_seat *s)
+static int stop_resuming(struct ww_poller *it, struct ww_acquire_ctx *x, int r)
 {
 	(void)it;
-	stop_counting(s->asked);
-	count_out(s);
+	ww_stop_counting(x->own->asked);
+	count_out(x->own);
+	return r;
 }
 
 static struct ww_poller resumes = { stop_resuming };
@@ -252,8 +230,8 @@ int ww_acquire_resume_poll(struct ww_acquire_ctx *x, struct ww_class *c, struct 
 		return ww_acquire_init_poll(NEEDED(x), NEEDED(c), seek, waker);
 	if (!waits && take(NEEDED(x), NEEDED(c), retry, NULL))
 		return -EINVAL;
-	if (!waits && awaits)
-		m = count_at_contended(x->own, awaits - 1);
+	if (!waits)
+		m = ww_count_at_told(x->own, awaits, x->own->puts);
 	if (!m)
 		return resumed(x, retry, awaits, 0);
 	*retry = (struct ww_retry){ 0 };
@@ -267,6 +245,6 @@ int ww_acquire_resume_poll(struct ww_acquire_ctx *x, struct ww_class *c, struct 
 		*seek = (struct ww_seek){ 0 };
 	if (!r)
 		(void)unlock_by(m, x->own);
-	stop_counting(m);
+	ww_stop_counting(m);
 	return resumed(x, retry, awaits, r);
 }

@@ -366,7 +366,7 @@ ALWAYS_INLINE int read_by(struct ww_shared_mutex *m, struct ww_acquire_ctx *x, s
 		NOTE(LOCK_RETURNS, .mutex = &m->mutex_, .context = x, .r = r);
 	}
 	if (UNLIKELY(r))
-		return r;
+		return note_told(x, &m->mutex_, r);
 	slot = x->own->slot;
 	/* A context whose poll waits for the mutex would find it taken. */
 	if ((how.who == TASK && is_polled(x)) || UNLIKELY(!reads_at_once(m, x, slot)))
@@ -427,7 +427,7 @@ static int await_slot(struct ww_slot *slot, uint32_t number, struct ww_acquire_c
 		}
 		r = acquire(&slot->mutex, x, how);
 		if (r)
-			return r;
+			return note_told(x, how.asks, r);
 		clear_marks(slot);
 		(void)unlock_by(&slot->mutex, x->own);
 	}
@@ -614,30 +614,26 @@ void ww_acquire_end_reads(struct ww_acquire_ctx *x)
 
 /* ---- after -EDEADLK ---- */
 
-/*
- * Waits for the mutex at which the context got -EDEADLK, and releases it at once. If the mutex's number was put back since, there is
- * nothing to wait for. As in wait_first (loop.c), the context counts as a waiter before it asks that.
- */
+/* Waits for the mutex at which the context got -EDEADLK, and releases it at once; or not, if there is nothing to wait for any more. */
 int ww_await_contended(struct ww_acquire_ctx *x, struct ww_how how)
 {
-	struct ww_mutex *m = x && x->own && x->state & IS_TOLD ? x->contending_lock : NULL;
-	bool asks = m && is_of_number(m) && !is_polled(x), counts = asks && !ww_is_gone(x->own->pool, m, x->puts), gone;
+	bool told = x && x->own && x->state & IS_TOLD, goes_on = told && is_polled(x);
+	struct ww_mutex *m = goes_on ? x->polled : told ? ww_count_at_told(x->own, ww_told_lock(x), x->puts) : NULL;
 	int r = 0;
 
 	how.visits = true;
-	if (counts)
-		__atomic_fetch_add(&m->waiters, 1, __ATOMIC_SEQ_CST);
-	gone = asks && ww_is_gone(x->own->pool, m, x->puts);
-	if (gone)
-		NOTE(LOCK_ENDS, .mutex = m, .context = x, .r = -EINTR); /* the debug library expects no wait any more */
-	else if (how.who == THREAD)
+	if (told && !m) {
+		NOTE(LOCK_ENDS, .mutex = x->contending_lock, .context = x, .r = -EINTR); /* the debug library expects no wait any more */
+		return 0;
+	}
+	if (how.who == THREAD)
 		r = ww_lock_slowly(m, x, &how);
 	else if (!(r = ww_may_poll("ww_shared_mutex_await_poll", m, x, TO_AWAIT, how.poller)))
 		r = ww_poll_on(m, x, how);
-	if (!r && !gone)
+	if (!r)
 		(void)unlock_by(m, x->own);
-	if (counts)
-		__atomic_fetch_sub(&m->waiters, 1, __ATOMIC_SEQ_CST);
+	if (m && !goes_on)
+		ww_stop_counting(m);
 	return r;
 }
 

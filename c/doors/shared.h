@@ -1,7 +1,7 @@
 /* shared.h - the calls of shared.c by any way to wait, which a table makes. It isn't installed. */
 #ifndef WW_DOORS_SHARED_H
 #define WW_DOORS_SHARED_H
-#include "../lock/lock.h"
+#include "poll.h"
 #include "ww_shared.h"
 
 /* Reads the mutex, or writes it. */

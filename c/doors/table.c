@@ -57,8 +57,6 @@ struct of_seat {
 	struct entry *spare[SPARES];
 	uint32_t has, spares; /* how many keys the context has, and how many spare entries there are */
 	bool is_in;	      /* a call of the context locks a key, or its poll waits */
-	struct ww_mutex *told;	/* the mutex of the key at which the context got -EDEADLK last, */
-	uint32_t told_at, told_by; /* how often its number had been put back by then, and the number of the lock: that mutex's, or a slot's */
 	struct of_seat *other;	/* the next one in its list of owners */
 	uint64_t owner;
 	struct ww_retry retry;	/* the context of an owner that has left; `x` is that of one that hasn't */
@@ -306,6 +304,8 @@ static void unlist_keys(const struct asked *asked)
  */
 static inline int end_attempt(const struct asked *asked, struct use *u, int r)
 {
+	if (!r)
+		forget_told(asked->x);
 	if (!r && !u->raises && !u->of->is_dead) {
 		u->shown.waits = false;
 		u->earlier = asked->me->newest;
@@ -332,12 +332,8 @@ static int settle(const struct asked *asked, struct use *u, int r)
 {
 	struct bucket *b = lock_bucket(asked->of, u->of->hash);
 
-	if (UNLIKELY(r == -EDEADLK)) {
+	if (UNLIKELY(r == -EDEADLK))
 		u->of->is_told = true;
-		asked->me->told = &u->of->lock->mutex_;
-		asked->me->told_at = puts_of(&asked->of->pool->numbers, asked->me->told->number);
-		asked->me->told_by = asked->x->own->told;
-	}
 	r = end_attempt(asked, u, r);
 	pthread_mutex_unlock(&b->lock);
 	return r;
@@ -414,16 +410,24 @@ static int try_key(const struct asked *asked, const struct ww_table_how *how, st
 
 /* ---- waits ---- */
 
-/* The program has ended the wait of a poll by another call than the table's: so the use ends, if the poll had one already. */
-static void end_polled(struct ww_poller *it, ww_seat *s)
+/*
+ * The program has ended the wait of a poll by another call than the table's: so the use ends, if the poll had one already. A context that
+ * holds nothing gets no -EDEADLK, as by the table's calls, and waits for nothing first from then on, as after a poll without a waker.
+ */
+static int end_polled(struct ww_poller *it, struct ww_acquire_ctx *x, int r)
 {
 	struct ww_table *t = (struct ww_table *)(void *)it;
-	const struct asked asked = { .of = t, .me = &t->seats[place_among(s) - 1] };
+	const struct asked asked = { .of = t, .x = x, .me = &t->seats[place_among(x->own) - 1] };
 
+	if (!x->acquired) {
+		forget_told(x);
+		r = r == -EDEADLK ? 0 : r;
+	}
 	if (asked.me->polled)
-		(void)settle(&asked, asked.me->polled, -EINTR);
+		(void)settle(&asked, asked.me->polled, r ? r : -EINTR);
 	asked.me->polled = NULL;
 	note_in(asked.me, false);
+	return r;
 }
 
 /* How a lock call waits, unless it tries. A poll goes on, and ends, by the table alone: see end_polled. */
@@ -435,39 +439,17 @@ static struct ww_how way_of(const struct asked *asked, const struct ww_table_how
 				.waker = how->waker, .poller = &asked->of->poller };
 }
 
-/* The mutex of the key at which the context got its last -EDEADLK, or NULL if it wasn't one of this table; and whether nobody has it. */
-static struct ww_mutex *told_last(const struct of_seat *me, const ww_seat *s)
-{
-	return me->told && s->told == me->told_by ? me->told : NULL;
-}
-static bool key_has_ended(const struct of_seat *me, const ww_seat *s)
-{
-	return told_last(me, s) && ww_is_gone(s->pool, me->told, me->told_at);
-}
-
 /*
- * Waits first for the mutex at which the context got -EDEADLK, but not if that is another key's by now, or a slot by which other keys are
- * read. If the context gives up that wait, it may lock anything. It counts as a waiter of the key while it asks: see retire.
+ * Waits first for what the context was told of last, in whichever table or at whichever mutex that was. If the context gives up that
+ * wait, it may lock anything.
  */
 COLD static int await_told_key(const struct asked *asked, const struct ww_table_how *how)
 {
-	struct ww_acquire_ctx *x = asked->x;
-	bool ended = !is_polled(x) && key_has_ended(asked->me, x->own);
-	struct ww_mutex *m = is_polled(x) || ended ? NULL : told_last(asked->me, x->own);
-	int r = 0;
+	int r = ww_await_contended(asked->x, way_of(asked, how));
 
-	if (m)
-		__atomic_fetch_add(&m->waiters, 1, __ATOMIC_SEQ_CST);
-	ended |= m && key_has_ended(asked->me, x->own);
-	if (!ended)
-		r = ww_await_contended(x, way_of(asked, how));
-	else
-		NOTE(LOCK_ENDS, .mutex = x->contending_lock, .context = x, .r = -EINTR); /* the debug library expects no wait any more */
-	if (m)
-		__atomic_fetch_sub(&m->waiters, 1, __ATOMIC_SEQ_CST);
 	if (r == -EINPROGRESS || r == -EINTR)
 		return r;
-	x->state &= ~(unsigned)IS_TOLD;
+	forget_told(asked->x);
 	return 0;
 }
 
@@ -486,7 +468,6 @@ static int wait_for(const struct asked *asked, struct use *u, struct ww_table_ho
 
 	if (r)
 		return settle(asked, u, r);
-	asked->me->told = NULL; /* an -EDEADLK that comes now is another one */
 	asked->me->polled = how->by == WW_TABLE_POLLS ? u : NULL;
 	do {
 		r = await_refused(asked, how);
@@ -496,6 +477,8 @@ static int wait_for(const struct asked *asked, struct use *u, struct ww_table_ho
 	if (r == -EINPROGRESS) /* another thread may use the context by now */
 		return r;
 	asked->me->polled = NULL;
+	if (r && !asked->x->acquired)
+		forget_told(asked->x); /* the program doesn't see an -EDEADLK at which this call waited anew */
 	if (r == -ETIMEDOUT && how->waits && how->by == WW_TABLE_WAITS)
 		r = -ESTALE;
 	return settle(asked, u, r);
@@ -673,8 +656,6 @@ int ww_table_join(struct ww_table *t, uint64_t owner, uint64_t former, const str
 		NOTE(CONTEXT_RESUMED, .context = &seat->x); /* the context lies there from now on */
 		add_owner(t, owner, seat);
 	} else if (seat->retry.ticket_) {
-		if (key_has_ended(seat, &t->pool->seats[seat->retry.seat_]))
-			ww_retry_at_once(&seat->retry);
 		r = ww_acquire_resume(&seat->x, t->pool->class_, &seat->retry, until);
 		if (r == -ETIMEDOUT) {
 			ww_retry_at_once(&seat->retry);
@@ -710,6 +691,13 @@ int ww_table_leave(struct ww_table *t, uint64_t owner, bool again)
 
 static size_t bytes_of_table(const struct ww_pool *p) { return sizeof(struct ww_table) + seats_of(p) * sizeof(struct of_seat); }
 
+static void count_tables(struct ww_pool *p, uint32_t by)
+{
+	pthread_mutex_lock(&ww_opening);
+	p->tables += by;
+	pthread_mutex_unlock(&ww_opening);
+}
+
 /*
  * The table has a place for each seat of the class, in pages of zeros that take memory once a context by that seat uses the table.  If
  * only few keys may be locked, seats keep no spare entries, so that the limit is exact.
@@ -729,6 +717,7 @@ int ww_table_open(struct ww_table **made, struct ww_class *c, uint32_t keys)
 	t->spares = t->limit / seats_of(p) / 2 < SPARES ? t->limit / seats_of(p) / 2 : SPARES;
 	for (unsigned k = 0; k < BUCKETS; k++)
 		pthread_mutex_init(&t->buckets[k].lock, NULL);
+	count_tables(p, 1);
 	*NEEDED(made) = t;
 	return 0;
 }
@@ -749,6 +738,7 @@ int ww_table_close(struct ww_table *t)
 		for (struct use *u; (u = me->spare_uses); free(u))
 			me->spare_uses = u->next;
 	}
+	count_tables(t->pool, -1u);
 	ww_return_zeros(t, bytes_of_table(t->pool));
 	return 0;
 }

@@ -328,7 +328,7 @@ WW_MUST_CHECK int ww_class_open(struct ww_class *ww_class) WW_NONNULL_(1);
 WW_MUST_CHECK int ww_class_open_for(struct ww_class *ww_class, uint32_t contexts, uint32_t keys, size_t *bytes) WW_NONNULL_(1);
 /*
  * Frees the class's memory, except a few kilobytes, which the class that is opened next uses; its next use opens it anew.  -EBUSY: the
- * class has a mutex, a context is active, or a mutex is held.  It may be called until it returns 0, if no other thread begins to use the
+ * class has a mutex or a lock table, a context is active, or a mutex is held.  It may be called until it returns 0, if no other thread begins to use the
  * class; another thread may still be ending its last context.
  */
 int ww_class_free(struct ww_class *ww_class) WW_NONNULL_(1);

@@ -314,8 +314,8 @@ TABLE = {
         "has_user": "load sc", "ww_has_users": "load sc", "ww_shared_mutex_is_locked": "load sc", "count_waiter": "fetch_add sc, fetch_add sc",
         "lock_by_any": "fetch_add sc, fetch_sub sc", "put_number": "load sc, fetch_and sc", "ww_is_gone": "load sc",
         "wait_first": "fetch_add sc, fetch_sub sc", # as who waits: see ww_is_gone
-        "count_at_contended": "fetch_add sc", "stop_counting": "fetch_sub sc", # likewise
-        "await_told_key": "fetch_add sc, fetch_sub sc", "ww_await_contended": "fetch_add sc, fetch_sub sc", "retire": "fetch_or sc", "is_awaited": "load sc", # likewise, of a key
+        "ww_count_at_told": "fetch_add sc", "ww_stop_counting": "fetch_sub sc", # likewise
+        "retire": "fetch_or sc", "is_awaited": "load sc", # likewise, of a key
         "ww_number_take": "store rlx, fetch_add rel",
         "is_slot": "load rlx", # which it always is
         "is_of_number": "load rlx", # likewise
@@ -546,6 +546,8 @@ PLAIN = {
     "m->pool": "by: ",
     "m->number": "by: ww_number_take",
     "mutex_->number": "by: ",
+    "asked->number": "by: ",
+    "contending_lock->number": "by: ",
     # Of a slot: before others see it, by its list; and what only who has it accesses.
     "mutex->number": "by: ",
     "slot->seat": "by: ",
@@ -557,9 +559,9 @@ PLAIN = {
     "p->slots": "slots: free_pool",
     "s->slot": "by: make_slot",
     "x->own": "by: ",
-    "x->puts": "by: lock_ends",
+    "x->puts": "by: lock_ends note_told",
     # By the user of a seat.
-    "s->told": "by: lock_ends",
+    "s->told": "by: lock_ends note_told",
     "s->puts": "by: ww_acquire_suspend",
     # By the context's own thread, and of a class before others see it, or in a forked child.
     "x->pool": "by: ww_become begin_core draw_age_by_hand let_be_older no_more of_seat",

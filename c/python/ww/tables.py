@@ -6,10 +6,12 @@ import ctypes
 import errno
 import functools
 import threading
+import time
+import weakref
 from typing import Any, Callable, Dict, List, NamedTuple, Optional, TypeVar, Union
 
-from .library import UNRUN, Deadlock, Library, Single, Time, at_caller, check_body, told, unexpected, whole
-from .mutexes import _ANOTHERS, _UNBEGUN, Class, Suspended, _Call, _ending, _Exit, _in_slices, _is_main, _until, _wrong
+from .library import UNRUN, Already, Deadlock, Library, Single, Time, at_caller, check_body, told, unexpected, whole
+from .mutexes import _ANOTHERS, _LONG, _UNBEGUN, Class, Suspended, _Call, _ending, _Exit, _in_slices, _is_main, _until, _wrong
 
 _T = TypeVar("_T")
 Key = Union[bytes, str]
@@ -75,6 +77,27 @@ def _bytes(key: Key) -> bytes:
     return key
 
 
+class _Thread(threading.local):
+    """Transactions that a thread began."""
+
+    transactions: List[weakref.ref[Transaction]] = []
+
+    def others(self, than: Optional[Transaction]) -> List[Transaction]:
+        """Those that go on."""
+        return [it for ref in self.transactions if (it := ref()) and it is not than and it._goes_on()]
+
+    def begins(self, transaction: Transaction) -> None:
+        self.transactions = [weakref.ref(it) for it in (*self.others(None), transaction)]
+
+    def check_wait(self, transaction: Transaction, key: bytes, mode: int) -> None:
+        """Already, where this transaction waits for another one of the thread, or would get Deadlock of it again and again."""
+        if any(it._table is transaction._table and it._excludes(key, mode) for it in self.others(transaction)):
+            raise Already(errno.EALREADY, f"another transaction of this thread has it: {key!r}")
+
+
+_mine = _Thread()
+
+
 class Table(Single):
     """A table of locks, by keys of any bytes; a str is its UTF-8. At most `keys` keys are locked or waited for at a time, and kept; 0:
     as many as the class has mutexes. In a forked child it isn't used."""
@@ -110,6 +133,7 @@ class Table(Single):
                 except TypeError:
                     check_body(body, ...)
                     raise
+                _mine.check_wait(transaction, *transaction._met)
                 transaction.unlock_all()
 
     def users(self, key: Optional[Key] = None) -> List[KeyUser]:
@@ -146,6 +170,7 @@ class Transaction(Single):
         self._at = self._library.context()
         self._thread: Optional[int] = None
         self._got_deadlock = False  # It got Deadlock, and hasn't released all since.
+        self._met = b"", _SHARED  # For what it asked then.
         # What ends it: each of these calls once, in this order, of which no line of Python is run, which a signal could interrupt.
         self._calls: List[Any] = []
         self._end = _Call(collections.deque, map(functools.partial.__call__, self._calls), 0)
@@ -173,6 +198,19 @@ class Transaction(Single):
             self._calls.clear()
         told(code)
         self._thread = threading.get_ident()
+        _mine.begins(self)
+
+    def _goes_on(self) -> bool:
+        return not self._library.ww_acquire_end_wait(self._at)
+
+    def _excludes(self, key: bytes, mode: int) -> bool:
+        """Whether it has the key, so that another one can't have it in this mode."""
+        how = _How(self.owner, _TRIES)
+        code = self._library.ww_table_lock(self._table._at, self._at, key, len(key), _SHARED, ctypes.byref(how))
+        if not code:
+            self._library.ww_table_unlock(self._table._at, self._at, key, len(key))
+        has = code == -errno.EALREADY
+        return has and (mode == _EXCLUSIVE or any(it.is_exclusive and not it.waits for it in self._table.users(key)))
 
     def __repr__(self) -> str:
         return f"<ww.Transaction of {self.owner} with {self.mark()} keys>"
@@ -191,8 +229,18 @@ class Transaction(Single):
             code: int = self._library.ww_table_lock(self._table._at, self._at, key, len(key), mode, ctypes.byref(how))
             return code
 
-        code = call(None) if by == _TRIES else _in_slices(call, until)
-        self._got_deadlock |= code == -errno.EDEADLK
+        if by == _TRIES:
+            code = call(None)
+        elif until is None and len(_mine.transactions) > 1:
+            code = _in_slices(call, time.monotonic_ns() + _LONG)
+            if code == -errno.ETIMEDOUT:
+                _mine.check_wait(self, key, mode)
+                code = _in_slices(call, until)
+        else:
+            code = _in_slices(call, until)
+        if code == -errno.EDEADLK:
+            self._met = self._met if self._got_deadlock else (key, mode)
+            self._got_deadlock = True
         return 0 if code == -errno.EALREADY else code
 
     def _lock(self, keys: List[bytes], mode: int, until: Optional[int]) -> None:
@@ -210,11 +258,13 @@ class Transaction(Single):
                 self.unlock_to(mark)
                 if mark or not isinstance(error, Deadlock):
                     raise
+                _mine.check_wait(self, *self._met)
 
     def lock(self, *keys: Key, timeout: Optional[float] = None) -> None:
         """Locks all of them exclusively, or raises what it shares, and waits for them; at most for `timeout` seconds (TimeoutError), or
         until it is cancelled (InterruptedError). One that held nothing before backs off by itself; any other one may get Deadlock: then
-        release all keys and lock again, best by Table.run. ENOSPC: lock a coarser key. If it fails, it has released what it locked
+        release all keys and lock again, best by Table.run. Already: another transaction of its thread has one of them, and there is no
+        time limit. ENOSPC: lock a coarser key. If it fails, it has released what it locked
         here; what it has raised stays so."""
         self._lock([_bytes(it) for it in keys], _EXCLUSIVE, _until(timeout))
 

@@ -441,7 +441,10 @@ static void ended_otherwise(void)
 	MUST(!lock(&b, "1", WW_TABLE_EXCLUSIVE, &one) && !lock(&b, "2", WW_TABLE_EXCLUSIVE, &one));
 	MUST(lock(&a, "1", WW_TABLE_SHARED, &poll) == -EINPROGRESS && ww_table_see(t, "1", 1, sees, NULL) == 2 && !a.acquired);
 	MUST(ww_shared_mutex_await_poll(&a, NULL) == -EBUSY && ww_shared_mutex_await_poll(&a, &waker) == -EBUSY && !ww_acquire_end_wait(&a));
-	MUST(ww_table_see(t, "1", 1, sees, NULL) == 1 && ww_shared_mutex_await_poll(&a, &waker) == -EINPROGRESS);
+	/* since no call returned -EDEADLK, nothing is contended then, and any key may come next; after one of its calls did, that is so */
+	MUST(ww_table_see(t, "1", 1, sees, NULL) == 1 && ww_shared_mutex_await_poll(&a, &waker) == -EINVAL);
+	MUST(!lock(&a, "3", WW_TABLE_EXCLUSIVE, &poll) && lock(&a, "1", WW_TABLE_SHARED, &poll) == -EDEADLK && !unlock(&a, "3"));
+	MUST(ww_shared_mutex_await_poll(&a, &waker) == -EINPROGRESS);
 	MUST(lock(&a, "1", WW_TABLE_SHARED, &poll) == -EBUSY && !ww_acquire_end_wait(&a));
 	MUST(lock(&a, "2", WW_TABLE_EXCLUSIVE, &poll) == -EINPROGRESS && !ww_acquire_end(&a) && ww_table_see(t, NULL, 0, sees, NULL) == 2);
 	ww_acquire_init(&a, &rows);
@@ -473,6 +476,77 @@ static void not_for_another_key(enum ww_table_mode mode)
 	MUST(!ww_table_join(t, 1, 1, NULL, &x) && !writes(x, "2") && lock(x, "5", WW_TABLE_EXCLUSIVE, NULL) == -EDEADLK);
 	MUST(!ww_table_leave(t, 1, true) && !unlock(&a, "5") && !lock(&a, "6", mode, &try_it) && !ww_table_join(t, 2, 1, &late, &x));
 	MUST(!clock_gettime(CLOCK_MONOTONIC, &now) && now.tv_sec < late.tv_sec - 4 && !ww_table_leave(t, 2, false));
+	ends();
+}
+
+/*
+ * By Wait-Die. What a context got -EDEADLK for in one table, or at a mutex, a call of another table waits for first: but not once nobody
+ * has that, though the lock at which it came is a slot by which others are read, or the mutex is no more; and not once the context has
+ * locked another key since, also by a try.
+ */
+static void not_for_what_has_passed(void)
+{
+	unsigned woken = 0;
+	struct ww_waker waker = { wakes, NULL, &woken };
+	const struct ww_table_how poll = { .by = WW_TABLE_POLLS, .waker = &waker };
+	struct ww_mutex *besides = malloc(sizeof *besides);
+	struct ww_table *second;
+
+	MUST(besides && !ww_table_open(&second, &rows, 0));
+	begins();
+	for (unsigned k = 0; k < 2; k++) {
+		MUST(!reads(&a, "1") && !reads(&a, "9") && !ww_table_lock(second, &b, "2", 1, WW_TABLE_EXCLUSIVE, &try_it));
+		MUST(lock(&b, "1", WW_TABLE_EXCLUSIVE, NULL) == -EDEADLK && !ww_table_unlock(second, &b, "2", 1) && (k || !unlock(&a, "1")));
+		MUST(ww_table_lock(second, &b, "2", 1, WW_TABLE_EXCLUSIVE, &poll) == (k ? -EINPROGRESS : 0));
+		ww_table_unlock_to(t, &a, 0);
+		MUST(!ww_table_lock(second, &b, k ? "2" : "3", 1, WW_TABLE_EXCLUSIVE, &poll));
+		ww_table_unlock_to(second, &b, 0);
+	}
+	ww_mutex_init(besides, &rows);
+	MUST(!ww_mutex_lock(besides, &a) && !writes(&b, "2") && ww_mutex_lock(besides, &b) == -EDEADLK && !unlock(&b, "2"));
+	ww_mutex_unlock(besides);
+	MUST(!ww_mutex_destroy(besides));
+	memset(besides, 0x5a, sizeof *besides);
+	MUST(!lock(&b, "2", WW_TABLE_EXCLUSIVE, &poll) && !writes(&a, "1") && lock(&b, "1", WW_TABLE_SHARED, NULL) == -EDEADLK);
+	MUST(!unlock(&b, "2") && !writes(&b, "2") && !unlock(&b, "2") && !lock(&b, "3", WW_TABLE_EXCLUSIVE, &poll));
+	ends();
+	free(besides);
+	MUST(!ww_table_close(second));
+}
+
+/*
+ * By Wait-Die. Two contexts share a key, and another one each, and a third one collides with one of the two. If that one has released the
+ * key, the third one doesn't wait for it, though both read on; if the other one has, it does.
+ */
+static void not_for_another_reader(void)
+{
+	unsigned woken = 0, waited = 0;
+	struct ww_waker waker = { wakes, NULL, &woken };
+	const struct ww_table_how poll = { .by = WW_TABLE_POLLS, .waker = &waker };
+	struct ww_acquire_ctx x, *who[] = { &a, &b };
+
+	for (unsigned k = 0; k < 2; k++) {
+		begins();
+		ww_acquire_init(&x, &rows);
+		MUST(!reads(&a, "1") && !reads(&b, "1") && !reads(&a, "8") && !reads(&b, "9") && !writes(&x, "2"));
+		MUST(lock(&x, "1", WW_TABLE_EXCLUSIVE, NULL) == -EDEADLK && !unlock(&x, "2") && !unlock(who[k], "1"));
+		waited += lock(&x, "3", WW_TABLE_EXCLUSIVE, &poll) == -EINPROGRESS;
+		MUST(!ww_acquire_end(&x));
+		ends();
+	}
+	MUST(waited == 1);
+}
+
+/* What a poll met and the program didn't see isn't waited for later, also once the poll is cancelled. */
+static void ends_what_was_met(void)
+{
+	unsigned woken = 0;
+	struct ww_waker waker = { wakes, NULL, &woken };
+	const struct ww_table_how poll = { .by = WW_TABLE_POLLS, .waker = &waker };
+
+	begins();
+	MUST(!writes(&a, "1") && lock(&b, "1", WW_TABLE_SHARED, &poll) == -EINPROGRESS && !ww_acquire_cancel(&b));
+	MUST(lock(&b, "1", WW_TABLE_SHARED, &poll) == -EINTR && !lock(&b, "3", WW_TABLE_EXCLUSIVE, &poll));
 	ends();
 }
 
@@ -539,6 +613,15 @@ static void an_owner_stays(void)
 	MUST(!ww_class_cancel(&ending) && ww_table_join(t, 3, 2, NULL, &y) == -EINTR && ww_table_join(t, 3, 3, NULL, &y) == -EINTR);
 	MUST(!unlock(x, "1") && !ww_table_join(t, 3, 3, NULL, &y) && !ww_table_leave(t, 3, false) && !ww_table_leave(t, 1, false));
 	MUST(!ww_table_close(t) && !ww_class_free(&ending));
+}
+
+/* A class has its tables until they are closed, also one of which nothing was locked yet: so it isn't freed before. */
+static void stays_with_its_table(void)
+{
+	struct ww_table *second;
+
+	MUST(!ww_table_open(&t, &four, 0) && ww_class_free(&four) == -EBUSY && !ww_table_open(&second, &four, 0) && !ww_table_close(t));
+	MUST(ww_class_free(&four) == -EBUSY && !ww_table_close(second) && !ww_class_free(&four));
 }
 
 /* Of four contexts two are suspended at a time; of a third one that leaves nothing is kept. */
@@ -699,6 +782,7 @@ int main(void)
 	numbers();
 	seeds();
 	keeps();
+	stays_with_its_table();
 	half_of_the_owners();
 	an_owner_stays();
 	MUST(!ww_table_open(&t, &rows, 0));
@@ -721,6 +805,9 @@ int main(void)
 	closes_later();
 	not_for_another_key(WW_TABLE_EXCLUSIVE);
 	not_for_another_key(WW_TABLE_SHARED);
+	not_for_what_has_passed();
+	not_for_another_reader();
+	ends_what_was_met();
 	owners();
 	MUST(!ww_table_close(t) && !ww_class_free(&rows) && !ww_class_free(&others));
 	puts("table_calls: as ww_table.h says");

@@ -3,12 +3,18 @@
  *
  * No call waits: each tries, or polls. So each result is compared with what the model allows, whatever came before: keys whose mutexes
  * were those of other keys, contexts that got -EDEADLK there, polls that ended in each way, tables that were closed and opened again.
- * A failure says the seed.
+ * A failure says the seed. A poll that waits has to have one of these reasons:
+ *
+ *	the key		another context has it in a mode that excludes this one's, or a poll waits for it
+ *	what is due	the call is the first one since -EDEADLK that waits, nothing is held, and another context uses the key at which that
+ *			came, which was always in use since
+ *	a slot		a poll that waited for what a context read has that context's slot until it goes on: the context itself can't read
+ *			until then, and nobody can write what has a mutex that the context read before
  */
 #include "../mutex_test.h"
 #include "ww_table.h"
 
-enum { TABLES = 2, CONTEXTS = 6, KEYS = 5, STEPS = 400 };
+enum { TABLES = 2, CONTEXTS = 6, KEYS = 5, STEPS = 400, SEATS = 64 };
 enum has { NOTHING, SHARED, EXCLUSIVE };
 
 struct one {
@@ -16,6 +22,12 @@ struct one {
 	bool begun, told, polls; /* told: it got -EDEADLK, and hasn't locked anything since */
 	enum has has[TABLES][KEYS], mode;
 	int table, key; /* with the mode, what its poll asks for */
+	/* The key at which it got -EDEADLK, if a call may wait first for that; whether its poll may; who had that key alone since then. */
+	bool is_due, waits_first;
+	int due_table, due_key;
+	const struct one *due_by;
+	bool met[SEATS]; /* of its poll: it came to the slots of these seats */
+	unsigned seat;
 };
 
 static struct ww_class c;
@@ -23,6 +35,7 @@ static struct ww_table *tables[TABLES];
 static struct one all[CONTEXTS];
 static uint32_t room; /* for so many keys the tables are opened; 0: for all */
 static unsigned state, seed, seen[KEYS][EXCLUSIVE + 1];
+static const void *seats[SEATS]; /* each has a slot, which the seat's next context has, too */
 
 #undef MUST
 #define MUST(fact) ((fact) ? (void)0 : fails(__LINE__, #fact))
@@ -58,6 +71,67 @@ static bool has_any(const struct one *me)
 
 static void forgets_all(struct one *me) { memset(me->has, 0, sizeof me->has); }
 
+static bool reads(const struct one *me)
+{
+	for (int it = 0; it < TABLES * KEYS; it++)
+		if (me->has[it / KEYS][it % KEYS] == SHARED)
+			return true;
+	return false;
+}
+
+static bool is_read_by(unsigned seat)
+{
+	for (const struct one *it = all; it < all + CONTEXTS; it++)
+		if (it->begun && it->seat == seat && reads(it))
+			return true;
+	return false;
+}
+
+/* Whether the poll of another context than this one may have the seat's slot, by which nothing is read. */
+static bool is_lost(unsigned seat, const struct one *me)
+{
+	for (const struct one *it = all; it < all + CONTEXTS; it++)
+		if (it != me && it->polls && it->met[seat] && !is_read_by(seat))
+			return true;
+	return false;
+}
+
+static bool any_is_lost(const struct one *me)
+{
+	for (unsigned k = 0; k < SEATS; k++)
+		if (k != me->seat && is_lost(k, me))
+			return true;
+	return false;
+}
+
+static bool asks_for(const struct one *it, int t, int k) { return it->polls && it->table == t && it->key == k; }
+static bool awaits_first(const struct one *it, int t, int k) { return it->polls && it->waits_first && it->due_table == t && it->due_key == k; }
+
+/* Whether any context but this one has the key, or waits for it. As long as any at all does, its entry is the same. */
+static bool is_in_use(const struct one *me, int t, int k)
+{
+	for (const struct one *it = all; it < all + CONTEXTS; it++)
+		if (it != me && (it->has[t][k] || asks_for(it, t, k)))
+			return true;
+	return false;
+}
+
+/* After each step: what isn't due any more, and to whose slots polls have come. */
+static void follows(void)
+{
+	for (struct one *it = all; it < all + CONTEXTS; it++) {
+		it->is_due = it->is_due && is_in_use(NULL, it->due_table, it->due_key);
+		if (it->due_by && (!it->is_due || it->due_by->has[it->due_table][it->due_key] != EXCLUSIVE))
+			it->due_by = NULL;
+		for (unsigned k = 0; k < SEATS; k++)
+			it->met[k] = it->polls && (it->met[k] || (k != it->seat && is_lost(k, it)));
+		for (struct one *of = all; of < all + CONTEXTS; of++)
+			it->met[of->seat] |= it->polls && of != it && of->begun &&
+				((it->mode == EXCLUSIVE && of->has[it->table][it->key] == SHARED) ||
+				 (it->waits_first && of->has[it->due_table][it->due_key] == SHARED));
+	}
+}
+
 static bool may_have(const struct one *me, int t, int k, enum has mode)
 {
 	for (const struct one *it = all; it < all + CONTEXTS; it++)
@@ -70,13 +144,29 @@ static void gets(struct one *me, int t, int k, enum has mode)
 {
 	MUST(may_have(me, t, k, mode));
 	me->has[t][k] = mode;
-	me->told = false;
+	me->told = me->is_due = false;
 }
 
-static void is_told(struct one *me)
+static void is_told(struct one *me, int t, int k, enum has mode)
 {
 	MUST(has_any(me));
-	me->told = true;
+	me->told = me->is_due = true;
+	me->due_table = t;
+	me->due_key = k;
+	me->due_by = NULL;
+	for (const struct one *it = all; it < all + CONTEXTS; it++)
+		if (it != me && it->has[t][k] == EXCLUSIVE && (mode == EXCLUSIVE || !is_lost(me->seat, me)))
+			me->due_by = it;
+}
+
+static bool may_wait(const struct one *me, int t, int k, enum has mode)
+{
+	bool may = !may_have(me, t, k, mode) || (mode == SHARED && !reads(me) && is_lost(me->seat, me)) ||
+		   (mode == EXCLUSIVE && any_is_lost(me));
+
+	for (const struct one *it = all; it < all + CONTEXTS; it++)
+		may |= it != me && (asks_for(it, t, k) || awaits_first(it, t, k));
+	return may;
 }
 
 /* ---- calls ---- */
@@ -98,7 +188,7 @@ static int unlocks(struct one *me, int t, int k)
 
 static void asks(struct one *me, int t, int k, enum has mode)
 {
-	bool tries = draw(2), ends = !tries && !draw(4);
+	bool tries = draw(2), ends = !tries && !draw(4), first = me->is_due && !has_any(me) && is_in_use(me, me->due_table, me->due_key);
 	int r = locks(me, t, k, mode, tries ? WW_TABLE_TRIES : WW_TABLE_POLLS, ends ? NULL : &waker);
 
 	if (me->has[t][k] >= mode) {
@@ -106,18 +196,23 @@ static void asks(struct one *me, int t, int k, enum has mode)
 	} else if (me->told && has_any(me)) {
 		MUST(r == -EDEADLK || r == -ENOSPC);
 	} else if (!r) {
+		MUST(tries || ends || !first || !me->due_by);
 		gets(me, t, k, mode);
 	} else if (r == -EDEADLK) {
 		MUST(!tries);
-		is_told(me);
+		is_told(me, t, k, mode);
 	} else if (r == -EINPROGRESS) {
-		MUST(!tries && !ends);
+		MUST(!tries && !ends && (first || may_wait(me, t, k, mode)));
 		me->polls = true;
+		me->waits_first = first;
+		me->is_due = false;
+		memset(me->met, 0, sizeof me->met);
 		me->table = t;
 		me->key = k;
 		me->mode = mode;
 	} else {
 		MUST((tries && r == -EBUSY) || (ends && r == -ETIMEDOUT) || (room && r == -ENOSPC));
+		me->is_due &= tries;
 	}
 }
 
@@ -142,7 +237,7 @@ static void polls_on(struct one *me, int t, int k)
 		return;
 	me->polls = false;
 	if (r == -EDEADLK) {
-		is_told(me);
+		is_told(me, me->table, me->key, me->mode);
 	} else if (how >= 6 && !r) {
 		gets(me, me->table, me->key, me->mode);
 	} else {
@@ -215,6 +310,9 @@ static void steps(void)
 	if (!me->begun) {
 		MUST(!ww_acquire_init_checked(&me->x, &c));
 		me->begun = true;
+		while (seats[me->seat] && seats[me->seat] != me->x.own)
+			MUST(++me->seat < SEATS);
+		seats[me->seat] = me->x.own;
 	} else if (me->polls) {
 		polls_on(me, t, k);
 	} else if (what < 8) {
@@ -228,6 +326,7 @@ static void steps(void)
 	} else {
 		closes(t);
 	}
+	follows();
 }
 
 static void makes(void)
@@ -244,6 +343,7 @@ static void makes(void)
 	for (struct one *it = all; it < all + CONTEXTS; it++)
 		MUST(!it->begun || !ww_acquire_end(&it->x));
 	memset(all, 0, sizeof all);
+	memset(seats, 0, sizeof seats);
 	for (int t = 0; t < TABLES; t++)
 		MUST(!ww_table_see(tables[t], NULL, 0, notes, NULL) && !ww_table_close(tables[t]));
 	MUST(!ww_class_free(&c));

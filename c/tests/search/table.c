@@ -11,6 +11,7 @@
  *	m	the next takes its key from who has expired
  *	-	releases what came last; +: what came first; <: all, back to the beginning
  *	v	sees who has what
+ *	k	closes the table, if nobody has anything; what was released before is through with it by then
  *	1-9 ~1	something has happened; waits for that, which orders
  *
  * After -EDEADLK it releases all, and begins anew: by a context that goes on, or by an owner that leaves and joins again, as another
@@ -265,10 +266,12 @@ static bool happens(const char **at)
 {
 	if (**at == '~')
 		il_await(&happened[*++*at - '0']);
+	else if (**at == 'k' && !ww_table_close(t))
+		t = NULL;
 	else if (isdigit(**at))
 		il_set(&happened[**at - '0']);
 	else
-		return false;
+		return **at == 'k';
 	return true;
 }
 
@@ -398,7 +401,7 @@ void il_check(const struct il_program *p)
 			MUST(polled[n][k].calls == polled[n][k].is_due);
 	for (unsigned k = 0; k < KEYS; k++)
 		MUST(its[k].data == writes[k] && !its[k].writers && !its[k].readers);
-	MUST(!ww_table_see(t, NULL, 0, sees, &seen) && !ww_table_close(t) && !ww_class_free(&c));
+	MUST((!t || (!ww_table_see(t, NULL, 0, sees, &seen) && !ww_table_close(t))) && !ww_class_free(&c));
 }
 
 const struct il_program il_programs[] = {
@@ -433,6 +436,7 @@ const struct il_program il_programs[] = {
 	{ "table-owner-again", { "{A}{a}", "[A]" }, CONTEXTS(4), 1 },
 	{ "table-full", { "[A]", "[B]" }, CONTEXTS(4) | FULL, 2 },
 	{ "table-sees", { "[av]", "[vA]" }, CONTEXTS(4), 2 },
+	{ "table-closes", { "[a1b]", "~1k" }, CONTEXTS(4), 1 },
 	{ "table-rollback", { "[aB<]", "[bA]" }, CONTEXTS(4), 1 },
 	{ 0 },
 };

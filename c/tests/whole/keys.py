@@ -285,12 +285,32 @@ def returns_after_deadlock(kind):
     assert told == [2, 2] and not table.users(), told
 
 
+def own(kind):
+    """A transaction within another one of its thread, which has the key: it would wait for itself."""
+    table = ww.Table(made(kind))
+
+    def outer(transaction):
+        transaction.lock("k")
+        for body in lambda it: it.lock("k"), lambda it: it.read("k"), lambda it: it.lock("j") or it.lock("k"):
+            raised(ww.Already, table.run, body)
+        raised(TimeoutError, table.run, lambda it: it.lock("k", timeout=0.01))
+        assert table.run(lambda it: it.lock("j") or it.mark()) == 1 and transaction.mark() == 1
+        transaction.unlock("k")
+        transaction.read("k")
+        assert table.run(lambda it: it.read("k") or it.mark()) == 1
+        raised(ww.Already, table.run, lambda it: it.lock("k"))
+        return transaction.mark()
+
+    assert table.run(outer) == 1 and not table.users()
+
+
 def main():
     for test in modes, marks, users, ages, contexts, bounds, closes, misuses, cancelled:
         test()
     for kind in ww.WOUND_WAIT, ww.WAIT_DIE:
         runs(kind)
         returns_after_deadlock(kind)
+        own(kind)
     print("keys: each call returned what it should, and each sum is exact")
 
 
