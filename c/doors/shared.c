@@ -620,7 +620,7 @@ void ww_acquire_end_reads(struct ww_acquire_ctx *x)
  */
 int ww_await_contended(struct ww_acquire_ctx *x, struct ww_how how)
 {
-	struct ww_mutex *m = x && x->own && x->state & IS_TOLD ? x->contending_lock : NULL;
+	struct ww_mutex *m = x && x->own && x->state & IS_TOLD && !x->acquired ? x->contending_lock : NULL;
 	bool asks = m && is_of_number(m) && !is_polled(x), counts = asks && !ww_is_gone(x->own->pool, m, x->puts), gone;
 	int r = 0;
 
