@@ -145,14 +145,17 @@ static int calls(struct one *me, int n, enum how how)
 
 static void asks_for(struct one *me, int n, enum how how)
 {
+	unsigned waited = by(me->seat)->waits;
 	int r;
 
 	keeps(me);
 	if (how >= BY_POLL && me->owed != NONE && !me->told)
 		r = -EINVAL;
-	else if (how >= BY_POLL && (r = asks(n, me->seat, how == ENDS_POLL, true)) != -EALREADY)
+	else if (how >= BY_POLL && (r = asks(n, me->seat, how == ENDS_POLL, true)) != -EALREADY) {
+		if (by(me->seat)->waits != waited) /* a poll that waits owes nothing any more */
+			me->owed = NONE;
 		r = r == ASLEEP ? -EINPROGRESS : notes(me, n, r);
-	else if (how < BY_POLL && (r = locks(me, n, how == UNTIL, how == UNTIL || me->heeds)) == ASLEEP) {
+	} else if (how < BY_POLL && (r = locks(me, n, how == UNTIL, how == UNTIL || me->heeds)) == ASLEEP) {
 		forgets(me);
 		r = locks(me, n, true, true);
 		how = UNTIL;

@@ -65,10 +65,11 @@ static bool is_alone(const struct one *me)
 	return true;
 }
 
+/* Whether a context waits, or may have waited for a mutex that its loop has yet to ask for. */
 static bool any_waits(void)
 {
 	for (const struct one *it = all; it < all + CONTEXTS; it++)
-		if (it->begun && it->waits)
+		if (it->begun && (it->waits || it->x.acquired != has_mutexes(it)))
 			return true;
 	return false;
 }
@@ -148,7 +149,7 @@ static void asks_for(struct one *me, int n, enum what what, enum how how)
 	} else if (me->told && held) {
 		MUST(r == -EINVAL || r == -EBUSY || (written && r == -EALREADY));
 	} else if (what == WRITES && written) {
-		MUST(r == (how == TRIES_ONCE ? -EBUSY : -EALREADY));
+		MUST(r == (how == TRIES_ONCE ? -EBUSY : -EALREADY) || (r == -EINVAL && loops && how >= ENDS_POLL));
 	} else if (what == READS && written && is_number(n) && !me->loops && !read) {
 		MUST(r == -EALREADY || how == TRIES_ONCE || r == -EDEADLK || waited);
 		if (r != -EALREADY && !(how == TRIES_ONCE && r == -EBUSY))
@@ -227,6 +228,7 @@ static void polls_on(struct one *me, unsigned how)
 		int r = ww_acquire_end_wait(&me->x);
 
 		me->waits = false;
+		me->told &= me->what != AWAITS; /* it may have come to its end */
 		if (r == -EDEADLK)
 			is_told(me);
 		else
