@@ -121,7 +121,9 @@ static void takes_note(struct one *me, int n, enum what what, enum how how, int 
 {
 	got = r;
 	me->waits = r == -EINPROGRESS;
-	if (!r) {
+	if (r == -EALREADY) {
+		MUST(what == READS && me->writes[n] && is_number(n) && !me->loops);
+	} else if (!r) {
 		gets(me, n, what);
 	} else if (r == -EDEADLK) {
 		MUST(how != TRIES_ONCE && what != AWAITS);
