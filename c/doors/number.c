@@ -144,5 +144,6 @@ int ww_number_unlock_further_(uint32_t number, struct ww_acquire_ctx *x, int r)
 	if (r < 0)
 		return ww_number_unlock(number, x);
 	x->acquired--;
+	x->newest = NULL;
 	return ww_release_on(x->own, r);
 }

@@ -63,6 +63,7 @@ int ww_mutex_lock_poll(struct ww_mutex *m, struct ww_acquire_ctx *x, const struc
 /*
  * Ends a poll's wait, and with it what the poller has for that wait; in a forked child no poller is used. A lock that the poll would
  * release at once is only visited: the lock of the mutex at which the context got -EDEADLK, or of a slot by which another context reads.
+ * If the context got -EDEADLK before the poll, that then holds again, as after a read or a write that fails by itself (shared.c).
  */
 int ww_acquire_end_wait(struct ww_acquire_ctx *x)
 {
@@ -80,6 +81,8 @@ int ww_acquire_end_wait(struct ww_acquire_ctx *x)
 		(void)ww_unlock_of(of, x);
 	if (s->asks == TO_READ && m == of && !s->slot->reads)
 		(void)ww_unlock_of(&s->slot->mutex, x);
+	if (s->asks != TO_LOCK && s->asks != TO_AWAIT && !x->acquired && r != -EDEADLK && x->state & (IS_TOLD | WAS_TOLD))
+		x->state |= IS_TOLD | WAS_TOLD;
 	if (s->poller && !s->pool->gone)
 		r = s->poller->ends(s->poller, x, r);
 	return r == -ETIMEDOUT ? 0 : r;

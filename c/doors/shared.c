@@ -617,7 +617,7 @@ void ww_acquire_end_reads(struct ww_acquire_ctx *x)
 /* Waits for the mutex at which the context got -EDEADLK, and releases it at once; or not, if there is nothing to wait for any more. */
 int ww_await_contended(struct ww_acquire_ctx *x, struct ww_how how)
 {
-	bool told = x && x->own && x->state & IS_TOLD, goes_on = told && is_polled(x);
+	bool told = x && x->own && x->state & IS_TOLD && !x->acquired, goes_on = told && is_polled(x);
 	struct ww_mutex *m = goes_on ? x->polled : told ? ww_count_at_told(x->own, ww_told_lock(x), x->puts) : NULL;
 	int r = 0;
 

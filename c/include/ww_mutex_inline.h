@@ -172,7 +172,6 @@ WW_INLINE_ bool ww_is_contended(const struct ww_acquire_ctx *ctx)
 
 #undef WW_HOLDS_
 #undef WW_HOLDS_NO_MORE_
-#undef WW_LISTS_NOTHING_
 #undef WW_INLINE_
 #endif
 

@@ -93,6 +93,7 @@ WW_INLINE_ int ww_number_unlock(uint32_t number, struct ww_acquire_ctx *ctx)
 	if (__builtin_expect(r != 0, 0))
 		return ww_number_unlock_further_(number, ctx, r);
 	ctx->acquired--;
+	WW_LISTS_NOTHING_(ctx); /* the list may name the mutex, which ww_mutex_lock or ww_mutex_trylock of ww_number_at acquired */
 	return 0;
 }
 #undef WW_INLINE_

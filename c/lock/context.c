@@ -209,12 +209,13 @@ COLD void ww_release_keys(struct ww_acquire_ctx *x)
 
 /*
  * A mutex names the context or the seat that acquired it, except if it was acquired by number. The lock's owner word says whether
- * it is still held by that one.
+ * it is still held by that one. A task to which the mutex was handed holds it once the task polls.
  */
 bool ww_mutex_is_held_by(const struct ww_mutex *m, const struct ww_acquire_ctx *x)
 {
 	const ww_seat *s = x ? __atomic_load_n(&x->own, __ATOMIC_RELAXED) : seat_of(NEEDED(m));
 	bool says_so = s && (x ? is_of_number(NEEDED(m)) || holder_of(m) == x : is_used_here(s));
+	uint64_t word;
 
-	return says_so && pool_at(m) == s->pool && owner_of_word(look_at(s->pool, m)) == place_among(s);
+	return says_so && pool_at(m) == s->pool && owner_of_word(word = look_at(s->pool, m)) == place_among(s) && !is_handed(word);
 }

@@ -82,6 +82,9 @@ static inline uint32_t owner_of_word(uint64_t word)
 	return is_wide ? 1 + word / 8 % 4096 : word / 8 % 32;
 }
 
+/* Whether the lock was handed to a waiter, which hasn't taken it yet: a word has the flags PICKUP and WAITERS in one of two ways. */
+static inline bool is_handed(uint64_t word) { return word % 8 == 5 || word % 8 == 2; }
+
 /*
  * The owner word of a mutex's lock. It is 0 if nobody has the lock or waits for it, or if only the spare seat has it, by which a
  * call looks who uses the mutex (used.c). A look needs no context. Its result may be out of date when it returns, unless nobody

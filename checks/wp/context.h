@@ -5,7 +5,7 @@
  * proves: ww_begin_by begin ww_acquire_init_checked ww_acquire_init_until ww_acquire_init ww_acquire_done_checked ww_acquire_done
  *	ww_acquire_fini_checked ww_acquire_fini ww_acquire_cancel ww_mutex_is_held_by
  * inlines: is_orphaned_by_fork is_polled phase_of holder_of pool_at open_pool_of stop_rest forget_age leave_age place_among
- *	is_used_here own_seat own_or_before is_of_number look_at owner_word owner_of_word seats_of this_thread of_seat no_more
+ *	is_used_here own_seat own_or_before is_of_number look_at owner_word owner_of_word is_handed seats_of this_thread of_seat no_more
  */
 #define WP_UNPARKS
 #include "mutex.h"
