@@ -14,6 +14,8 @@ mod growths;
 #[cfg(test)]
 mod plain;
 #[cfg(test)]
+mod queues;
+#[cfg(test)]
 mod rings;
 #[cfg(test)]
 mod rounds;
