@@ -133,6 +133,10 @@ static inline void ww_make_cancel_pending(ww_seat *s);
 static int lock_ends(struct ww_mutex *m, struct ww_acquire_ctx *x, ww_seat *s, int r, const struct ww_how *how);
 
 /*@ predicate lock_goes(struct ww_mutex *m) = core_call == LOCKS && core_of == m->number && lacks(m->number); */
+/* A poll that has to wait leaves a task's call on its way, for the same lock. */
+#define LEAVES_CALL(m, how) \
+	ensures polls: \result == -EINPROGRESS ==> lock_goes(m) && how->who == TASK; \
+	ensures on_its_way: r > 0 ==> \result != -EBUSY
 /*@ requires is_mutex(m) && is_caller(x, s) && apart(m, x, s) && is_wait(wait) && away(wait, s) && how_apart(wait->how, m, x, s);
     requires \separated(wait, m, wait->how) && (x != \null ==> \separated(wait, x));
     requires wait->how->asks != \null && wait->how->asks != m ==> \separated(wait, wait->how->asks);
@@ -154,6 +158,7 @@ static int lock_ends(struct ww_mutex *m, struct ww_acquire_ctx *x, ww_seat *s, i
     ensures keeps: \result != 0 ==> same_held{Old, Here};
     ensures keeps_list: \result != 0 && x != \null ==> unlisted{Old, Here}(x);
     ensures ended: ended{Old, Here}(s, \result);
+    LEAVES_CALL(m, wait->how);
     STAYS(m, x); */
 static int wait_on(struct ww_mutex *m, struct ww_acquire_ctx *x, ww_seat *s, int r, const struct ww_wait *wait);
 
@@ -177,6 +182,8 @@ static int wait_on(struct ww_mutex *m, struct ww_acquire_ctx *x, ww_seat *s, int
     ensures keeps: \result != 0 ==> same_held{Old, Here};
     ensures keeps_list: \result != 0 && x != \null ==> unlisted{Old, Here}(x);
     ensures ended: ended{Old, Here}(s, \result);
+    LEAVES_CALL(m, how);
+    ensures busy: r == -EBUSY && !rests{Old} ==> \result == -EBUSY || \result == -EINVAL;
     STAYS(m, x); */
 int ww_lock_on(struct ww_mutex *m, struct ww_acquire_ctx *x, ww_seat *s, int r, const struct ww_how *how);
 

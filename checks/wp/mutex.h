@@ -29,6 +29,8 @@
 	(the_mutex != \null ==> \separated(the_mutex, s, s->pool)) && seat_taken == 1 &&
 	(the_how != \null ==> \separated(the_how, s, s->pool));
     predicate no_seat = seat_taken == 0 && core_has == 0 && rests;
+    // a call on its way goes on by the same poll alone: to any other lock call its context is busy
+    predicate is_amid_poll(struct ww_acquire_ctx *x) = x != \null && x->own != \null && (x->state & IS_POLLED) != 0;
     predicate is_when(struct timespec *until) = until != \null ==> \valid_read(until);
 */
 
@@ -139,7 +141,7 @@ static inline enum phase phase_of(const struct ww_acquire_ctx *x);
     ensures mutex: \result == 0 && call != CALL_LIST ==> m != \null && m->pool != \null;
     ensures context: \result == 0 && x != \null ==> x->own != \null && (x->state & IS_POLLED) == 0;
     ensures alone: \result == 0 && x == \null ==> call == CALL_ALONE;
-    ensures fails: \result <= 0 && \result != -EDEADLK; */
+    ensures fails: \result <= 0 && \result != -EDEADLK && \result != -EINPROGRESS; */
 static int check_call(enum lock_call call, struct ww_mutex *m, const struct ww_acquire_ctx *x, const struct timespec *until, const char **why);
 
 /*@ requires \valid(x) && is_seat(x->own) && \separated(x, x->own, x->own->pool) && rests;
@@ -149,14 +151,14 @@ static inline void draw_age_by_hand(struct ww_acquire_ctx *x);
 
 /* ---- lock calls by a context: of one in a loop only ww_lock_in_loop and ww_result_in_loop speak (loop.h) ---- */
 
-/*@ requires is_called(m) && (x != \null ==> is_any_context(x, m)) && is_when(until) && rests;
+/*@ requires is_called(m) && (x != \null ==> is_any_context(x, m)) && is_when(until) && (rests || is_amid_poll(x));
     assigns m->pool, m->class_, m->number, the_lock, x->pool, x->own->ages, x->own->met, x->own->handle.mode, x->own->handle.below, core_context, core_told;
     ensures is_called(m);
     ensures number: m != \null && \old(m->pool) != \null ==> m->number == \old(m->number) && the_lock == \old(the_lock);
-    ensures mutex: \result == 0 && call != CALL_LIST ==> m != \null && m->number == the_lock;
+    ensures mutex: \result == 0 && call != CALL_LIST ==> m != \null && m->pool != \null && m->number == the_lock;
     ensures context: \result == 0 && x != \null ==> x->own != \null && (x->state & IS_POLLED) == 0;
     ensures alone: \result == 0 && x == \null ==> call == CALL_ALONE;
-    ensures fails: \result <= 0 && \result != -EDEADLK; */
+    ensures fails: \result <= 0 && \result != -EDEADLK && \result != -EINPROGRESS; */
 int ww_admit(const char *name, enum lock_call call, struct ww_mutex *m, struct ww_acquire_ctx *x, const struct timespec *until);
 
 /*@ predicate is_how_for(struct ww_how *how, struct ww_mutex *m, struct ww_acquire_ctx *x) = \valid_read(how) && is_when(how->until) &&
