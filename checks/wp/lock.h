@@ -40,6 +40,8 @@
     // what each lock call promises of its result r, by the states before and after: it succeeds only if the core said that the seat
     // has this lock, and then the mutex says whose it is; ..
     predicate took{B}(integer r) = r == 0 ==> \at(core_has, B) == 1;
+    predicate has_it(struct ww_mutex *m) = m->number == the_lock ==> core_has == 1;
+    predicate others{A, B}(struct ww_mutex *m) = \at(m->number == the_lock, B) || \at(core_has, A) == \at(core_has, B);
     predicate said{A, B}(struct ww_mutex *m, struct ww_acquire_ctx *x, ww_seat *s, integer r, integer visits) = r == 0 && visits == 0 ==>
 	(x == \null ? says_seat{B}(m, s) : says{A, B}(m, x) && listed{A, B}(m, x));
     // .. it tells of a deadlock only if the core did, at this lock; ..
@@ -54,12 +56,12 @@
     predicate is_answer(integer r) = r == 0 || r == -EDEADLK || r == -EALREADY || r == -EINVAL || r == -EINTR || r == -ETIMEDOUT ||
 	r == -EINPROGRESS || r == -EBUSY;
     predicate lock_result{A, B}(struct ww_mutex *m, struct ww_acquire_ctx *x, ww_seat *s, integer r, integer visits) =
-	took{B}(r) && said{A, B}(m, x, s, r, visits) && told{A, B}(m, x, r) && refused{A, B}(x, r) && ended{A, B}(s, r) &&
-	is_answer(r) && (r == -EALREADY ==> \at(core_has, B) == 1);
+	(r == 0 || r == -EALREADY ==> has_it{B}(m)) && others{A, B}(m) && said{A, B}(m, x, s, r, visits) && told{A, B}(m, x, r) &&
+	refused{A, B}(x, r) && ended{A, B}(s, r) && is_answer(r);
 */
 
-/*@ requires is_mutex(m) && (x == \null ? \valid(s) && \separated(m, s) : \valid(x) && \separated(m, x));
-    requires has: core_has == 1;
+/*@ requires \valid(m) && (x == \null ? \valid(s) && \separated(m, s) : \valid(x) && \separated(m, x));
+    requires has: has_it(m);
     assigns m->ctx, m->older, m->alone, x->newest, x->acquired;
     ensures says: x == \null ? says_seat(m, s) : says{Old, Here}(m, x) && listed{Old, Here}(m, x);
     ensures x != \null ==> m->alone == \old(m->alone);
@@ -113,12 +115,12 @@ static inline void ww_make_cancel_pending(ww_seat *s);
 #define STAYS(m, x) \
 	ensures older_stays: \result != 0 ==> m->older == \old(m->older); \
 	ensures state: x != \null && \result != -EDEADLK ==> x->state == \old(x->state)
-/*@ requires is_mutex(m) && is_caller(x, s) && apart(m, x, s) && how_apart(how, m, x, s);
-    requires has: r == 0 ==> core_has == 1;
+/*@ requires \valid(m) && is_caller(x, s) && apart(m, x, s) && how_apart(how, m, x, s);
+    requires has: r == 0 ==> has_it(m);
     requires r == -EDEADLK ==> core_context == 1 && core_told == 1 && core_told_of == m->number && core_holds > 0;
     requires r <= 0;
     assigns m->ctx, m->older, m->alone, x->newest, x->acquired, x->contending_lock, x->puts, x->cancelled, x->state, s->back_offs, s->told, s->ages, s->met;
-    ensures took: took(\result);
+    ensures took: \result == 0 ==> has_it(m);
     ensures says: x != \null && \result == 0 && !how->visits ==> says{Old, Here}(m, x);
     ensures counts: x != \null && \result == 0 && !how->visits ==> x->acquired == (unsigned)(\old(x->acquired) + 1);
     ensures newest: x != \null && \result == 0 && !how->visits ==> newest{Old, Here}(m, x);
@@ -137,18 +139,19 @@ static int lock_ends(struct ww_mutex *m, struct ww_acquire_ctx *x, ww_seat *s, i
 #define LEAVES_CALL(m, how) \
 	ensures polls: \result == -EINPROGRESS ==> lock_goes(m) && how->who == TASK; \
 	ensures on_its_way: r > 0 ==> \result != -EBUSY
-/*@ requires is_mutex(m) && is_caller(x, s) && apart(m, x, s) && is_wait(wait) && away(wait, s) && how_apart(wait->how, m, x, s);
+/*@ requires \valid(m) && is_caller(x, s) && apart(m, x, s) && is_wait(wait) && away(wait, s) && how_apart(wait->how, m, x, s);
     requires \separated(wait, m, wait->how) && (x != \null ==> \separated(wait, x));
     requires wait->how->asks != \null && wait->how->asks != m ==> \separated(wait, wait->how->asks);
     requires first: r == 0 || r == -EALREADY || r == -EINVAL || r == -EBUSY || r == WW_AGAIN || r == WW_SLEEPS;
     requires goes: r > 0 ==> lock_goes(m);
-    requires has: r == 0 ==> core_has == 1;
+    requires has: r == 0 ==> has_it(m);
     requires r == -EBUSY || rests || r > 0;
-    requires r == -EALREADY ==> core_has == 1;
+    requires r == -EALREADY ==> has_it(m);
     assigns OF_LOCK(m, x, s), wait->how->asks->waiters;
     ensures exact: r <= 0 ==> \result == r || (r == -EBUSY && \result == -EINVAL && s->pool->gone);
+    ensures others: others{Old, Here}(m);
     ensures answers: is_answer(\result) && (\result == -EALREADY ==> r == -EALREADY);
-    ensures took: took(\result);
+    ensures took: \result == 0 ==> has_it(m);
     ensures says: x != \null && \result == 0 && !wait->how->visits ==> says{Old, Here}(m, x);
     ensures counts: x != \null && \result == 0 && !wait->how->visits ==> x->acquired == (unsigned)(\old(x->acquired) + 1);
     ensures newest: x != \null && \result == 0 && !wait->how->visits ==> newest{Old, Here}(m, x);
@@ -156,23 +159,24 @@ static int lock_ends(struct ww_mutex *m, struct ww_acquire_ctx *x, ww_seat *s, i
     ensures says_seat: x == \null && \result == 0 && !wait->how->visits ==> says_seat(m, s);
     ensures told: told{Old, Here}(m, x, \result);
     ensures keeps: \result != 0 ==> same_held{Old, Here};
-    ensures keeps_list: \result != 0 && x != \null ==> unlisted{Old, Here}(x);
+    ensures keeps_list: x != \null && (\result != 0 || wait->how->visits) ==> unlisted{Old, Here}(x);
     ensures ended: ended{Old, Here}(s, \result);
     LEAVES_CALL(m, wait->how);
     STAYS(m, x); */
 static int wait_on(struct ww_mutex *m, struct ww_acquire_ctx *x, ww_seat *s, int r, const struct ww_wait *wait);
 
-/*@ requires is_mutex(m) && is_caller(x, s) && apart(m, x, s) && how_apart(how, m, x, s);
+/*@ requires \valid(m) && is_caller(x, s) && apart(m, x, s) && how_apart(how, m, x, s);
     // WW_SLEEPS: it goes on with a task's wait
     requires first: r == 0 || r == -EALREADY || r == -EINVAL || r == -EBUSY || r == WW_AGAIN || r == WW_SLEEPS;
     requires goes: r > 0 ==> lock_goes(m);
-    requires has: r == 0 ==> core_has == 1;
+    requires has: r == 0 ==> has_it(m);
     requires r == -EBUSY || rests || r > 0;
-    requires r == -EALREADY ==> core_has == 1;
+    requires r == -EALREADY ==> has_it(m);
     assigns OF_LOCK(m, x, s), how->asks->waiters;
     ensures exact: r <= 0 && r != -EBUSY ==> \result == r;
-    ensures answers: is_answer(\result) && (\result == -EALREADY ==> core_has == 1);
-    ensures took: took(\result);
+    ensures others: others{Old, Here}(m);
+    ensures answers: is_answer(\result) && (\result == -EALREADY ==> has_it(m));
+    ensures took: \result == 0 ==> has_it(m);
     ensures says: x != \null && \result == 0 && !how->visits ==> says{Old, Here}(m, x);
     ensures counts: x != \null && \result == 0 && !how->visits ==> x->acquired == (unsigned)(\old(x->acquired) + 1);
     ensures newest: x != \null && \result == 0 && !how->visits ==> newest{Old, Here}(m, x);
@@ -180,16 +184,17 @@ static int wait_on(struct ww_mutex *m, struct ww_acquire_ctx *x, ww_seat *s, int
     ensures says_seat: x == \null && \result == 0 && !how->visits ==> says_seat(m, s);
     ensures told: told{Old, Here}(m, x, \result);
     ensures keeps: \result != 0 ==> same_held{Old, Here};
-    ensures keeps_list: \result != 0 && x != \null ==> unlisted{Old, Here}(x);
+    ensures keeps_list: x != \null && (\result != 0 || how->visits) ==> unlisted{Old, Here}(x);
     ensures ended: ended{Old, Here}(s, \result);
     LEAVES_CALL(m, how);
     ensures busy: r == -EBUSY && !rests{Old} ==> \result == -EBUSY || \result == -EINVAL;
     STAYS(m, x); */
 int ww_lock_on(struct ww_mutex *m, struct ww_acquire_ctx *x, ww_seat *s, int r, const struct ww_how *how);
 
-/*@ requires is_mutex(m) && x != \null && is_caller(x, x->own) && apart(m, x, x->own) && how_apart(how, m, x, x->own);
+/*@ requires \valid(m) && x != \null && is_caller(x, x->own) && apart(m, x, x->own) && how_apart(how, m, x, x->own);
     assigns OF_LOCK(m, x, x->own), how->asks->waiters;
     ensures result: lock_result{Old, Here}(m, x, x->own, \result, how->visits);
+    ensures visits: how->visits ==> unlisted{Old, Here}(x);
     STAYS(m, x); */
 int ww_lock_by(struct ww_mutex *m, struct ww_acquire_ctx *x, const struct ww_how *how);
 

@@ -38,7 +38,6 @@
     predicate is_whole(struct ww_acquire_ctx *x) = x->acquired == (x->newest == \null ? 0 : behind(x->newest));
     predicate older_stays{A, B} = \forall struct ww_mutex *m; is_member(m) ==> \at(m->older, A) == \at(m->older, B);
 */
-#define GONE(x) x->own->pool->gone
 
 #define RELEASES(x) \
 	requires is_user_of(x) && has_members(x) && (rests || GONE(x)); \
@@ -112,7 +111,7 @@ void ww_acquire_unlock_all(struct ww_acquire_ctx *x);
     ensures owes: (x->state & IS_PRELOCKED) == 0; */
 void ww_back_off_(struct ww_acquire_ctx *x);
 
-/* ---- the wait with which a lock call in a loop may begin: by a context that holds nothing, for the mutex that has the_lock ---- */
+/* ---- the wait with which a lock call in a loop may begin: by a context that holds nothing, for any mutex ---- */
 
 /*@ requires \valid_read(p) && \valid_read(m); assigns \nothing; */
 bool ww_is_gone(const struct ww_pool *p, const struct ww_mutex *m, uint32_t puts);
@@ -134,14 +133,20 @@ bool ww_is_gone(const struct ww_pool *p, const struct ww_mutex *m, uint32_t puts
     requires listed: !visits ==> x->newest == m && m->older == \null;
     assigns x->state, x->pool, x->prelocked, x->newest, x->acquired, m->ctx, OF_SEAT(x->own), CORE;
     HAS_FIRST(\true, x, m);
-    ensures empty: !visits && (x->state & IS_PRELOCKED) == 0 ==> x->newest == \null; */
+    ensures empty: !visits && (x->state & IS_PRELOCKED) == 0 ==> x->newest == \null;
+    ensures counts: !visits && (x->state & IS_PRELOCKED) == 0 ==> x->acquired == (unsigned)(\old(x->acquired) - 1);
+    ensures keeps: visits || (x->state & IS_PRELOCKED) != 0 ==> x->newest == \old(x->newest) && x->acquired == \old(x->acquired);
+    ensures says: (x->state & IS_PRELOCKED) != 0 ==> m->ctx == \old(m->ctx); */
 static void note_waited(struct ww_acquire_ctx *x, struct ww_mutex *m, bool visits);
-/*@ predicate waits_for(struct ww_acquire_ctx *x, struct ww_mutex *c) = x->newest == \null && core_holds == 0 && core_has == 0 && is_mutex(c) &&
-	c != \null && apart(c, x, x->own) && (x->state & IS_PRELOCKED) == 0; */
 /*@ requires is_user_of(x) && loops(x) && rests && waits_for(x, x->contending_lock) && how.asks == \null;
     assigns OF_LOCK(x->contending_lock, x, x->own), x->pool, x->prelocked;
     HAS_FIRST(\result == 0, x, \old(x->contending_lock));
-    ensures fails: \result != 0 ==> same_held{Old, Here} && x->newest == \null;
+    ensures user: is_user_of(x) && loops(x) && x->own == \old(x->own) && x->own->pool == \old(x->own->pool);
+    ensures child: GONE(x) == \old(GONE(x));
+    ensures number: \old(x->contending_lock)->number == \old(x->contending_lock->number);
+    ensures says: \result == 0 && (x->state & IS_PRELOCKED) != 0 ==> \old(x->contending_lock)->ctx == x;
+    ensures empty: \result == 0 && (x->state & IS_PRELOCKED) == 0 ==> x->newest == \null;
+    ensures fails: \result != 0 ==> same_held{Old, Here} && x->newest == \null && x->acquired == \old(x->acquired);
     ensures state: \result != 0 ==> x->state == \old(x->state);
     ensures never_told: \result != -EDEADLK; */
 static int wait_first(struct ww_acquire_ctx *x, struct ww_how how);
@@ -150,5 +155,6 @@ static int wait_first(struct ww_acquire_ctx *x, struct ww_how how);
 
 /*@ OF_LOOP_LOCK(m, x, how);
     assigns OF_LOCK(m, x, x->own), OF_OWED(\true, x, m), how->asks->waiters;
-    LOOP_LOCK(m, x); */
+    TOOK_IN_LOOP(m, x);
+    LOOP_LOCK(\true, m, x); */
 static int lock_and_note(struct ww_mutex *m, struct ww_acquire_ctx *x, const struct ww_how *how);

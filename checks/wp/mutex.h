@@ -88,6 +88,7 @@ bool ww_mutex_is_locked(struct ww_mutex *m);
 /* ---- lock calls that succeed without a step, and what a loop has to do then ---- */
 
 #define OWES(x, m) ((x->state & IS_PRELOCKED) != 0 && x->prelocked == m)
+#define GONE(x) x->own->pool->gone
 #define OWED(x, m) \old(OWES(x, m))
 /* Of any mutex; in a forked child the seat may have a call that can't end. */
 #define IN_LOOP(x, m) is_user_of(x) && \valid(m) && m != \null && \separated(m, x, x->own, x->own->pool)
@@ -107,6 +108,8 @@ bool ww_mutex_is_locked(struct ww_mutex *m);
     ensures owes: \result ==> !OWES(x, m);
     ensures waits: (x->state & WAITS_FIRST) != 0 ==> \old((x->state & WAITS_FIRST) != 0);
     ensures list: !\result && is_list{Old}(x) ==> is_list(x);
+    ensures nothing: !\result ==> x->own->pool == \old(x->own->pool) && GONE(x) == \old(GONE(x)) && x->gives == \old(x->gives) &&
+	m->older == \old(m->older) && (x->newest != \null ==> x->newest->older == \old(x->newest->older));
     ensures stays: same{Old, Here} && x->acquired == \old(x->acquired) && x->own == \old(x->own); */
 bool ww_accept_held(struct ww_acquire_ctx *x, struct ww_mutex *m, bool may_repeat);
 
@@ -187,23 +190,44 @@ int ww_admit(const char *name, enum lock_call call, struct ww_mutex *m, struct w
 	requires user: is_user_of(x) && loops(x); \
 	requires mutex: is_mutex(m) && m != \null && apart(m, x, x->own) && is_how_for(how, m, x); \
 	requires listed: OWES(x, m) ==> is_list(x) && lies_apart(x, m)
-#define LOOP_LOCK(m, x) \
+#define TOOK_IN_LOOP(m, x) \
 	ensures took: \result == 0 ==> core_has == 1; \
 	ensures told: \result == -EDEADLK ==> core_told == 1 && core_told_of == m->number && core_holds > 0 && x->contending_lock == m; \
 	ensures backs_off: \result == -EDEADLK ==> (x->state & HAS_TO_BACK_OFF) != 0; \
-	ensures keeps: \result != 0 ==> same_held{Old, Here}; \
-	ensures keeps_list: \result != 0 ==> unlisted{Old, Here}(x); \
-	ensures state: \result != 0 && \result != -EDEADLK ==> x->state == \old(x->state); \
-	ensures says: \result == 0 && \old(core_has) == 0 ==> m->ctx == x; \
-	ensures counts: \result == 0 && \old(core_has) == 0 ==> x->acquired == (unsigned)(\old(x->acquired) + 1); \
-	ensures newest: \result == 0 && \old(core_has) == 0 ==> x->newest == m; \
-	ensures older: \result == 0 && \old(core_has) == 0 ==> m->older == \old(x->newest); \
-	ensures owes: \result == 0 ==> !OWES(x, m); \
-	ensures eased: \result == 0 && \old(core_has) == 0 ==> (x->state & WAITS_FIRST) == 0
-/*@ requires first: (x->state & WAITS_FIRST) == 0;
+	ensures owes: \result == 0 ==> !OWES(x, m)
+/* If it waits for no mutex first. */
+#define LOOP_LOCK(goes, m, x) \
+	ensures keeps: goes && \result != 0 ==> same_held{Old, Here}; \
+	ensures keeps_list: goes && \result != 0 ==> unlisted{Old, Here}(x); \
+	ensures state: goes && \result != 0 && \result != -EDEADLK ==> x->state == \old(x->state); \
+	ensures says: goes && \result == 0 && \old(core_has) == 0 ==> m->ctx == x; \
+	ensures counts: goes && \result == 0 && \old(core_has) == 0 ==> x->acquired == (unsigned)(\old(x->acquired) + 1); \
+	ensures newest: goes && \result == 0 && \old(core_has) == 0 ==> x->newest == m; \
+	ensures older: goes && \result == 0 && \old(core_has) == 0 ==> m->older == \old(x->newest); \
+	ensures eased: goes && \result == 0 && \old(core_has) == 0 ==> (x->state & WAITS_FIRST) == 0
+/*
+ * Of a context that waits for a mutex c first, which holds nothing: the list that it then has is of c.  Where c is another mutex with
+ * the same number, a copy, or in a forked child, it is said only what a success and a deadlock mean.
+ */
+#define WAITS(x) ((x->state & WAITS_FIRST) != 0)
+#define FIRST(m, x) (WAITS(x) ? x->contending_lock : m)
+#define IS_ANOTHER(m, x, c) ((c == m || c->number != the_lock) && !GONE(x))
+/*@ predicate waits_for(struct ww_acquire_ctx *x, struct ww_mutex *c) = x->newest == \null && core_holds == 0 && core_has == 0 && \valid(c) &&
+	c != \null && apart(c, x, x->own) && (x->state & IS_PRELOCKED) == 0;
+    predicate will_list(struct ww_mutex *c) = nodes == 1 && node(0) == c && node(1) == \null && place(\null) == 1 && place(c) == 0; */
+#define LOOP_LOCK_AFTER(waited, c, m, x) \
+	ensures first_keeps: waited && \result != 0 && \old(IS_ANOTHER(m, x, x->contending_lock)) ==> core_has == 0; \
+	ensures first_waits: waited && \result != 0 && \result != -EDEADLK && WAITS(x) ==> x->state == \old(x->state) && x->newest == \null && same_held{Old, Here}; \
+	ensures first_eased: waited && \result == 0 && \old(IS_ANOTHER(m, x, x->contending_lock)) ==> !WAITS(x)
+/*@ requires waits: WAITS(x) ==> rests && waits_for(x, x->contending_lock) && will_list(x->contending_lock) && \separated(how, x->contending_lock) &&
+	(x->contending_lock == m || \separated(x->contending_lock, m));
     OF_LOOP_LOCK(m, x, how);
-    assigns OF_LOCK(m, x, x->own), OF_OWED(\true, x, m), how->asks->waiters;
-    LOOP_LOCK(m, x); */
+    assigns OF_LOCK(m, x, x->own), OF_OWED(\true, x, m), how->asks->waiters, x->prelocked, FIRST(m, x)->ctx, FIRST(m, x)->older, FIRST(m, x)->alone,
+	FIRST(m, x)->waiters;
+    TOOK_IN_LOOP(m, x);
+    LOOP_LOCK(!\old(WAITS(x)), m, x);
+    LOOP_LOCK_AFTER(\old(WAITS(x)), \old(x->contending_lock), m, x);
+    ensures owed: !\old(WAITS(x)) ==> x->prelocked == \old(x->prelocked); */
 int ww_lock_in_loop(struct ww_mutex *m, struct ww_acquire_ctx *x, const struct ww_how *how);
 /*@ requires is_called(m) && x != \null && is_any_context(x, m) && is_how_for(how, m, x) && rests && !loops(x);
     assigns CHANGES(m, x), how->asks->waiters;

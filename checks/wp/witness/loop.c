@@ -89,6 +89,26 @@ void witness_lock_in_loop(unsigned state)
 	/*@ check never: \false; */
 	ww_lock_in_loop(&w_mutex, &w_context, &w_how);
 }
+/* A lock call in a loop by a context that waits first: for the call's own mutex, and for another one. */
+/*@ requires ONE_NODE && (state & WAITS_FIRST) != 0 && (state & IS_PRELOCKED) == 0; */
+void witness_lock_in_loop_own(unsigned state)
+{
+	w_waits_for(state, NULL, 0);
+	/*@ assert has_will_list: will_list(&w_mutex); */
+	/*@ check never: \false; */
+	ww_lock_in_loop(&w_mutex, &w_context, &w_how);
+}
+static struct ww_mutex w_other;
+/*@ requires will_list(&w_other) && (state & WAITS_FIRST) != 0 && (state & IS_PRELOCKED) == 0; */
+void witness_lock_in_loop_another(unsigned state)
+{
+	w_waits_for(state, NULL, 0);
+	w_other.number = 8;
+	w_context.contending_lock = &w_other;
+	/*@ assert other: waits_for(&w_context, &w_other); */
+	/*@ check never: \false; */
+	ww_lock_in_loop(&w_mutex, &w_context, &w_how);
+}
 /*@ requires ONE_NODE; */
 void witness_lock_and_note(unsigned state)
 {
