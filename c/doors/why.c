@@ -134,7 +134,8 @@ size_t ww_mutex_users(const struct ww_mutex *m, struct ww_user *users, size_t ro
 
 	if (!p || p->gone)
 		return 0;
-	add(&found, owner_of(p, m->number));
+	if (!is_handed(owner_word(p, m->number))) /* a task to which the mutex was handed waits until it polls, and is found below */
+		add(&found, owner_of(p, m->number));
 	for (uint32_t k = 0; k < seats_of(p); k++) {
 		struct wait it = present_wait(&p->seats[k]);
 

@@ -246,7 +246,10 @@ WW_MUST_CHECK int ww_mutex_lock_all(struct ww_acquire_ctx *ctx, struct ww_mutex 
  */
 static inline int ww_mutex_lock_by(struct ww_acquire_ctx *ctx, int (*locks)(struct ww_acquire_ctx *ctx, void *data),
 				   void *data) WW_NONNULL_(1, 2);
-/* Flags of a context.  WW_IGNORE_DUPLICATES applies from the context's first loop or list on. */
+/*
+ * Flags of a context.  WW_IGNORE_DUPLICATES applies from the context's first loop or list on, but not to polls to lock or to write
+ * (ww_poll.h): these return -EALREADY.
+ */
 enum ww_flags {
 	WW_IGNORE_DUPLICATES = 1,	/* a lock of what the context holds returns 0, acquires nothing and needs no unlock */
 	WW_INTERRUPTIBLE = 2,		/* ww_acquire_cancel may end the context's waits, also those of ww_mutex_lock */
@@ -328,8 +331,8 @@ WW_MUST_CHECK int ww_class_open(struct ww_class *ww_class) WW_NONNULL_(1);
 WW_MUST_CHECK int ww_class_open_for(struct ww_class *ww_class, uint32_t contexts, uint32_t keys, size_t *bytes) WW_NONNULL_(1);
 /*
  * Frees the class's memory, except a few kilobytes, which the class that is opened next uses; its next use opens it anew.  -EBUSY: the
- * class has a mutex or a lock table, a context is active, or a mutex is held.  It may be called until it returns 0, if no other thread begins to use the
- * class; another thread may still be ending its last context.
+ * class has a mutex or a lock table, a context is active, or a mutex is held.  It may be called until it returns 0, if no other thread
+ * begins to use the class; another thread may still be ending its last context.
  */
 int ww_class_free(struct ww_class *ww_class) WW_NONNULL_(1);
 struct ww_class_counts {

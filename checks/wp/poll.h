@@ -4,7 +4,7 @@
  *
  * source: doors/poll.c
  * proves: ww_may_poll ww_poll_on ww_mutex_lock_poll ww_acquire_end_wait
- * inlines: phase_of is_polled is_loop
+ * inlines: phase_of is_polled is_loop note_told puts_of
  */
 #include "mutex.h"
 #include "../doors/poll.h"

@@ -207,7 +207,7 @@ static void looks(void)
 	IS(said.back_offs, now.back_offs);
 	IS(ww_mutex_is_locked(at(n)), is_taken(n));
 	IS(ww_mutex_is_held_by(at(n), NULL), now.locks[n].owner == ALONE);
-	IS(ww_mutex_users(at(n), users, 16), (now.locks[n].owner != 0) + now.locks[n].count);
+	IS(ww_mutex_users(at(n), users, 16), (now.locks[n].owner && !now.locks[n].pickup) + now.locks[n].count);
 	for (struct one *it = all; it < all + CONTEXTS; it++) {
 		if (!it->begun)
 			continue;
