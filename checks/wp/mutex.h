@@ -246,6 +246,7 @@ int ww_mutex_lock_else_(struct ww_mutex *m, struct ww_acquire_ctx *x);
     requires r == -EALREADY ==> core_has == 1;
     requires (x->state & IS_POLLED) != 0 ==> r == -EBUSY;
     assigns CHANGES(m, x);
+    ensures took: took(\result);
     ensures result: lock_result{Old, Here}(m, x, x->own, \result, 0); */
 int ww_mutex_lock_further_(struct ww_mutex *m, struct ww_acquire_ctx *x, int r);
 

@@ -35,6 +35,8 @@ L:	w_core(NO_CALL, 1, 2, 0);
 	w_context.newest = &w_mutex;
 	w_context.acquired++;
 	/*@ assert has_took: took(0); */
+	/*@ assert has_has_it: has_it(&w_mutex); */
+	/*@ assert has_others: others{L, Here}(&w_mutex); */
 	/*@ assert has_is_noted: is_noted{L, Here}(&w_mutex, &w_context); */
 	/*@ assert has_says: says{L, Here}(&w_mutex, &w_context); */
 	/*@ assert has_newest: newest{L, Here}(&w_mutex, &w_context); */
