@@ -1,7 +1,7 @@
 /*
  * The proved library for C on aarch64, as the kit's compiler (LLVM) makes it.  Written by ./build c --assembly.
  *
- * sources: 42f71b45cd25f7efbf5d59c1788f1e05cb9c1ed561882626e7cab17cb144a870
+ * sources: 03e5da4fe503955ce0118c7c4da7f15a3d85a27a7d0c99dcf49d53ddb738ab46
  * kit:     rattle-kit-13f logic dac8208d650f15bf
  * proof:   logic=proved functions=75 axioms=3 target=aarch64-unknown-linux-gnu sum=dac8208d650f15bf
  */

@@ -1,7 +1,7 @@
 /*
  * The proved program on x86_64, as the kit's compiler (LLVM) makes it.  Written by ./build --assembly.
  *
- * sources: 5c6b46d6cd28b07c6431f40dd14d4f696a0f31465ef7361d178c6ce0ca76b361
+ * sources: 70918e926125a2df7210c131392c6dfc93db3571a18b046c9a8fc485c70c7a73
  * kit:     rattle-kit-13f logic dac8208d650f15bf
  * proof:   logic=proved functions=69 axioms=6 target=x86_64-unknown-linux-gnu threads=_exit,abort,free,malloc,pthread_attr_destroy,pthread_attr_init,pthread_attr_setguardsize,pthread_attr_setstacksize,pthread_create,pthread_detach,pthread_join,pthread_self,sched_yield,syscall main=Threads+Wait may-wait=7 sum=dac8208d650f15bf
  */
