@@ -1,6 +1,7 @@
 //! Each thread locks another mutex than it should: the thread sanitizer has to find that (`check`).
 
 use std::cell::UnsafeCell;
+use std::sync::Barrier;
 use std::thread;
 use ww_mutex::{class, Class, Mutex};
 
@@ -13,8 +14,11 @@ unsafe impl Sync for Shared {}
 static COUNT: Shared = Shared(UnsafeCell::new(0));
 static LOCKS: [Mutex<Boxes, ()>; 2] = [const { Mutex::new(()) }; 2];
 
-fn count_under(lock: &'static Mutex<Boxes, ()>) {
-    for _ in 0..1000 {
+/// Once both threads have counted. So neither begins when the other one has ended, and nothing orders what follows.
+static BOTH: Barrier = Barrier::new(2);
+
+fn count_under(lock: &'static Mutex<Boxes, ()>, times: usize) {
+    for _ in 0..times {
         let told = Boxes::run(|tx| {
             let _held = tx.lock(lock)?;
             // SAFETY: none.
@@ -26,7 +30,13 @@ fn count_under(lock: &'static Mutex<Boxes, ()>) {
 }
 
 fn main() {
-    let both = LOCKS.each_ref().map(|lock| thread::spawn(|| count_under(lock)));
+    let both = LOCKS.each_ref().map(|lock| {
+        thread::spawn(|| {
+            count_under(lock, 1);
+            BOTH.wait();
+            count_under(lock, 1000);
+        })
+    });
     for thread in both {
         thread.join().unwrap();
     }
