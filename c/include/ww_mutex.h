@@ -34,7 +34,7 @@
  *	-ETIMEDOUT      the time limit passed; what was held stays held
  *	-EBUSY          somebody uses the mutex, the class or the context: try again; of ww_class_limit, the class is open
  *	-EINPROGRESS    of ww_poll.h: the call waits; make it again after the waker
- *	-EAGAIN         all contexts of the class are in use, or change hands, or others wait to begin one (ww_class_crowd): wait by
+ *	-EAGAIN         all contexts of the class are in use, or change hands, or admission is limited (ww_class_crowd): wait by
  *	                ww_acquire_init, or try again
  *	-ENOSPC         all mutexes of the class are in use: see ww_class_limit
  *	-ENOMEM         there is no memory to open the class
@@ -375,7 +375,7 @@ void ww_class_print(struct ww_class *ww_class, int fd);
 bool ww_mutex_is_held_by(const struct ww_mutex *lock, const struct ww_acquire_ctx *ctx) WW_NONNULL_(1);
 /*
  * NAME_checked does what NAME does, but returns an error where NAME would end the program: -EINVAL for misuse; -ENOSPC if all numbers are
- * in use, -ENOMEM if the class can't be opened, and -EAGAIN if all contexts are in use, or others wait for a permit, for which
+ * in use, -ENOMEM if the class can't be opened, and -EAGAIN if all contexts are in use, or admission is limited, for which
  * ww_acquire_init_checked doesn't wait.
  */
 WW_MUST_CHECK int ww_mutex_init_checked(struct ww_mutex *lock, struct ww_class *ww_class) WW_NONNULL_(1, 2);
