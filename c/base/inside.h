@@ -40,7 +40,7 @@ struct ww_met {
 
 /*
  * What keeps something for each wait of its polls: a lock table, or retry.c. Only the poller that began such a poll may go on with it. If
- * the program ends the wait by ww_acquire_end_wait, that returns what `ends` does, which is called with what it would return.
+ * the program ends the wait by ww_acquire_end_wait, `ends` gets what that call is about to return, and returns what the call returns.
  */
 struct ww_poller {
 	int (*ends)(struct ww_poller *it, struct ww_acquire_ctx *x, int r);
@@ -75,7 +75,7 @@ typedef struct ww_seat {
 	uint64_t lease;		/* of a seat of tasks: until then anybody may claim it; later it is handed to a task that waits */
 	uint64_t user;		/* the number of the thread that last locked without a context from this seat */
 	uint64_t ticket __attribute__((aligned(64))); /* the ticket of the value by which its context is suspended, or 0: see retry.c */
-	uint32_t told;		/* the number of the mutex for which the call asked that returned its user's last -EDEADLK, */
+	uint32_t told;		/* the number of the mutex for which its user asked by the call that last returned -EDEADLK, */
 	uint32_t puts;		/* and how often that number had been put back by then */
 	struct ww_poller *poller; /* who made the suspended poll, or NULL */
 	struct ww_keys *keys;	/* what tables have of the seat, each while the seat's context has keys of that table */

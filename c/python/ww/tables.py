@@ -90,7 +90,7 @@ class _Thread(threading.local):
         self.transactions = [weakref.ref(it) for it in (*self.others(None), transaction)]
 
     def check_wait(self, transaction: Transaction, key: bytes, mode: int) -> None:
-        """Already, where this transaction waits for another one of the thread, or would get Deadlock of it again and again."""
+        """Raises Already if this transaction would wait for another one of its thread, or would get Deadlock there again and again."""
         if any(it._table is transaction._table and it._excludes(key, mode) for it in self.others(transaction)):
             raise Already(errno.EALREADY, f"another transaction of this thread has it: {key!r}")
 
@@ -204,7 +204,7 @@ class Transaction(Single):
         return not self._library.ww_acquire_end_wait(self._at)
 
     def _excludes(self, key: bytes, mode: int) -> bool:
-        """Whether it has the key, so that another one can't have it in this mode."""
+        """Whether this transaction has the key in such a way that no other one can have it in this mode."""
         how = _How(self.owner, _TRIES)
         code = self._library.ww_table_lock(self._table._at, self._at, key, len(key), _SHARED, ctypes.byref(how))
         if not code:
